@@ -34,6 +34,12 @@ key_of own id = record { own = own; id = id }
 pub record AreOpen (own : Bool) (forest : List Entry) (kept : Kept) : Type 0 where
   pub each : (id : ℤ) → is_open (key_of own id) forest ≡ is_some (called id kept)
 
+-- The keys of one end in the forest are its open invocations afterwards, and those of the other end are its open
+-- invocations where they were before.
+pub record KeepsOpen (own : Bool) (before after : List Entry) (kept : Kept) : Type 0 where
+  pub these : AreOpen own after kept
+  pub others : (others : Kept) → AreOpen (not own) before others → AreOpen (not own) after others
+
 -- ---- the open invocations of both ends, in order of opening
 
 abbrev pub side : Bool → Kept → Kept → Kept

@@ -11,7 +11,7 @@ ghost use Rattle.end_rules.specs.State.{close, opens_of};
 ghost use Rattle.end_rules.specs.Hearing.{hear, is_of_invocation};
 ghost use Rattle.rose_roles.specs.Heads.{is_invocation, reject_by, Carries, use_by, parameter_placed};
 ghost use Rattle.rose_roles.specs.Hearing.{Hears, HearsHead, heard_with};
-ghost use Rattle.rose_roles.specs.Calls.{Kept, Invoking, called, key_of, AreOpen, calls_of, open_call, opens_in};
+ghost use Rattle.rose_roles.specs.Calls.{Kept, Invoking, called, key_of, AreOpen, calls_of, open_call, opens_in, KeepsOpen};
 
 use crate::apdu_problems::{judge_error, judge_result};
 use crate::called::Called;
@@ -107,9 +107,7 @@ impl Invoker {
                   } ∷ [];
               made = self.old.made + 1;
             }) }
-        ensures own { AreOpen true forest.new self.new.kept }
-        ensures peer { (performed : Kept) → AreOpen false forest.old performed →
-            AreOpen false forest.new performed }
+        ensures open { KeepsOpen true forest.old forest.new self.new.kept }
         ensures err { OnErr result ((self.new ≡ self.old) × (forest.new ≡ forest.old)) }
     {
         let made = self.made + 1;
@@ -148,9 +146,7 @@ impl Invoker {
         requires { AreOpen true forest.old self.old.kept }
         ensures closed { (performed : Kept) → calls_of forest.new self.new performed
             ≡ close true id.now (calls_of forest.old self.old performed) }
-        ensures own { AreOpen true forest.new self.new.kept }
-        ensures peer { (performed : Kept) → AreOpen false forest.old performed →
-            AreOpen false forest.new performed }
+        ensures open { KeepsOpen true forest.old forest.new self.new.kept }
     {
         forest.is_forest();
         let key = key_of(true, id);
@@ -170,9 +166,7 @@ impl Invoker {
         ensures heard { IfOk result (λ taken. (performed : Kept) (context : ℕ) →
             Hears tables.now syntax context head (calls_of forest.old self.old performed)
             (calls_of forest.new self.new performed) taken) }
-        ensures own { AreOpen true forest.new self.new.kept }
-        ensures peer { (performed : Kept) → AreOpen false forest.old performed →
-            AreOpen false forest.new performed }
+        ensures open { KeepsOpen true forest.old forest.new self.new.kept }
         ensures err { OnErr result ((self.new ≡ self.old) × (forest.new ≡ forest.old)) }
     {
         let Some(id) = &head.id else {
@@ -205,9 +199,7 @@ impl Invoker {
             (use_by tables.now kinds.Result head.now.code) head.now.rest)
             (calls_of forest.old self.old performed) (calls_of forest.new self.new performed)
             taken) }
-        ensures own { AreOpen true forest.new self.new.kept }
-        ensures peer { (performed : Kept) → AreOpen false forest.old performed →
-            AreOpen false forest.new performed }
+        ensures open { KeepsOpen true forest.old forest.new self.new.kept }
         ensures err { OnErr result ((self.new ≡ self.old) × (forest.new ≡ forest.old)) }
     {
         let judged = judge_result(
@@ -236,9 +228,7 @@ impl Invoker {
         ensures heard { IfOk result (λ taken. (performed : Kept) (context : ℕ) →
             Hears tables.now syntax context head (calls_of forest.old self.old performed)
             (calls_of forest.new self.new performed) taken) }
-        ensures own { AreOpen true forest.new self.new.kept }
-        ensures peer { (performed : Kept) → AreOpen false forest.old performed →
-            AreOpen false forest.new performed }
+        ensures open { KeepsOpen true forest.old forest.new self.new.kept }
         ensures err { OnErr result ((self.new ≡ self.old) × (forest.new ≡ forest.old)) }
     {
         let Some(id) = &head.id else {
@@ -275,9 +265,7 @@ impl Invoker {
             (parameter_placed tables.now (error_with tables.now code.now)) head.now.rest)
             (calls_of forest.old self.old performed) (calls_of forest.new self.new performed)
             taken) }
-        ensures own { AreOpen true forest.new self.new.kept }
-        ensures peer { (performed : Kept) → AreOpen false forest.old performed →
-            AreOpen false forest.new performed }
+        ensures open { KeepsOpen true forest.old forest.new self.new.kept }
         ensures err { OnErr result ((self.new ≡ self.old) × (forest.new ≡ forest.old)) }
     {
         let error = tables.error_with(code);
@@ -305,9 +293,7 @@ impl Invoker {
         ensures heard { (performed : Kept) (context : ℕ) (base : Base) →
             heard_with (calls_of forest.new self.new performed) result
             ≡ hear base (calls_of forest.old self.old performed) context (reject_by id problem) }
-        ensures own { AreOpen true forest.new self.new.kept }
-        ensures peer { (performed : Kept) → AreOpen false forest.old performed →
-            AreOpen false forest.new performed }
+        ensures open { KeepsOpen true forest.old forest.new self.new.kept }
     {
         let Some(problem) = problem else {
             return RoseTaken::BadReject;
@@ -325,9 +311,7 @@ impl Invoker {
         ensures heard { (performed : Kept) (context : ℕ) (base : Base) →
             heard_with (calls_of forest.new self.new performed) result
             ≡ hear base (calls_of forest.old self.old performed) context (RejectHead id problem) }
-        ensures own { AreOpen true forest.new self.new.kept }
-        ensures peer { (performed : Kept) → AreOpen false forest.old performed →
-            AreOpen false forest.new performed }
+        ensures open { KeepsOpen true forest.old forest.new self.new.kept }
     {
         let Some(named) = &id else {
             return RoseTaken::RejectTaken { id, problem };
@@ -356,9 +340,7 @@ impl Invoker {
         ensures heard { IfOk result (λ taken. (performed : Kept) (context : ℕ) →
             Hears tables.now syntax context head (calls_of forest.old self.old performed)
             (calls_of forest.new self.new performed) taken) }
-        ensures own { AreOpen true forest.new self.new.kept }
-        ensures peer { (performed : Kept) → AreOpen false forest.old performed →
-            AreOpen false forest.new performed }
+        ensures open { KeepsOpen true forest.old forest.new self.new.kept }
         ensures err { OnErr result ((self.new ≡ self.old) × (forest.new ≡ forest.old)) }
     {
         match head.kind {
