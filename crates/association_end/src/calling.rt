@@ -10,7 +10,7 @@ ghost use Rattle.association_end.specs.Changed.{wants_memory, ChangedBy};
 ghost use Rattle.association_end.specs.Reacted.{AllMayStand, sending};
 
 use crate::end::End;
-use association_requests::{Called, call};
+use association_requests::{CallOutcome, call};
 use association_words::Message;
 use dialogue::{Call, CallRefusal, Phase};
 use osi_base::NoMemory;
@@ -23,7 +23,7 @@ fn is_memory(answer: &Result<Option<i64>, CallRefusal>) -> bool
 }
 
 /// Whether memory was refused as a call was looked at.
-fn wants_memory(called: &Result<Called, CallRefusal>) -> bool
+fn wants_memory(called: &Result<CallOutcome, CallRefusal>) -> bool
     ensures { result ≡ wants_memory called.now }
 {
     matches!(called, Err(CallRefusal::NoMemory))
@@ -31,7 +31,7 @@ fn wants_memory(called: &Result<Called, CallRefusal>) -> bool
 
 impl<'t> End<'t> {
     /// Changes what the end holds by a call; where memory is refused, the end dies.
-    fn change(&mut self, asked: &Call) -> Result<Called, CallRefusal>
+    fn change(&mut self, asked: &Call) -> Result<CallOutcome, CallRefusal>
         ensures is { ChangedBy self.old self.new asked.now result }
         ensures room { IfOk result (λ called. AllMayStand (sent_by called)) }
     {
@@ -62,7 +62,7 @@ impl<'t> End<'t> {
         ensures { Answers self.old self.new asked.now result }
     {
         let called = self.change(asked)?;
-        let Called { answer, message } = called;
+        let CallOutcome { answer, message } = called;
         let sent = self.send_due(&message);
         drop(message);
         sent?;

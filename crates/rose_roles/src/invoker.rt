@@ -14,7 +14,7 @@ ghost use Rattle.rose_roles.specs.Hearing.{Hears, HearsHead, heard_with};
 ghost use Rattle.rose_roles.specs.Calls.{Kept, Invoking, called, key_of, AreOpen, calls_of, open_call, opens_in, KeepsOpen};
 
 use crate::apdu_problems::{judge_error, judge_result};
-use crate::called::Called;
+use crate::invoked_with::InvokedWith;
 use crate::opening::{called, enter, key_of, leave, own_key};
 use crate::taken::{
     RoseTaken, error_taken, is_of_invocation, own_rejected, rejected, result_taken,
@@ -32,7 +32,7 @@ use stub_tables::{Code, Tables};
 #[derive(Drop)]
 pub struct Invoker {
     alloc: Global,
-    kept: BTreeMap<i64, Called>,
+    kept: BTreeMap<i64, InvokedWith>,
     made: u32,
 }
 
@@ -57,7 +57,7 @@ impl Invoker {
     }
 
     /// What is called under an identifier, where it is open.
-    pub fn called(&self, id: i64) -> Option<Called>
+    pub fn called(&self, id: i64) -> Option<InvokedWith>
         ensures { result ≡ called id self.now.kept }
     {
         called(&self.kept, &id)
@@ -86,7 +86,7 @@ impl Invoker {
     pub fn open(
         &mut self,
         forest: &mut Forest,
-        called: Called,
+        called: InvokedWith,
         linked: Option<i64>,
     ) -> Result<i64, NoMemory>
         requires numbers { self.old.made < last_invocation }
@@ -135,7 +135,7 @@ impl Invoker {
     }
 
     /// As `called`.
-    pub fn called_at(&self, id: &i64) -> Option<Called>
+    pub fn called_at(&self, id: &i64) -> Option<InvokedWith>
         ensures { result ≡ called id.now self.now.kept }
     {
         called(&self.kept, id)
@@ -188,7 +188,7 @@ impl Invoker {
         syntax: Syntax,
         tables: &Tables,
         id: &i64,
-        call: Called,
+        call: InvokedWith,
         head: &ApduHead,
     ) -> Result<RoseTaken, NoMemory>
         requires call { called id.now self.old.kept ≡ Some call }
@@ -253,7 +253,7 @@ impl Invoker {
         syntax: Syntax,
         tables: &Tables,
         id: &i64,
-        call: Called,
+        call: InvokedWith,
         code: &Code,
         head: &ApduHead,
     ) -> Result<RoseTaken, NoMemory>

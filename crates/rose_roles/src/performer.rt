@@ -15,7 +15,7 @@ ghost use Rattle.rose_roles.specs.ApduProblems.{silent, known_problem, early_pro
 ghost use Rattle.rose_roles.specs.Hearing.{Hears, heard_with};
 
 use crate::apdu_problems::{Judged, is_silent_at, judge_argument, link_problem};
-use crate::called::Called;
+use crate::invoked_with::InvokedWith;
 use crate::invoker::Invoker;
 use crate::opening::{called, enter, key_of, leave};
 use crate::taken::{RoseTaken, invoke_rejected, invoked};
@@ -33,7 +33,7 @@ use stub_tables::Tables;
 #[derive(Drop)]
 pub struct Performer {
     alloc: Global,
-    kept: BTreeMap<i64, Called>,
+    kept: BTreeMap<i64, InvokedWith>,
     context: u32,
 }
 
@@ -98,14 +98,14 @@ impl Performer {
     }
 
     /// What is called under an identifier of the peer, where it is open.
-    pub fn called(&self, id: i64) -> Option<Called>
+    pub fn called(&self, id: i64) -> Option<InvokedWith>
         ensures { result ≡ called id self.now.kept }
     {
         called(&self.kept, &id)
     }
 
     /// As `called`.
-    pub fn called_at(&self, id: &i64) -> Option<Called>
+    pub fn called_at(&self, id: &i64) -> Option<InvokedWith>
         ensures { result ≡ called id.now self.now.kept }
     {
         called(&self.kept, id)
@@ -240,7 +240,7 @@ impl Performer {
         if is_silent_at(tables, Some(place)) {
             return Ok(());
         }
-        let call = Called {
+        let call = InvokedWith {
             operation: place,
             context: self.context,
         };

@@ -3,7 +3,7 @@ use Rattle.std.specs.Option.{option_map}
 use Rattle.std.specs.Ordering.{int_eq}
 use Rattle.linked_ops.specs.declared.key.Key.{Key}
 use Rattle.linked_ops.specs.Entries.{is_open, is_open_or_none}
-use Rattle.rose_roles.specs.declared.called.Called.{Called}
+use Rattle.rose_roles.specs.declared.invoked_with.InvokedWith.{InvokedWith}
 use Rattle.rose_roles.specs.Calls.{Performing, key_of, called, AreOpen, opens_in, calls_of}
 use Rattle.rose_roles.proofs.Hearings.{not_admitted, admitted}
 use Rattle.rose_roles.proofs.Changes.{not_open, opens_peer, their_after, ours_after}
@@ -39,7 +39,7 @@ returns-clause-admitted c = λ base own same.
 
 pub returns-clause-open : goal.returns-clause-open
 returns-clause-open c =
-    let call : Called = record { operation = c.args.place; context = c.self.inside.context } in
+    let call : InvokedWith = record { operation = c.args.place; context = c.self.inside.context } in
     let updated = λ q. c.in_ok-enter.ensures.updated q ∙ ap (λ (k : Key). cond (int_eq k.id q) (Some call) (called q c.self.inside.kept.entries)) c.key_of-key.ensures in
     let opened = c.in_ok-enter.ensures.forest ∙ ap (λ (k : Key). c.args.forest.now ++ (k, option_map (key_of (not k.own)) c.args.linked) ∷ []) c.key_of-key.ensures in
     record {
