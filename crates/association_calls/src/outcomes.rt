@@ -1,4 +1,4 @@
-//! Outcomes of invocations of the peer.
+//! Which outcomes of the peer's invocations may be called, and why not.
 
 ghost use Rattle.std.specs.Prelude.{◌≡◌, Some, None, is_some};
 ghost use Rattle.std.specs.Option.{option_copied, option_map};

@@ -1,4 +1,4 @@
-//! What calls write.
+//! The octets that calls write, and whether an APDU is too long.
 
 ghost use Rattle.std.specs.Prelude.{◌≡◌, IfOk, OnOk, OnErr};
 ghost use Rattle.apdu_spelling.specs.Writing.{written_apdu};

@@ -5,11 +5,11 @@ use Rattle.std.specs.Prelude.{ℕ}
 abbrev pub file_most : ℕ
 file_most = 16777217
 
--- how many octets a schedule, a script, a book or a recorded dialogue may have
+-- how many octets a schedule or a recorded dialogue may have
 abbrev pub text_most : ℕ
 text_most = 16777216
 
--- how many events a schedule or a script may have
+-- how many events a schedule may have
 abbrev pub event_most : ℕ
 event_most = 20000
 

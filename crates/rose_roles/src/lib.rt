@@ -1,5 +1,5 @@
 //! The two sides of remote operations (X.880 8, 9; X.882 9): the invoker, which takes outcomes and
-//! rejects, and the performer, which takes invocations.
+//! rejects, and the performer, which takes invocations, and the APDUs that calls send.
 #![tactic(auto)]
 
 mod apdu_problems;
