@@ -15,7 +15,7 @@ use Rattle.association_words.specs.Seen.{seen_value, seen_arrived, seen_fault}
 use Rattle.association_meaning.specs.declared.basis.Halt.{Halt}
 use Rattle.association_meaning.specs.declared.basis.Halt.TheVariants as halts
 use Rattle.association_meaning.specs.Grounds.{FailsAs}
-use Rattle.association_reacting.specs.Ends.{Arrives}
+use Rattle.association_reacting.specs.ActivityEnds.{Arrives}
 
 -- the octets under a set, by their parts
 pub read_so : (tables other : Tables) (set held : List SetItem) (octets pieces : List ℕ) → tables ≡ other → set ≡ held → octets ≡ pieces → arrived_at tables set octets ≡ arrived_at other held pieces

@@ -5,7 +5,7 @@ use Rattle.module_faults.specs.declared.facts.Base.{Base as BaseGiven}
 use Rattle.module_faults.specs.declared.facts.Base.TheVariants as given
 use Rattle.module_faults.specs.declared.facts.Facts.{Facts as FactsGiven}
 use Rattle.module_faults.specs.declared.facts.Facing.{Facing}
-use Rattle.module_faults.specs.declared.survey.Standing.{Standing}
+use Rattle.module_faults.specs.declared.reach_search.Standing.{Standing}
 use Rattle.module_faults.specs.Names.{type_at, type_place}
 use Rattle.module_faults.specs.Standings.{says}
 use Rattle.module_faults.specs.Facts.{Base, truth, numbers, items, other, unknown, Facts, nothing, facts_by, name_facts}

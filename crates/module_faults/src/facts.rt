@@ -13,8 +13,8 @@ use crate::kind::TableKind;
 use crate::least::Least;
 use crate::names::Names;
 use crate::places::is_same_name;
+use crate::reach_search::Standing;
 use crate::recursion::says;
-use crate::survey::Standing;
 use crate::tags::{Tag, add_tags, clashes, listed};
 use indexmap::IndexSet;
 use operation_notation::{

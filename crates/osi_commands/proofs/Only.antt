@@ -29,7 +29,7 @@ use Rattle.osi_commands.specs.Replaying.{every_mode, written_of, Replayed, Repli
 use Rattle.osi_commands.specs.Tracing.{ToldBy}
 use Rattle.osi_commands.specs.Checking.{checked_answer, ChecksOctets, Checks, unread, read}
 use Rattle.osi_commands.specs.Pairs.{SecondBy}
-use Rattle.osi_commands.specs.TopCall.{IsAnswer}
+use Rattle.osi_commands.specs.Run.{IsAnswer}
 use Rattle.osi_commands.specs.Laws.{OneAnswer}
 use Rattle.osi_commands.proofs.Calm.{has_read, same_read, never_lacks}
 use Rattle.module_reading.proofs.OneTables.{one_tables}

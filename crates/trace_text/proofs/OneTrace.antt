@@ -26,8 +26,8 @@ use Rattle.tpkt.specs.declared.packet.TFault.{TFault}
 use Rattle.tpkt.specs.Reader.{reading, nothing}
 use Rattle.trace_file.specs.declared.reading.Recorded.{Recorded}
 use Rattle.trace_values.specs.Values.{HeadOf, value_text, pdv_text, IsContentText, IsPdvText, ArePdvsText}
-use Rattle.trace_units.specs.declared.said.Said.{Said}
-use Rattle.trace_units.specs.declared.said.Said.TheVariants as said
+use Rattle.trace_units.specs.declared.said_text.Said.{Said}
+use Rattle.trace_units.specs.declared.said_text.Said.TheVariants as said
 use Rattle.trace_units.specs.Names.{ppdu_name, spdu_name}
 use Rattle.trace_units.specs.Units.{carrier_of, values_of, place_in, IsUnitText, UnitSaid, CarriedSaid, WordSaid, closed, ClosedSaid, SecondSaid, two_names, TwoSaid, WordsSaid, ReadSaid}
 use Rattle.trace_text.specs.Directions.{PacketSaid, Behind, AllSaid, Shows}

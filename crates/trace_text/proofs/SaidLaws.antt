@@ -6,8 +6,8 @@ use Rattle.osi_base.specs.declared.words.Side.{Side}
 use Rattle.stub_tables.specs.declared.tables.Tables.{Tables}
 use Rattle.tpkt.specs.declared.packet.Packet.{Packet}
 use Rattle.tpkt.specs.declared.packet.TFault.{TFault}
-use Rattle.trace_units.specs.declared.said.Said.{Said}
-use Rattle.trace_units.specs.declared.said.Said.TheVariants as said
+use Rattle.trace_units.specs.declared.said_text.Said.{Said}
+use Rattle.trace_units.specs.declared.said_text.Said.TheVariants as said
 use Rattle.trace_text.specs.Directions.{PacketSaid, stream_fault, Behind, AllSaid}
 use Rattle.trace_text.specs.Trace.{line_from}
 use Rattle.trace_text.specs.ShownSoFar.{PutSaid, PacketPut, StopPut, AllPut}

@@ -6,8 +6,8 @@ use Rattle.tpkt.specs.declared.reader_state.Held.{Held}
 use Rattle.tpkt.specs.declared.packet.Packet.{Packet}
 use Rattle.tpkt.specs.declared.packet.TFault.{TFault}
 use Rattle.tpkt.specs.Stream.{HasRead}
-use Rattle.trace_units.specs.declared.said.Said.{Said}
-use Rattle.trace_units.specs.declared.said.Said.TheVariants as said
+use Rattle.trace_units.specs.declared.said_text.Said.{Said}
+use Rattle.trace_units.specs.declared.said_text.Said.TheVariants as said
 use Rattle.trace_text.specs.declared.direction.Direction.{Direction}
 use Rattle.trace_text.specs.declared.direction.Directions as boths
 use Rattle.trace_text.specs.Directions.{PacketSaid, stream_fault, AllSaid, Shows}

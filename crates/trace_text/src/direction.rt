@@ -2,7 +2,7 @@
 
 ghost use Rattle.std.specs.Prelude.{◌≡◌, ◌∷◌, [], ℕ, List, ◌++◌, IfOk, OnOk, MatchOption, codes};
 ghost use Rattle.stub_tables.specs.declared.tables.Tables.{Tables};
-ghost use Rattle.trace_units.specs.declared.said.Said.TheVariants as saids;
+ghost use Rattle.trace_units.specs.declared.said_text.Said.TheVariants as saids;
 ghost use Rattle.trace_text.specs.Directions.{PacketSaid};
 ghost use Rattle.trace_text.specs.Trace.{Sent, line_from, nothing_sent};
 ghost use Rattle.trace_text.specs.ShownSoFar.{PutSaid, PacketPut, StopPut, AllPut, Stands};

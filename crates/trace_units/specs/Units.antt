@@ -15,8 +15,8 @@ use Rattle.presentation_pdus.specs.declared.place.PpduFault.TheVariants as fault
 use Rattle.presentation_pdus.specs.Units.{ppdu_at}
 use Rattle.stub_tables.specs.declared.tables.Tables.{Tables}
 use Rattle.trace_values.specs.Values.{ArePdvsText}
-use Rattle.trace_units.specs.declared.said.Said.{Said}
-use Rattle.trace_units.specs.declared.said.Said.TheVariants as said
+use Rattle.trace_units.specs.declared.said_text.Said.{Said}
+use Rattle.trace_units.specs.declared.said_text.Said.TheVariants as said
 use Rattle.trace_units.specs.Names.{fault_text, spdu_name, ppdu_name}
 
 -- the kind of a session unit that may carry a unit of the presentation protocol
