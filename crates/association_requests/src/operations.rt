@@ -2,10 +2,10 @@
 //! queue.
 
 ghost use Rattle.std.specs.Prelude.{◌≡◌, ◌<◌, ◌+◌, pos, Some, None, true, false, is_some, IfOk, IfSome, OnOk, option_map};
+ghost use Rattle.osi_base.specs.Limits.{last_invocation};
 ghost use Rattle.dialogue.specs.declared.call.Call.TheVariants as the_calls;
 ghost use Rattle.stub_tables.specs.Lookup.{operation_at};
 ghost use Rattle.dialogue.specs.declared.config.Mode.TheVariants.{Direct, Bare};
-ghost use Rattle.end_rules.specs.Base.{last_invocation};
 ghost use Rattle.end_rules.specs.State.{opened_with};
 ghost use Rattle.end_rules.specs.Hearing.{is_silent_at};
 ghost use Rattle.end_rules.specs.Invoking.{next_id, can_invoke, can_answer, can_refuse};

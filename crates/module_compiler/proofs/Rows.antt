@@ -1,8 +1,8 @@
 -- In a module without a fault each type has a row: walking it ends with one, at most 65 types deep.
-use Rattle.std.proofs.Common.{◌≡◌, ℕ, zero, suc, pos, ◌+◌, ◌*◌, ◌≤◌, Bool, true, false, List, [], ◌∷◌, ◌++◌, length, Option, None, Some, refl, sym, ap, subst, ◌∙◌, arith, ℤ}
-use Rattle.std.specs.Prelude.{◌||◌, not, nat_lt, max, map, slice_get, option_map, if◌then◌else◌}
+use Rattle.std.proofs.Common.{◌≡◌, ℕ, zero, suc, pos, ◌+◌, ◌*◌, ◌≤◌, ◌<◌, Bool, true, false, List, [], ◌∷◌, ◌++◌, length, Option, None, Some, refl, sym, ap, subst, ◌∙◌, arith, ℤ}
+use Rattle.std.specs.Prelude.{◌||◌, not, nat_le, max, map, slice_get, option_map, if◌then◌else◌}
 use Rattle.std.specs.Str.{bytes_eq}
-use Rattle.std.proofs.lemmas.Bool.{ltb-false}
+use Rattle.std.proofs.lemmas.Bool.{leb-false}
 use Rattle.std.proofs.lemmas.Bool.Decides.{nat_tests}
 use Rattle.notation_tokens.specs.declared.token.Located.{Located}
 use Rattle.asn1_types.specs.declared.row.Class.{Class}
@@ -174,13 +174,13 @@ deeper_pos n = grind (arith, nat_tests)
 
 -- a row that isn't too deep is one level deeper than those in it
 pub deeper_is : (n : ℕ) → deeper n ≤ 32 → suc n ≤ deeper n
-deeper_is n h = go (nat_lt n 33) refl
+deeper_is n h = go (nat_le n 32) refl
   where
-    go : (b : Bool) → nat_lt n 33 ≡ b → suc n ≤ deeper n
+    go : (b : Bool) → nat_le n 32 ≡ b → suc n ≤ deeper n
     go true e = let is : deeper n ≡ n + 1 = ap (λ (c : Bool). if c then n + 1 else n) e in omega arith
     go false e =
         let is : deeper n ≡ n = ap (λ (c : Bool). if c then n + 1 else n) e in
-        let le : 33 ≤ n = ltb-false n 33 e in absurd (omega arith)
+        let lt : 32 < n = leb-false n 32 e in absurd (omega arith)
 
 module _ (facts : TypeTree → Facts) where
   pub nesting_from : (n : ℕ) (ps : PartTrees) → n ≤ parts_nesting facts n ps

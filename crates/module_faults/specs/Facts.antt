@@ -1,9 +1,10 @@
 -- What types are as a whole: how deep their rows nest, with which tags their values begin, and which defaults they take.
-use Rattle.std.specs.Prelude.{ℕ, zero, suc, ◌+◌, ℤ, pos, negsuc, nat_eq, nat_lt, Bool, true, false, not, ◌&&◌, ◌||◌, max, List, [], ◌∷◌, ◌++◌, length, Option, None, Some, is_some, if◌then◌else◌}
+use Rattle.std.specs.Prelude.{ℕ, zero, suc, ◌+◌, ℤ, pos, negsuc, nat_eq, nat_lt, Bool, true, false, not, ◌&&◌, ◌||◌, max, List, [], ◌∷◌, ◌++◌, length, Option, None, Some, is_some, if◌then◌else◌, nat_le}
 use Rattle.std.specs.List.{list_any}
 use Rattle.std.specs.Ordering.{int_eq}
 use Rattle.std.specs.Prelude.{int_lt}
 use Rattle.std.specs.Str.{bytes_eq}
+use Rattle.asn1_types.specs.Limits.{most_levels}
 use Rattle.notation_tokens.specs.declared.token.Located.{Located}
 use Rattle.operation_notation.specs.Tree.{TypeTree, type_tree, PlainTree, boolean, null, integer, enumerated, octets, bits, object_id, text, sequence_of, set_of, sequence, set, choice, named, PartTrees, no_parts, part}
 use Rattle.operation_notation.specs.declared.module.Assignment.{Assignment}
@@ -32,13 +33,13 @@ pub record Facts : Type 0 where
   pub tags : List Tag
   pub base : Base
 
--- ---- nesting: how deep a row nests, or 33 where that is more than 32
+-- ---- nesting: how deep a row nests, or one more than the levels that a row may have
 
 abbrev pub deeper : ℕ → ℕ
-deeper n = if nat_lt n 33 then n + 1 else n
+deeper n = if nat_le n most_levels then n + 1 else n
 
 abbrev pub is_too_deep : ℕ → Bool
-is_too_deep n = nat_lt 32 n
+is_too_deep n = nat_lt most_levels n
 
 -- ---- tags: those with which a value may begin, each once
 
@@ -134,7 +135,7 @@ abbrev pub facts_over : (List ℕ → Facts) → (TypeTree → Facts) → TypeTr
 facts_over env inner (type_tree line column tag plain) = tagged tag (plain_facts env inner plain)
 
 unfoldable pub type_facts : (List ℕ → Facts) → ℕ → TypeTree → Facts
-type_facts env zero of = simple 0 33 other
+type_facts env zero of = simple 0 (most_levels + 1) other
 type_facts env (suc levels) of = facts_over env (type_facts env levels) of
 
 -- ---- what they show

@@ -76,7 +76,7 @@ fn simple<'m>(
 fn deeper(nesting: u32) -> u32
     ensures { result ≡ deeper nesting }
 {
-    if nesting < 33 { nesting + 1 } else { nesting }
+    if nesting <= 32 { nesting + 1 } else { nesting }
 }
 
 /// The universal tag of a kind of text.
