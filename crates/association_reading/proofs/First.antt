@@ -21,7 +21,7 @@ use Rattle.tpkt.proofs.ReaderLaws.{short_empty}
 use Rattle.tpkt.proofs.StreamLaws.{any_cut, split_read}
 use Rattle.spdu_codec.specs.declared.places.UserPlaces.{UserPlaces}
 use Rattle.spdu_codec.specs.Written.{stands_alone}
-use Rattle.spdu_codec.specs.Reading.{Fault, units_at}
+use Rattle.spdu_codec.specs.Reading.{UnitFault, units_at}
 use Rattle.spdu_codec.specs.Places.{user_places}
 use Rattle.spdu_codec.proofs.WireLaws.{all_again}
 use Rattle.spdu_codec.proofs.RoundLaws.{written_are}
@@ -61,7 +61,7 @@ stands_first tables size word more least most sendable =
       p.0,
       ap (λ (f : ReaderProgress). first_of f.held f.packets) (any_cut nothing octets more)
           ∙ ap (λ (ps : List Packet). first_of b.held (ps ++ b.packets)) one
-          ∙ ap (λ (r : Result (List SessionWord) Fault). first_front b.held (fronts_of_units (user_places tsdu) r ++ all_fronts b.packets)) read
+          ∙ ap (λ (r : Result (List SessionWord) UnitFault). first_front b.held (fronts_of_units (user_places tsdu) r ++ all_fronts b.packets)) read
           ∙ p.1,
     )
 

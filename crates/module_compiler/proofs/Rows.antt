@@ -19,7 +19,7 @@ use Rattle.operation_notation.specs.declared.module.ItemText.{ItemText}
 use Rattle.module_faults.specs.declared.kind.TableKind.TheVariants as kinds
 use Rattle.module_faults.specs.Least.{fault, if_so}
 use Rattle.module_faults.specs.Names.{or_none}
-use Rattle.module_faults.specs.Facts.{Base, truth, numbers, items, other, unknown, Facts, deeper, has_item, takes, default_faults, parts_nesting, plain_facts, type_facts}
+use Rattle.module_faults.specs.Facts.{DefaultKind, truth, numbers, items, other, unknown, Facts, deeper, has_item, takes, default_faults, parts_nesting, plain_facts, type_facts}
 use Rattle.asn1_types.specs.Numbered.{kind_numbered, class_numbered}
 use Rattle.module_compiler.specs.Numbering.{Numbered, item_of, under, base_in, base, truth_number, item_number, number_in, default_number, with_default, part_of}
 use Rattle.module_compiler.proofs.Faultless.{alias_slack}
@@ -76,7 +76,7 @@ base_deeper all (suc turns) (suc deep) n row le e =
 
 -- ---- what a row is under its tags, as a type's facts say
 
-abbrev pub Fits : TypeRow → Base → Type 0
+abbrev pub Fits : TypeRow → DefaultKind → Type 0
 Fits row truth = row ≡ rows.Boolean
 Fits row (numbers low high) = (l : ℤ) × ((h : ℤ) × (row ≡ rows.Integer l h))
 Fits row (items all) = row ≡ rows.Enumerated (map item_of all)
@@ -116,7 +116,7 @@ pub tag_has : (all : List TypeRow) (class : Class) (number : ℕ) (explicit : Bo
 tag_has all class number explicit inner below facts h deep same =
     let row : TypeRow = rows.Tagged class number explicit inner in
     let small : h.turns ≤ below.nesting = h.small in
-    record { turns = suc h.turns; small = omega arith; row = h.row; at = tag_found h.turns all class number explicit inner h.row h.at; fits = subst (λ (b : Base). Fits h.row b) (sym same) h.fits }
+    record { turns = suc h.turns; small = omega arith; row = h.row; at = tag_found h.turns all class number explicit inner h.row h.at; fits = subst (λ (b : DefaultKind). Fits h.row b) (sym same) h.fits }
 
 -- ---- defaults
 
@@ -130,7 +130,7 @@ item_found (item ∷ all) name e = go (bytes_eq item.name.text name) refl (λ h.
         let r = more h in
         (r.0, ap (λ (c : Bool). if c then Some item.number else item_number (map item_of all) name) s ∙ r.1)
 
-takes_number : (row : TypeRow) (b : Base) (value : DfltValue) → Fits row b → takes b value ≡ true → (n : ℤ) × (number_in row value ≡ Some n)
+takes_number : (row : TypeRow) (b : DefaultKind) (value : DfltValue) → Fits row b → takes b value ≡ true → (n : ℤ) × (number_in row value ≡ Some n)
 takes_number row truth (values.Truth t) fits e = (truth_number t, ap (λ (r : TypeRow). number_in r (values.Truth t)) fits)
 takes_number row truth (values.Number n) fits e = absurd cc
 takes_number row truth (values.Item name) fits e = absurd cc

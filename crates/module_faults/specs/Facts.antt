@@ -21,17 +21,17 @@ use Rattle.module_faults.specs.Least.{fault, at_name, if_so}
 use Rattle.module_faults.specs.Names.{type_at, type_place}
 
 -- what a type is under its names and tags, as far as a default needs it; nothing is known of one whose name is unknown or reaches itself
-pub data Base : Type 0 where
-  truth : Base
-  numbers : ℤ → ℤ → Base
-  items : List ItemText → Base
-  other : Base
-  unknown : Base
+pub data DefaultKind : Type 0 where
+  truth : DefaultKind
+  numbers : ℤ → ℤ → DefaultKind
+  items : List ItemText → DefaultKind
+  other : DefaultKind
+  unknown : DefaultKind
 
 pub record Facts : Type 0 where
   pub nesting : ℕ
   pub tags : List Tag
-  pub base : Base
+  pub base : DefaultKind
 
 -- ---- nesting: how deep a row nests, or one more than the levels that a row may have
 
@@ -70,14 +70,14 @@ tags_behind runs optional dflt tags = if runs && (not optional && not (is_some d
 abbrev pub has_item : List ItemText → List ℕ → Bool
 has_item all name = list_any (λ (item : ItemText). bytes_eq item.name.text name) all
 
-abbrev pub takes : Base → DfltValue → Bool
+abbrev pub takes : DefaultKind → DfltValue → Bool
 takes truth (values.Truth b) = true
 takes (numbers low high) (values.Number n) = not (int_lt n low) && not (int_lt high n)
 takes (items all) (values.Item name) = has_item all name
 takes unknown value = true
 takes base value = false
 
-abbrev pub default_faults : Base → Option DfltText → List Found
+abbrev pub default_faults : DefaultKind → Option DfltText → List Found
 default_faults base None = []
 default_faults base (Some dflt) = if_so (not (takes base dflt.value)) (fault dflt.line dflt.column kinds.BadDefault)
 
@@ -87,10 +87,10 @@ abbrev pub nothing : Facts
 nothing = record { nesting = 0; tags = []; base = unknown }
 
 -- a type whose values begin with one universal tag
-abbrev pub simple : ℕ → ℕ → Base → Facts
+abbrev pub simple : ℕ → ℕ → DefaultKind → Facts
 simple number nesting base = record { nesting = nesting; tags = record { class = 0; number = number } ∷ []; base = base }
 
-abbrev pub range_base : Option RangeText → Base
+abbrev pub range_base : Option RangeText → DefaultKind
 range_base None = numbers (negsuc 9223372036854775807) (pos 9223372036854775807)
 range_base (Some r) = numbers r.low r.high
 

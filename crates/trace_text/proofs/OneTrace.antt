@@ -9,7 +9,7 @@ use Rattle.osi_base.specs.declared.presentation_word.PdvContent.TheVariants as c
 use Rattle.osi_base.specs.declared.presentation_word.PresentationWord as units
 use Rattle.osi_base.specs.declared.session_word.SessionWord.{SessionWord}
 use Rattle.spdu_codec.specs.declared.places.UserPlaces.{UserPlaces}
-use Rattle.spdu_codec.specs.Reading.{Fault, units_at}
+use Rattle.spdu_codec.specs.Reading.{UnitFault, units_at}
 use Rattle.spdu_codec.specs.Places.{user_of, user_places}
 use Rattle.presentation_pdus.specs.declared.place.PpduPlace.{PpduPlace}
 use Rattle.presentation_pdus.specs.declared.place.PpduFault as faults
@@ -106,7 +106,7 @@ same_words tables (word ∷ []) places x y h k = same_closed tables (spdu_name w
 same_words tables (first ∷ second ∷ []) places x y h k = same_two tables first second places x y h k
 same_words tables (first ∷ second ∷ third ∷ more) places x y h k = absurd h
 
-same_units : (tables : Tables) (places : UserPlaces) (read : Result (List SessionWord) Fault) (x y : Said) → ReadSaid tables places read x → ReadSaid tables places read y → x ≡ y
+same_units : (tables : Tables) (places : UserPlaces) (read : Result (List SessionWord) UnitFault) (x y : Said) → ReadSaid tables places read x → ReadSaid tables places read y → x ≡ y
 same_units tables places (Ok words) x y h k = same_words tables words places x y h k
 same_units tables places (Err f) x y h k = h ∙ sym k
 
