@@ -9,7 +9,6 @@ mod lengths;
 mod packed_heads;
 mod pieces;
 mod reading;
-mod uses;
 mod values;
 mod writing;
 

@@ -34,7 +34,8 @@ use Rattle.end_model.specs.Acting.{ReadsBack}
 use Rattle.end_model.specs.Pairs.{base_at, bare_pair, HasCodec, BareModelled, WritesAll}
 use Rattle.bare_duo.specs.Worlds.{ends_of, end_at, Runs}
 use Rattle.bare_duo.specs.Passing.{sent_in, sent_by, taken_by, as_read, at_sending, values_in, sendings, BeginsWith, TakenAsSent, ShownAsTaken}
-use Rattle.bare_duo.specs.Outcomes.{Invocation, Outcome, invocations, answers, invocations_in, outcomes_in, told_invocations, outcomes, IsAllowed, AreNumbered, Differ}
+use Rattle.run_laws.specs.Outcomes.{Invocation, Outcome, invocations, answers, told_invocations, outcomes, IsAllowed, Differ}
+use Rattle.bare_duo.specs.Outcomes.{invocations_in, outcomes_in, AreNumbered}
 use Rattle.bare_duo.specs.Laws.{IsCalm, NothingWrong, NobodyIsDead, KeepsLaws, EveryRunKeepsLaws}
 use Rattle.bare_duo.specs.Shows.{shown_all}
 use Rattle.bare_duo.proofs.Flights.{IsSent, AllSent, parts}

@@ -32,10 +32,14 @@ impl<'t> End<'t> {
     pub(crate) fn short_text(&self, apdu: &Apdu) -> Result<Option<Octets>, NoMemory>
         ensures { IfOk result (IsShortText (base self.now) apdu.now) }
     {
-        if is_too_long(self.tables, apdu) {
+        let used = self.tables.use_in(apdu);
+        if is_too_long(self.tables, used, apdu) {
             return Ok(None);
         }
-        Ok(Some(self.text(Syntax::Ber, apdu)?))
+        let text = self
+            .heads
+            .write_with(self.alloc, Syntax::Ber, self.tables, used, apdu)?;
+        Ok(Some(text))
     }
 
     /// Puts octets behind those that wait.

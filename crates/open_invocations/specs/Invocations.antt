@@ -6,7 +6,7 @@ use Rattle.stub_tables.specs.declared.tables.Tables.{Tables}
 use Rattle.apdu_spelling.specs.declared.head.ApduHead.{ApduHead}
 use Rattle.linked_ops.specs.Entries.{Entry}
 use Rattle.rose_roles.specs.Calls.{Kept, Invoking, AreOpen, opens_in}
-use Rattle.rose_roles.specs.declared.called.Called.{Called}
+use Rattle.rose_roles.specs.declared.invoked_with.InvokedWith.{InvokedWith}
 use Rattle.rose_roles.specs.Heads.{HeadCarries}
 use Rattle.end_rules.specs.Base.{Carried}
 use Rattle.end_rules.specs.State.{OpenCall, opened_with}
@@ -29,7 +29,7 @@ is_link_back None opens = true
 is_link_back (Some id) opens = is_some (opened_with true id opens)
 
 -- what an open invocation called
-abbrev pub called_in : Option OpenCall → Option Called
+abbrev pub called_in : Option OpenCall → Option InvokedWith
 called_in None = None
 called_in (Some o) = Some (record { operation = o.operation; context = o.context })
 

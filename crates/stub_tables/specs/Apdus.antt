@@ -68,6 +68,17 @@ result_of operation = operation.result
 abbrev pub parameter_of : ErrorRow → Use
 parameter_of error = error.parameter
 
+abbrev pub returned_use : Tables → Option Returned → Option Use
+returned_use tables None = None
+returned_use tables (Some r) = option_map result_of (operation_coded tables r.code)
+
+-- how the value that an APDU carries is used, by the code of its operation or error
+abbrev pub use_in : Tables → Apdu → Option Use
+use_in tables (Invoke id linked code argument) = option_map argument_of (operation_coded tables code)
+use_in tables (Result id returned) = returned_use tables returned
+use_in tables (Error id code parameter) = option_map parameter_of (error_coded tables code)
+use_in tables (Reject id problem) = None
+
 -- These octets spell the value.
 abbrev pub TypedAs : TypeTable → Option TypeId → Val → List ℕ → Type 0
 TypedAs types None value octets = ⊥

@@ -2,7 +2,7 @@
 
 /// What an open invocation was invoked with.
 #[derive(Clone, Copy, Debug, PartialEq, Eq)]
-pub struct Called {
+pub struct InvokedWith {
     /// Its operation, as a place in the table of operations.
     pub operation: u32,
     /// The presentation context on which it was invoked.
