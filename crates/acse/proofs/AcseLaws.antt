@@ -1,8 +1,8 @@
 -- APDUs of association control and their octets stand for each other.
 use Rattle.std.proofs.Common.{◌≡◌, ℕ, ◌+◌, ◌^◌, ◌≤◌, ◌<◌, Bool, true, false, ◌&&◌, List, [], ◌∷◌, length, Option, Some, None, Result, Ok, Err, refl, sym, ap, ◌∙◌, arith}
-use Rattle.std.specs.Prelude.{ℤ, pos, nat_lt, map}
+use Rattle.std.specs.Prelude.{ℤ, pos, nat_lt, nat_le, map}
 use Rattle.std.specs.List.{list_all}
-use Rattle.std.proofs.lemmas.Bool.{and_parts, ltb-true, lt-ltb, le-ltb}
+use Rattle.std.proofs.lemmas.Bool.{and_parts, ltb-true, leb-true, lt-ltb, le-ltb}
 use Rattle.osi_base.specs.declared.bit_string.BitString as strings
 use Rattle.osi_base.specs.declared.acse_word.External as externals
 use Rattle.osi_base.specs.declared.acse_word.Diagnostic as diagnostics
@@ -61,9 +61,9 @@ acse_fault_is_first octets place kind e =
 
 id_fits : (n : ℕ) → is_id n ≡ true → integer_fits (pos 1) (pos 32767) (integer (pos n)) ≡ true
 id_fits n h =
-    let p = and_parts (nat_lt 0 n) (nat_lt n 32768) h in
+    let p = and_parts (nat_lt 0 n) (nat_le n 32767) h in
     let low = ltb-true 0 n p.0 in
-    let high = ltb-true n 32768 p.1 in
+    let high = leb-true n 32767 p.1 in
     range_fits 1 32767 n (omega arith) (omega arith) (omega arith)
 
 below_fits : (high n : ℕ) → high < 256 → nat_lt n (high + 1) ≡ true → integer_fits (pos 0) (pos high) (integer (pos n)) ≡ true
@@ -128,8 +128,8 @@ writable_fits (apdu.Abort source (e ∷ es)) h =
 
 id_is : (n : ℕ) → is_id n ≡ true → natural_in (pos n) ≡ n
 id_is n h =
-    let p = and_parts (nat_lt 0 n) (nat_lt n 32768) h in
-    let lt = ltb-true n 32768 p.1 in
+    let p = and_parts (nat_lt 0 n) (nat_le n 32767) h in
+    let lt = leb-true n 32767 p.1 in
     let small : n < 2 ^ 32 = omega arith in
     rw (lt-ltb n (2 ^ 32) small) refl
 

@@ -1,5 +1,6 @@
 -- The APDUs of association control as rows of types (X.227 9), without the fields that are passed over.
 use Rattle.std.specs.Prelude.{ℕ, ℤ, pos, negsuc, true, false, List, [], ◌∷◌, codes}
+use Rattle.osi_base.specs.Limits.{highest_context}
 use Rattle.asn1_types.specs.declared.row.Class.TheVariants.{Universal, Application}
 use Rattle.asn1_types.specs.declared.row.TypeRow.{TypeRow}
 use Rattle.asn1_types.specs.declared.row.TypeRow.TheVariants.{Integer, BitString, ObjectId, Sequence, SequenceOf, Choice, Tagged, Any}
@@ -12,7 +13,7 @@ acse_row = 30
 abbrev pub acse_rows : List TypeRow
 acse_rows =
     -- 0: an identifier of a presentation context
-    Integer (pos 1) (pos 32767)
+    Integer (pos 1) (pos highest_context)
     -- 1 to 4: a name, a version, a value for the user, a reason
     ∷ ObjectId
     ∷ BitString

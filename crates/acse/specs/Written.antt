@@ -1,5 +1,5 @@
 -- What may be written of association control, and as what octets.
-use Rattle.std.specs.Prelude.{◌≡◌, ◌&&◌, ◌||◌, ℕ, Bool, true, List, Option, Some, None, length, ◌≤◌, nat_lt}
+use Rattle.std.specs.Prelude.{◌≡◌, ◌&&◌, ◌||◌, ℕ, Bool, true, List, Option, Some, None, length, ◌≤◌, nat_lt, nat_le}
 use Rattle.std.specs.List.{list_all}
 use Rattle.osi_base.specs.declared.bit_string.BitString as strings
 use Rattle.osi_base.specs.declared.acse_word.External as externals
@@ -7,6 +7,7 @@ use Rattle.osi_base.specs.declared.acse_word.Diagnostic as diagnostics
 use Rattle.osi_base.specs.declared.acse_word.Diagnostic.TheVariants as diagnostic
 use Rattle.osi_base.specs.declared.acse_word.Acse as apdus
 use Rattle.osi_base.specs.declared.acse_word.Acse.TheVariants as apdu
+use Rattle.osi_base.specs.Limits.{highest_context}
 use Rattle.asn1_types.specs.Fits.{is_number, bits_fit, object_id_fits}
 use Rattle.asn1_types.specs.Value.{bits, object_id}
 use Rattle.asn1_types.specs.Whole.{is_whole}
@@ -16,7 +17,7 @@ use Rattle.acse.specs.Rows.{acse_row, acse_rows}
 use Rattle.acse.specs.Words.{value_of}
 
 abbrev pub is_id : ℕ → Bool
-is_id id = nat_lt 0 id && nat_lt id 32768
+is_id id = nat_lt 0 id && nat_le id highest_context
 
 abbrev pub can_carry : externals.External → Bool
 can_carry e = is_id e.id && is_whole e.value

@@ -8,7 +8,7 @@ use Rattle.apdu_codec.specs.declared.fault.HeadFault.{HeadFault}
 use Rattle.apdu_codec.specs.declared.fault.HeadFault.TheVariants.{General, BadReject, NoMemory}
 use Rattle.apdu_codec.specs.declared.reading.Tried as trieds
 use Rattle.apdu_codec.specs.declared.reading.Tried.TheVariants as tried
-use Rattle.apdu_codec.specs.Refusals.{number_of, refusal_of}
+use Rattle.apdu_codec.specs.Refusals.{problem_number, refusal_of}
 
 -- the octets spell a head with these fields
 pub record HasFields (syntax : Syntax) (text : List ℕ) (fields : ApduHead) : Type 0 where
@@ -33,4 +33,4 @@ IsHeadRead syntax text (Err fault) = IsRefused syntax text fault
 -- as long as the first octet isn't looked at
 abbrev pub IsTried : Syntax → List ℕ → trieds.Tried → Type 0
 IsTried syntax text (tried.Head fields) = HasFields syntax text fields
-IsTried syntax text (tried.Fault number) = HasNone syntax text × (number ≡ number_of syntax text)
+IsTried syntax text (tried.Fault number) = HasNone syntax text × (number ≡ problem_number syntax text)

@@ -51,10 +51,10 @@ abbrev pub packed_told : packeds.PackedFault → Option ℕ
 packed_told packed.NoMemory = None
 packed_told fault = Some (number_of_packed (Err fault))
 
-abbrev pub number_of : Syntax → List ℕ → ℕ
-number_of Ber text = number_of_ber (ber_rules.read_at head_rows apdu_row false most_octets text)
-number_of Der text = number_of_ber (ber_rules.read_at head_rows apdu_row true most_octets text)
-number_of Packed text = number_of_packed (packed_rules.read_at head_rows packed_apdu_row most_octets text)
+abbrev pub problem_number : Syntax → List ℕ → ℕ
+problem_number Ber text = number_of_ber (ber_rules.read_at head_rows apdu_row false most_octets text)
+problem_number Der text = number_of_ber (ber_rules.read_at head_rows apdu_row true most_octets text)
+problem_number Packed text = number_of_packed (packed_rules.read_at head_rows packed_apdu_row most_octets text)
 
 -- ---- the first octet: 0 unrecognized APDU
 
@@ -73,4 +73,4 @@ opens_reject Packed first = nat_eq first 4
 abbrev pub refusal_of : Syntax → List ℕ → HeadFault
 refusal_of syntax [] = General 2
 refusal_of syntax (first ∷ rest) =
-    if opens syntax first then (if opens_reject syntax first then BadReject else General (number_of syntax (first ∷ rest))) else General 0
+    if opens syntax first then (if opens_reject syntax first then BadReject else General (problem_number syntax (first ∷ rest))) else General 0

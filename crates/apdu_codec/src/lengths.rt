@@ -7,10 +7,9 @@ ghost use Rattle.asn1_types.specs.Writing.{saturated};
 ghost use Rattle.apdu_spelling.specs.Heads.{or_none};
 ghost use Rattle.apdu_spelling.specs.Heads as heads;
 ghost use Rattle.apdu_spelling.specs.Writing.{written_value, written_typed, written_carried, written_head, outcome_of, written_apdu};
-ghost use Rattle.stub_tables.specs.Apdus.{argument_of, parameter_of, operation_coded, error_coded};
+ghost use Rattle.stub_tables.specs.Apdus.{argument_of, result_of, parameter_of, operation_coded, error_coded, returned_use, use_in};
 ghost use Rattle.apdu_codec.specs.Lengths.{held_size, marked_size, integer_size, object_id_size, code_size, linked_size, rejected_size, is_too_long_in, is_too_long};
 
-use crate::uses::{argument_use, parameter_use, result_use};
 use asn1_types::{Class, TypeId, TypeTable, Val};
 use ber_spelling::Tag;
 use ber_writing::{ber_len, definite_len};
@@ -147,20 +146,21 @@ fn rejected_len(syntax: Syntax, id: Option<i64>) -> u64
     }
 }
 
-/// The length of an invocation.
+/// The length of an invocation whose argument is used so.
 fn invoke_len(
     syntax: Syntax,
     tables: &Tables,
+    used: Option<Use>,
     id: i64,
     linked: Option<i64>,
     code: &Code,
     argument: &Option<Val>,
 ) -> u64
+    requires { used ≡ option_map argument_of (operation_coded tables.now code.now) }
     ensures { result ≡ saturated (length (written_head syntax
         (heads.invoke id linked code.now (written_carried syntax tables.now.types
         (option_map argument_of (operation_coded tables.now code.now)) argument.now)))) }
 {
-    let used = argument_use(tables, code);
     let carried = carried_len(syntax, &tables.types, used, argument);
     let front = integer_len(syntax, id).saturating_add(linked_len(syntax, linked));
     let behind = code_len(syntax, code).saturating_add(marked_len(syntax, carried));
@@ -168,13 +168,20 @@ fn invoke_len(
     held_len(syntax, contents)
 }
 
-/// The length of an error.
-fn error_len(syntax: Syntax, tables: &Tables, id: i64, code: &Code, parameter: &Option<Val>) -> u64
+/// The length of an error whose parameter is used so.
+fn error_len(
+    syntax: Syntax,
+    tables: &Tables,
+    used: Option<Use>,
+    id: i64,
+    code: &Code,
+    parameter: &Option<Val>,
+) -> u64
+    requires { used ≡ option_map parameter_of (error_coded tables.now code.now) }
     ensures { result ≡ saturated (length (written_head syntax
         (heads.error id code.now (written_carried syntax tables.now.types
         (option_map parameter_of (error_coded tables.now code.now)) parameter.now)))) }
 {
-    let used = parameter_use(tables, code);
     let carried = carried_len(syntax, &tables.types, used, parameter);
     let behind = code_len(syntax, code).saturating_add(marked_len(syntax, carried));
     let contents = integer_len(syntax, id).saturating_add(behind);
@@ -189,12 +196,18 @@ fn none_len(syntax: Syntax, id: i64) -> u64
     held_len(syntax, contents)
 }
 
-/// The length of a result with what is returned.
-fn result_len(syntax: Syntax, tables: &Tables, id: i64, returned: &Returned) -> u64
+/// The length of a result with what is returned, which is used so.
+fn result_len(
+    syntax: Syntax,
+    tables: &Tables,
+    used: Option<Use>,
+    id: i64,
+    returned: &Returned,
+) -> u64
+    requires { used ≡ option_map result_of (operation_coded tables.now returned.now.code) }
     ensures { result ≡ saturated (length (written_head syntax
         (heads.result id (outcome_of tables.now syntax (Some returned.now))))) }
 {
-    let used = result_use(tables, &returned.code);
     let carried = outcome_len(syntax, &tables.types, used, &returned.value);
     let behind = code_len(syntax, &returned.code).saturating_add(carried);
     let outcome = held_len(syntax, behind);
@@ -202,13 +215,20 @@ fn result_len(syntax: Syntax, tables: &Tables, id: i64, returned: &Returned) -> 
     held_len(syntax, contents)
 }
 
-/// The length of a result with what is returned, if anything.
-fn returned_len(syntax: Syntax, tables: &Tables, id: i64, returned: &Option<Returned>) -> u64
+/// The length of a result with what is returned, if anything, which is used so.
+fn returned_len(
+    syntax: Syntax,
+    tables: &Tables,
+    used: Option<Use>,
+    id: i64,
+    returned: &Option<Returned>,
+) -> u64
+    requires { used ≡ returned_use tables.now returned.now }
     ensures { result ≡ saturated (length (written_head syntax
         (heads.result id (outcome_of tables.now syntax returned.now)))) }
 {
     match returned {
-        Some(returned) => result_len(syntax, tables, id, returned),
+        Some(returned) => result_len(syntax, tables, used, id, returned),
         None => none_len(syntax, id),
     }
 }
@@ -223,9 +243,10 @@ fn reject_len(syntax: Syntax, id: Option<i64>, problem: &Problem) -> u64
     held_len(syntax, contents)
 }
 
-/// How many octets an APDU has as `write_apdu` writes it. One of 2 ^ 64 or more gives 2 ^ 64 - 1.
+/// The length of an APDU whose value is used so.
 #[tactic(auto, unfolding(apdu_spelling::specs::Writing::written_apdu))]
-pub fn apdu_len(syntax: Syntax, tables: &Tables, apdu: &Apdu) -> u64
+fn len_with(syntax: Syntax, tables: &Tables, used: Option<Use>, apdu: &Apdu) -> u64
+    requires { used ≡ use_in tables.now apdu.now }
     ensures { result ≡ saturated (length (written_apdu tables.now syntax apdu.now)) }
 {
     match apdu {
@@ -234,32 +255,41 @@ pub fn apdu_len(syntax: Syntax, tables: &Tables, apdu: &Apdu) -> u64
             linked,
             code,
             argument,
-        } => invoke_len(syntax, tables, *id, *linked, code, argument),
-        Apdu::Result { id, returned } => returned_len(syntax, tables, *id, returned),
+        } => invoke_len(syntax, tables, used, *id, *linked, code, argument),
+        Apdu::Result { id, returned } => returned_len(syntax, tables, used, *id, returned),
         Apdu::Error {
             id,
             code,
             parameter,
-        } => error_len(syntax, tables, *id, code, parameter),
+        } => error_len(syntax, tables, used, *id, code, parameter),
         Apdu::Reject { id, problem } => reject_len(syntax, *id, problem),
     }
 }
 
-/// Whether an APDU has more octets than one may have in a syntax.
-#[tactic(auto, using(crate::proofs::Sizes::is_past))]
-fn is_too_long_in(syntax: Syntax, tables: &Tables, apdu: &Apdu) -> bool
-    ensures { result ≡ is_too_long_in tables.now syntax apdu.now }
+/// How many octets an APDU has as `write_apdu` writes it. One of 2 ^ 64 or more gives 2 ^ 64 - 1.
+pub fn apdu_len(syntax: Syntax, tables: &Tables, apdu: &Apdu) -> u64
+    ensures { result ≡ saturated (length (written_apdu tables.now syntax apdu.now)) }
 {
-    apdu_len(syntax, tables, apdu) > MOST_OCTETS
+    len_with(syntax, tables, tables.use_in(apdu), apdu)
 }
 
-/// Whether an APDU has more than 262,144 octets in one of the three syntaxes. BER and DER have one
-/// spelling.
+/// Whether an APDU has more octets than one may have in a syntax.
+#[tactic(auto, using(crate::proofs::Sizes::is_past))]
+fn is_too_long_in(syntax: Syntax, tables: &Tables, used: Option<Use>, apdu: &Apdu) -> bool
+    requires { used ≡ use_in tables.now apdu.now }
+    ensures { result ≡ is_too_long_in tables.now syntax apdu.now }
+{
+    len_with(syntax, tables, used, apdu) > MOST_OCTETS
+}
+
+/// Whether an APDU whose value is used so has more than 262,144 octets in one of the three
+/// syntaxes. BER and DER have one spelling.
 #[tactic(auto, using(crate::proofs::Sizes::too_long))]
-pub fn is_too_long(tables: &Tables, apdu: &Apdu) -> bool
+pub fn is_too_long(tables: &Tables, used: Option<Use>, apdu: &Apdu) -> bool
+    requires { used ≡ use_in tables.now apdu.now }
     ensures { result ≡ is_too_long tables.now apdu.now }
 {
-    let ber = is_too_long_in(Syntax::Ber, tables, apdu);
-    let packed = is_too_long_in(Syntax::Packed, tables, apdu);
+    let ber = is_too_long_in(Syntax::Ber, tables, used, apdu);
+    let packed = is_too_long_in(Syntax::Packed, tables, used, apdu);
     ber || packed
 }

@@ -1,5 +1,5 @@
-//! Reading the heads of APDUs of remote operations (X.882 9) and writing APDUs, in BER, DER and the
-//! packed syntax.
+//! Heads of APDUs of remote operations (X.882 9) read, APDUs written, and told how long they are
+//! without writing them, in BER, DER and the packed syntax.
 #![tactic(auto)]
 
 mod fault;
@@ -9,7 +9,6 @@ mod lengths;
 mod packed_heads;
 mod pieces;
 mod reading;
-mod uses;
 mod values;
 mod writing;
 

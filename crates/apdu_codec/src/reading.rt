@@ -4,7 +4,7 @@ ghost use Rattle.std.specs.Prelude.{◌≡◌, ◌≤◌, ◌-◌, ℕ, IfOk, Ok
 ghost use Rattle.osi_base.specs.declared.syntax.Syntax.TheVariants as syntaxes;
 ghost use Rattle.asn1_types.specs.Limits.{most_octets};
 ghost use Rattle.apdu_spelling.specs.Rows.{head_rows};
-ghost use Rattle.apdu_codec.specs.Refusals.{opens, opens_reject, number_of_kind, ber_told, packed_told, refusal_of, number_of};
+ghost use Rattle.apdu_codec.specs.Refusals.{opens, opens_reject, number_of_kind, ber_told, packed_told, refusal_of, problem_number};
 ghost use Rattle.apdu_codec.specs.HeadsRead.{IsTried, IsHeadRead, HasNone};
 ghost use Rattle.apdu_codec.specs.declared.fault.HeadFault.TheVariants as faults;
 
@@ -154,7 +154,7 @@ fn opens_reject(syntax: Syntax, first: u8) -> bool
 
 /// Why octets that spell no head are refused, where the first fault has this number.
 fn refusal(syntax: Syntax, bytes: &[u8], number: u8) -> HeadFault
-    requires { number ≡ number_of syntax bytes.now }
+    requires { number ≡ problem_number syntax bytes.now }
     ensures is { result ≡ refusal_of syntax bytes.now }
     ensures told { (result ≡ faults.NoMemory) → ⊥ }
 {

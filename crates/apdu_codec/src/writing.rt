@@ -2,6 +2,7 @@
 
 ghost use Rattle.std.specs.Prelude.{◌≡◌, ℕ, ◌++◌, IfOk, Some, None};
 ghost use Rattle.std.specs.Option.{option_copied};
+ghost use Rattle.stub_tables.specs.Apdus.{returned_use, use_in};
 ghost use Rattle.apdu_spelling.specs.Heads as heads;
 ghost use Rattle.apdu_spelling.specs.Heads.{or_none};
 ghost use Rattle.apdu_spelling.specs.Rows.{head_rows, apdu_row, packed_apdu_row};
@@ -10,7 +11,6 @@ ghost use Rattle.apdu_spelling.specs.Writing.{written_value, written_typed, writ
 ghost use Rattle.packed_codec.specs.Writing.{packed};
 
 use crate::heads::{APDU, Heads, PACKED_APDU};
-use crate::uses::{argument_use, parameter_use, result_use};
 use crate::values;
 use asn1_types::{TypeId, TypeTable, Val};
 use ber_writing::ber_octets;
@@ -201,36 +201,38 @@ impl Heads {
         }
     }
 
-    /// The octets of a result with what is returned, if anything.
+    /// The octets of a result with what is returned, if anything, which is used so.
     fn returned_text(
         &self,
         alloc: Global,
         syntax: Syntax,
         tables: &Tables,
+        used: Option<Use>,
         id: i64,
         returned: &Option<Returned>,
     ) -> Result<Octets, NoMemory>
+        requires { used ≡ returned_use tables.now returned.now }
         ensures { IfOk result (λ text. text ≡ written_head syntax
             (heads.result id (outcome_of tables.now syntax returned.now))) }
     {
         let Some(returned) = returned else {
             return self.none_text(alloc, syntax, id);
         };
-        let used = result_use(tables, &returned.code);
         let octets = returned_octets(alloc, syntax, &tables.types, used, &returned.value)?;
         self.result_text(alloc, syntax, id, &returned.code, octets)
     }
 
-    /// The one spelling of an APDU in this syntax (X.882 9): in BER the one of DER. Of an APDU
-    /// whose values fit, with at most 262,144 octets, it is read back as this APDU.
+    /// As `write`, of an APDU whose value is used so.
     #[tactic(auto, unfolding(apdu_spelling::specs::Writing::written_apdu))]
-    pub fn write(
+    pub fn write_with(
         &self,
         alloc: Global,
         syntax: Syntax,
         tables: &Tables,
+        used: Option<Use>,
         apdu: &Apdu,
     ) -> Result<Octets, NoMemory>
+        requires { used ≡ use_in tables.now apdu.now }
         ensures { IfOk result (λ octets. octets ≡ written_apdu tables.now syntax apdu.now) }
     {
         let types = &tables.types;
@@ -241,24 +243,36 @@ impl Heads {
                 code,
                 argument,
             } => {
-                let used = argument_use(tables, code);
                 let octets = carried_octets(alloc, syntax, types, used, argument)?;
                 self.invoke_text(alloc, syntax, *id, *linked, code, octets)
             }
             Apdu::Result { id, returned } => {
-                self.returned_text(alloc, syntax, tables, *id, returned)
+                self.returned_text(alloc, syntax, tables, used, *id, returned)
             }
             Apdu::Error {
                 id,
                 code,
                 parameter,
             } => {
-                let used = parameter_use(tables, code);
                 let octets = carried_octets(alloc, syntax, types, used, parameter)?;
                 self.error_text(alloc, syntax, *id, code, octets)
             }
             Apdu::Reject { id, problem } => self.reject_text(alloc, syntax, *id, problem),
         }
+    }
+
+    /// The one spelling of an APDU in this syntax (X.882 9): in BER the one of DER. Of an APDU
+    /// whose values fit, with at most 262,144 octets, it is read back as this APDU.
+    pub fn write(
+        &self,
+        alloc: Global,
+        syntax: Syntax,
+        tables: &Tables,
+        apdu: &Apdu,
+    ) -> Result<Octets, NoMemory>
+        ensures { IfOk result (λ octets. octets ≡ written_apdu tables.now syntax apdu.now) }
+    {
+        self.write_with(alloc, syntax, tables, tables.use_in(apdu), apdu)
     }
 }
 

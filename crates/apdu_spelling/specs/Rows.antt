@@ -2,6 +2,7 @@
 -- any type, the last of its SEQUENCE (X.882 9). In the packed syntax it stands behind the head, which ends with a mark
 -- where it may lack.
 use Rattle.std.specs.Prelude.{ℕ, ◌+◌, pos, negsuc, true, false, List, [], ◌∷◌, None, codes}
+use Rattle.osi_base.specs.Limits.{last_invocation}
 use Rattle.asn1_types.specs.declared.row.Part.{Part}
 use Rattle.asn1_types.specs.declared.row.Class.TheVariants.{Context}
 use Rattle.asn1_types.specs.declared.row.TypeRow.{TypeRow}
@@ -161,7 +162,7 @@ packed_apdu_kinds =
 abbrev pub head_rows : List TypeRow
 head_rows =
     -- identifiers have 32 bits
-    Integer (negsuc 2147483647) (pos 2147483647)
+    Integer (negsuc last_invocation) (pos last_invocation)
     ∷ Integer (negsuc 9223372036854775807) (pos 9223372036854775807)
     ∷ ObjectId
     ∷ Choice code_kinds

@@ -3,6 +3,7 @@ use Rattle.std.specs.Prelude.{◌≡◌, ℕ, ◌≤◌, ℤ, pos, negsuc, Bool,
 use Rattle.std.specs.Option.{option_map}
 use Rattle.osi_base.specs.declared.syntax.Syntax.{Syntax}
 use Rattle.osi_base.specs.declared.syntax.Syntax.TheVariants as syntax
+use Rattle.osi_base.specs.Limits.{last_invocation}
 use Rattle.asn1_types.specs.declared.value.Val.{Val}
 use Rattle.asn1_types.specs.declared.table.TypeTable.{TypeTable}
 use Rattle.asn1_types.specs.declared.row.TypeId.{TypeId}
@@ -63,8 +64,8 @@ written_apdu tables syntax apdu = written_head syntax (head_of tables syntax apd
 
 -- identifiers of invocations are of 32 bits
 abbrev pub is_identifier : ℤ → Bool
-is_identifier (pos n) = nat_le n 2147483647
-is_identifier (negsuc n) = nat_le n 2147483647
+is_identifier (pos n) = nat_le n last_invocation
+is_identifier (negsuc n) = nat_le n last_invocation
 
 abbrev pub is_identifier_or_none : Option ℤ → Bool
 is_identifier_or_none None = true

@@ -4,6 +4,7 @@ ghost use Rattle.std.specs.Prelude.{◌≡◌, ◌≤◌, ◌+◌, min, length, 
 ghost use Rattle.end_rules.specs.Sets.{count_added};
 ghost use Rattle.end_rules.specs.Altering.{used};
 ghost use Rattle.end_rules.specs.Policy.{answer_to_deletion, policy};
+ghost use Rattle.end_rules.specs.Base.{most_contexts};
 ghost use Rattle.association_state.specs.Seen.{base_in, seen};
 
 use association_calls::used;
@@ -46,9 +47,9 @@ fn answers_to_deletions(
 
 /// How many contexts are there or asked for, counted up to 64.
 fn contexts_counted(body: &Body) -> usize
-    ensures count { result ≡ min 64 (length (seen body.now).sets.held + count_added
+    ensures count { result ≡ min most_contexts (length (seen body.now).sets.held + count_added
         (seen body.now).sets.own) }
-    ensures few { result ≤ 64 }
+    ensures few { result ≤ most_contexts }
 {
     let held = body.sets.held.len().min(64);
     let own = count_added(&body.sets.own);

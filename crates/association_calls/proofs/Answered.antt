@@ -13,7 +13,7 @@ use Rattle.end_rules.specs.Base.{Base}
 use Rattle.end_rules.specs.State.{Body, OpenCall, opened_with}
 use Rattle.end_rules.specs.Invoking.{Reply, is_stopped, operation_of, result_apdu, error_apdu, can_answer_open, can_answer, can_refuse_open, can_refuse, can_refuse_with}
 use Rattle.end_rules.specs.Requesting.{result_for, error_for, operation_opened, result_in}
-use Rattle.rose_roles.specs.declared.called.Called.{Called}
+use Rattle.rose_roles.specs.declared.invoked_with.InvokedWith.{InvokedWith}
 use Rattle.open_invocations.specs.Invocations.{called_in}
 use Rattle.association_calls.specs.Replies.{IsChecked}
 
@@ -28,7 +28,7 @@ module _ (base : Base) (body : Body) (id : ℤ) where
     AnsweredBy stopped o operation =
         IsChecked (if stopped then Err refusals.Waiting else can_answer_open base body id o operation value) None (result_for id value operation) r
 
-    answered_one : (o : OpenCall) (called : Called) (operation : Operation) → Some (record { operation = o.operation; context = o.context }) ≡ Some called → operation_at base.tables called.operation ≡ Some operation
+    answered_one : (o : OpenCall) (called : InvokedWith) (operation : Operation) → Some (record { operation = o.operation; context = o.context }) ≡ Some called → operation_at base.tables called.operation ≡ Some operation
         → its ≡ Some o → is_stopped base body ≡ false → ((o : OpenCall) → o.context ≡ called.context → IsChecked (can_answer_open base body id (Some o) (Some operation) value) None (Some (result_apdu operation id value)) r)
         → IsChecked (can_answer base body id value) None (result_in base body id value) r
     answered_one o called operation e there opened stopped h =
@@ -40,13 +40,13 @@ module _ (base : Base) (body : Body) (id : ℤ) where
         let with_stop : AnsweredBy (is_stopped base body) (Some o) (operation_of base (Some o)) = subst (λ b. AnsweredBy b (Some o) (operation_of base (Some o))) (sym stopped) with_operation in
         subst (λ (x : Option OpenCall). IsChecked (if is_stopped base body then Err refusals.Waiting else can_answer_open base body id x (operation_of base x) value) None (result_for id value (operation_opened base x)) r) (sym opened) with_stop
 
-    answered_by : (o : Option OpenCall) (called : Called) (operation : Operation) → called_in o ≡ Some called → operation_at base.tables called.operation ≡ Some operation
+    answered_by : (o : Option OpenCall) (called : InvokedWith) (operation : Operation) → called_in o ≡ Some called → operation_at base.tables called.operation ≡ Some operation
         → its ≡ o → is_stopped base body ≡ false → ((o : OpenCall) → o.context ≡ called.context → IsChecked (can_answer_open base body id (Some o) (Some operation) value) None (Some (result_apdu operation id value)) r)
         → IsChecked (can_answer base body id value) None (result_in base body id value) r
     answered_by None called operation e there opened stopped h = absurd cc
     answered_by (Some o) called operation e there opened stopped h = answered_one o called operation e there opened stopped h
 
-    pub answered : (called : Called) (operation : Operation) → called_in its ≡ Some called → operation_at base.tables called.operation ≡ Some operation → is_stopped base body ≡ false
+    pub answered : (called : InvokedWith) (operation : Operation) → called_in its ≡ Some called → operation_at base.tables called.operation ≡ Some operation → is_stopped base body ≡ false
         → ((o : OpenCall) → o.context ≡ called.context → IsChecked (can_answer_open base body id (Some o) (Some operation) value) None (Some (result_apdu operation id value)) r)
         → IsChecked (can_answer base body id value) None (result_in base body id value) r
     answered called operation e there stopped h = answered_by its called operation e there refl stopped h
@@ -58,7 +58,7 @@ module _ (base : Base) (body : Body) (id : ℤ) where
     RefusedBy stopped o operation error =
         IsChecked (if stopped then Err refusals.Waiting else can_refuse_open base body id o operation place error parameter) None (error_for id parameter error) r
 
-    refused_one : (o : OpenCall) (called : Called) (operation : Operation) (error : ErrorRow) → Some (record { operation = o.operation; context = o.context }) ≡ Some called → operation_at base.tables called.operation ≡ Some operation
+    refused_one : (o : OpenCall) (called : InvokedWith) (operation : Operation) (error : ErrorRow) → Some (record { operation = o.operation; context = o.context }) ≡ Some called → operation_at base.tables called.operation ≡ Some operation
         → error_at base.tables place ≡ Some error → is_error_of operation place ≡ true → its ≡ Some o → is_stopped base body ≡ false
         → ((o : OpenCall) → o.context ≡ called.context → IsChecked (can_refuse_with base body id o error parameter) None (Some (error_apdu error id parameter)) r)
         → IsChecked (can_refuse base body id place parameter) None (error_for id parameter (error_at base.tables place)) r
@@ -74,14 +74,14 @@ module _ (base : Base) (body : Body) (id : ℤ) where
         let with_stop : RefusedBy (is_stopped base body) (Some o) (operation_of base (Some o)) (error_at base.tables place) = subst (λ b. RefusedBy b (Some o) (operation_of base (Some o)) (error_at base.tables place)) (sym stopped) with_operation in
         subst (λ (x : Option OpenCall). RefusedBy (is_stopped base body) x (operation_of base x) (error_at base.tables place)) (sym opened) with_stop
 
-    refused_by : (o : Option OpenCall) (called : Called) (operation : Operation) (error : ErrorRow) → called_in o ≡ Some called → operation_at base.tables called.operation ≡ Some operation
+    refused_by : (o : Option OpenCall) (called : InvokedWith) (operation : Operation) (error : ErrorRow) → called_in o ≡ Some called → operation_at base.tables called.operation ≡ Some operation
         → error_at base.tables place ≡ Some error → is_error_of operation place ≡ true → its ≡ o → is_stopped base body ≡ false
         → ((o : OpenCall) → o.context ≡ called.context → IsChecked (can_refuse_with base body id o error parameter) None (Some (error_apdu error id parameter)) r)
         → IsChecked (can_refuse base body id place parameter) None (error_for id parameter (error_at base.tables place)) r
     refused_by None called operation error e there errs allowed opened stopped h = absurd cc
     refused_by (Some o) called operation error e there errs allowed opened stopped h = refused_one o called operation error e there errs allowed opened stopped h
 
-    pub refused : (called : Called) (operation : Operation) (error : ErrorRow) → called_in its ≡ Some called → operation_at base.tables called.operation ≡ Some operation
+    pub refused : (called : InvokedWith) (operation : Operation) (error : ErrorRow) → called_in its ≡ Some called → operation_at base.tables called.operation ≡ Some operation
         → error_at base.tables place ≡ Some error → is_error_of operation place ≡ true → is_stopped base body ≡ false
         → ((o : OpenCall) → o.context ≡ called.context → IsChecked (can_refuse_with base body id o error parameter) None (Some (error_apdu error id parameter)) r)
         → IsChecked (can_refuse base body id place parameter) None (error_for id parameter (error_at base.tables place)) r

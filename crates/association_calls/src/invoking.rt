@@ -124,7 +124,8 @@ fn check_send(
         return Err(CallRefusal::NotTyped);
     }
     let apdu = invoke_apdu(basis.alloc, operation, next_id(body), linked, argument)?;
-    if is_too_long(basis.tables, &apdu) {
+    let used = basis.tables.use_in(&apdu);
+    if is_too_long(basis.tables, used, &apdu) {
         return Err(CallRefusal::TooLong);
     }
     match room_refusal(basis, body, operation) {

@@ -1,4 +1,4 @@
-//! Marks, the turn and restarts.
+//! Which marks, turns and restarts may be called, and why not.
 
 ghost use Rattle.std.specs.Prelude.{◌≡◌};
 ghost use Rattle.end_rules.specs.Calling.{can_mark, has_activity, can_give, can_please, can_restart};

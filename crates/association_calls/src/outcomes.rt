@@ -1,4 +1,4 @@
-//! Outcomes of invocations of the peer.
+//! Which outcomes of the peer's invocations may be called, and why not.
 
 ghost use Rattle.std.specs.Prelude.{◌≡◌, Some, None, is_some};
 ghost use Rattle.std.specs.Option.{option_copied, option_map};
@@ -53,7 +53,8 @@ fn check_outcome(
     if lacks_carrier(basis, body, context) {
         return Err(CallRefusal::NoContext);
     }
-    if is_too_long(basis.tables, &apdu) {
+    let used = basis.tables.use_in(&apdu);
+    if is_too_long(basis.tables, used, &apdu) {
         return Err(CallRefusal::TooLong);
     }
     if is_queue_full(basis, body) {

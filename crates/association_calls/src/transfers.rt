@@ -1,4 +1,4 @@
-//! Transfers, and the release.
+//! Whether a transfer may be stopped or resumed and the release be called, and why not.
 
 ghost use Rattle.std.specs.Prelude.{◌≡◌, not};
 ghost use Rattle.end_rules.specs.Calling.{can_stop, can_resume, can_release};

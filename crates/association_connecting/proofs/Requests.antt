@@ -2,7 +2,7 @@
 use Rattle.std.proofs.Common.{◌≡◌, List, Bool, true, false, not, ◌&&◌, ◌||◌, Option, Some, None, refl, sym, ap, ◌∙◌}
 use Rattle.osi_base.specs.declared.presentation_word.PresentationConnect.{PresentationConnect}
 use Rattle.end_rules.specs.Base.{Base, Fault}
-use Rattle.end_rules.specs.Messages.{Value}
+use Rattle.end_rules.specs.Messages.{DataValue}
 use Rattle.osi_base.specs.declared.presentation_word.PresentationAccept.{PresentationAccept}
 use Rattle.end_rules.specs.Sets.{fit_proposals}
 use Rattle.end_rules.specs.Writing.{proposals}
@@ -29,7 +29,7 @@ both true true h e = refl
 both true false h e = cc
 both false b h e = cc
 
-pub requested : (base : Base) (p : PresentationConnect) (values : List Value) → connect_fault base p values ≡ None → has_acse (set_for base p) ≡ true → is_request (the_one values) ≡ true
+pub requested : (base : Base) (p : PresentationConnect) (values : List DataValue) → connect_fault base p values ≡ None → has_acse (set_for base p) ≡ true → is_request (the_one values) ≡ true
 requested base p values free has =
     both (has_acse (set_for base p)) (is_request (the_one values)) (no_fault _ _ (no_first _ _ (no_later _ _ free))) has
 
@@ -46,10 +46,10 @@ not_false true h = refl
 not_false false h = cc
 
 -- one that isn't refused gets association control
-pub has_control : (base : Base) (body : Body) (session : SessionConnect) (p : PresentationConnect) (values : List Value) → is_refused base body session p values ≡ false → has_acse (set_for base p) ≡ true
+pub has_control : (base : Base) (body : Body) (session : SessionConnect) (p : PresentationConnect) (values : List DataValue) → is_refused base body session p values ≡ false → has_acse (set_for base p) ≡ true
 has_control base body session p values h =
     not_false _ (right_false _ _ (left_false _ _ (right_false (session_refuses base session) (presentation_refuses base p values) (left_false _ _ h))))
 
 -- what may not stand in an AC whose results fit
-pub fits_then : (base : Base) (p : PresentationAccept) (values : List Value) (r : Option Fault) → fit_proposals (proposals base) p.results ≡ true → r ≡ accepted_fault base (set_accepted base p) values → r ≡ accept_fault base p values
+pub fits_then : (base : Base) (p : PresentationAccept) (values : List DataValue) (r : Option Fault) → fit_proposals (proposals base) p.results ≡ true → r ≡ accepted_fault base (set_accepted base p) values → r ≡ accept_fault base p values
 fits_then base p values r fit e = e ∙ ap (λ (b : Bool). or_fault (fault_if (not b) invalid_ppdu) (accepted_fault base (set_accepted base p) values)) (sym fit)

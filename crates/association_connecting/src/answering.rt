@@ -10,7 +10,7 @@ ghost use Rattle.association_state.specs.Seen.{base_in, seen};
 
 use crate::agreeing::{Agreed, agreed_with, data_for};
 use crate::associated::{context_named, rtse_in, user_of};
-use crate::connecting::{has_acse, lacks_request, session_refuses, transfer_rejection};
+use crate::connect_faults::{has_acse, lacks_request, session_refuses, transfer_rejection};
 use crate::joining::Terms;
 use association_sends::{
     Response, accept_message, information, provider_refusal, refuse_message, rtse_context,

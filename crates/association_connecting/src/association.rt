@@ -11,10 +11,10 @@ ghost use Rattle.association_words.specs.Seen.{seen_fault, seen_values, seen_ass
 ghost use Rattle.association_state.specs.Seen.{base_in, seen};
 ghost use Rattle.association_answers.specs.Reacted.{TakenAs};
 
-use crate::accepting::{accept_fault, take_accept};
 use crate::associated::{is_release_request, is_release_response};
-use crate::connecting::connect_fault;
-use crate::refusing::take_connect;
+use crate::connect_faults::connect_fault;
+use crate::taking_accept::{accept_fault, take_accept};
+use crate::taking_connect::take_connect;
 use association_answers::{Taken, answered, over, push_cuts, quiet, told};
 use association_sends::disconnect_message;
 use association_sets::copy_set;

@@ -1,13 +1,13 @@
 //! How an end of an association takes an opening, its answer, a refusal, a release and an abort.
 #![tactic(auto)]
 
-mod accepting;
 mod agreeing;
 mod answering;
 mod associated;
 mod association;
-mod connecting;
+mod connect_faults;
 mod joining;
-mod refusing;
+mod taking_accept;
+mod taking_connect;
 
 pub use association::{association_fault, contexts_for, take_association};

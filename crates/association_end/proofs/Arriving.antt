@@ -15,7 +15,7 @@ use Rattle.association_words.specs.Seen.{seen_value, seen_arrived, seen_fault}
 use Rattle.association_meaning.specs.declared.basis.Halt.{Halt}
 use Rattle.association_meaning.specs.declared.basis.Halt.TheVariants as halts
 use Rattle.association_meaning.specs.Grounds.{FailsAs}
-use Rattle.association_reacting.specs.Ends.{Arrives}
+use Rattle.association_reacting.specs.ActivityEnds.{Arrives}
 
 -- the octets under a set, by their parts
 pub read_so : (tables other : Tables) (set held : List SetItem) (octets pieces : List ℕ) → tables ≡ other → set ≡ held → octets ≡ pieces → arrived_at tables set octets ≡ arrived_at other held pieces
@@ -30,7 +30,7 @@ module _ (b : Base) (body : Body) where
 
   pub arrives_value : (arrived : Arrived) (value : Value) → body.receiving.was_handed ≡ false → arrived_now b body ≡ Ok (seen_arrived arrived) → seen_value value ≡ arrived_value (seen_arrived arrived) → Arrives b body (Some value)
   arrives_value arrived value h r v = record {
-    value_is = ap (λ (x : meant.Value). x ∷ []) v ∙ ap values_arrived (sym r) ∙ ap (λ (k : Bool). if k then [] else values_arrived (arrived_now b body)) (sym h);
+    value_is = ap (λ (x : meant.DataValue). x ∷ []) v ∙ ap values_arrived (sym r) ∙ ap (λ (k : Bool). if k then [] else values_arrived (arrived_now b body)) (sym h);
     sound = ap (λ (k : Bool). if k then None else fault_in (arrived_now b body)) h ∙ ap fault_in r;
   }
 

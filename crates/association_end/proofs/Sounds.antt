@@ -5,7 +5,7 @@ use Rattle.tpkt.specs.declared.packet.Packet.{Packet}
 use Rattle.tpkt.specs.declared.packet.Packet.TheVariants as packets
 use Rattle.tpkt.specs.Reader.{reading}
 use Rattle.spdu_codec.specs.declared.places.UserPlaces.{UserPlaces}
-use Rattle.spdu_codec.specs.Reading.{Fault, units_at}
+use Rattle.spdu_codec.specs.Reading.{UnitFault, units_at}
 use Rattle.spdu_codec.specs.Places.{user_places}
 use Rattle.osi_base.specs.declared.session_word.SessionWord.{SessionWord}
 use Rattle.osi_base.specs.declared.session_word.SessionWord.TheVariants as units
@@ -31,7 +31,7 @@ leading_one : (unit : SessionWord) (start : ℕ) → AreMessages (leading unit s
 leading_one (units.GiveTokens None) start = tt
 leading_one unit start = (tt, tt)
 
-of_units : (at : UserPlaces) (r : Result (List SessionWord) Fault) → AreMessages (fronts_of_units at r)
+of_units : (at : UserPlaces) (r : Result (List SessionWord) UnitFault) → AreMessages (fronts_of_units at r)
 of_units at (Ok []) = tt
 of_units at (Ok (unit ∷ [])) = (tt, tt)
 of_units at (Ok (first ∷ second ∷ more)) = both (leading first (start_of at.first)) (OfSession second (start_of at.second) ∷ []) (leading_one first (start_of at.first)) (tt, tt)

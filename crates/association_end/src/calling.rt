@@ -10,7 +10,7 @@ ghost use Rattle.association_end.specs.Changed.{wants_memory, ChangedBy};
 ghost use Rattle.association_end.specs.Reacted.{AllMayStand, sending};
 
 use crate::end::End;
-use association_requests::{Called, call};
+use association_requests::{CallOutcome, call};
 use association_words::Message;
 use dialogue::{Call, CallRefusal, Phase};
 use osi_base::NoMemory;
@@ -23,7 +23,7 @@ fn is_memory(answer: &Result<Option<i64>, CallRefusal>) -> bool
 }
 
 /// Whether memory was refused as a call was looked at.
-fn wants_memory(called: &Result<Called, CallRefusal>) -> bool
+fn wants_memory(called: &Result<CallOutcome, CallRefusal>) -> bool
     ensures { result ≡ wants_memory called.now }
 {
     matches!(called, Err(CallRefusal::NoMemory))
@@ -31,7 +31,7 @@ fn wants_memory(called: &Result<Called, CallRefusal>) -> bool
 
 impl<'t> End<'t> {
     /// Changes what the end holds by a call; where memory is refused, the end dies.
-    fn change(&mut self, asked: &Call) -> Result<Called, CallRefusal>
+    fn change(&mut self, asked: &Call) -> Result<CallOutcome, CallRefusal>
         ensures is { ChangedBy self.old self.new asked.now result }
         ensures room { IfOk result (λ called. AllMayStand (sent_by called)) }
     {
@@ -62,7 +62,7 @@ impl<'t> End<'t> {
         ensures { Answers self.old self.new asked.now result }
     {
         let called = self.change(asked)?;
-        let Called { answer, message } = called;
+        let CallOutcome { answer, message } = called;
         let sent = self.send_due(&message);
         drop(message);
         sent?;
@@ -70,8 +70,11 @@ impl<'t> End<'t> {
         Ok(answer)
     }
 
-    /// Makes a call; where memory is refused, the end dies.
-    fn call_or_die(&mut self, asked: &Call) -> Result<Option<i64>, CallRefusal>
+    /// Makes a call. A refusal is the first row of the conditions that fails, and changes nothing;
+    /// but after a refusal by want of memory the end is dead, and answers `Dead` from then on. An
+    /// accepted invocation is answered by its identifier, all else by `None`; then the end sends
+    /// all that it sends by itself.
+    pub fn call(&mut self, asked: &Call) -> Result<Option<i64>, CallRefusal>
         ensures { MatchBool (is_memory result) (DiedCalled self.old self.new asked.now)
             (Answered self.old self.new asked.now result) }
     {
@@ -80,19 +83,6 @@ impl<'t> End<'t> {
             self.body.link.phase = Phase::Dead;
             return answer;
         }
-        answer
-    }
-
-    /// Makes a call. A refusal is the first row of the conditions that fails, and changes nothing;
-    /// but after a refusal by want of memory the end is dead, and answers `Dead` from then on. An
-    /// accepted invocation is answered by its identifier, all else by `None`; then the end sends
-    /// all that it sends by itself.
-    pub fn call(&mut self, call: Call) -> Result<Option<i64>, CallRefusal>
-        ensures { MatchBool (is_memory result) (DiedCalled self.old self.new call)
-            (Answered self.old self.new call result) }
-    {
-        let answer = self.call_or_die(&call);
-        drop(call);
         answer
     }
 }

@@ -17,7 +17,7 @@ ghost use Rattle.association_state.specs.Seen.{base_in, seen};
 ghost use Rattle.association_takes.specs.Acts.{is_end};
 ghost use Rattle.association_meaning.specs.declared.basis.Halt.TheVariants as halts;
 ghost use Rattle.association_meaning.specs.Grounds.{GivesAs};
-ghost use Rattle.association_reacting.specs.Ends.{is_end_word, ArrivesAs};
+ghost use Rattle.association_reacting.specs.ActivityEnds.{is_end_word, ArrivesAs};
 ghost use Rattle.association_reacting.specs.Reacts.{ReactsAs};
 ghost use Rattle.association_end.specs.Reacted.{ReactsTo};
 ghost use Rattle.association_end.specs.Sound.{IsMessage};

@@ -3,7 +3,7 @@ use Rattle.std.proofs.Common.{◌≡◌, ℕ, List, [], ◌∷◌, ◌++◌, ref
 use Rattle.std.proofs.lemmas.List.{append-nil, map-append}
 use Rattle.end_rules.specs.Base.{Base, Head}
 use Rattle.end_rules.specs.State.{Body, Calls}
-use Rattle.end_rules.specs.Messages.{Value}
+use Rattle.end_rules.specs.Messages.{DataValue}
 use Rattle.end_rules.specs.Hearing.{Taken, hear, on_heard, head_of, take_head, take_values, then_taken}
 use Rattle.rose_roles.specs.declared.taken.RoseTaken as roses
 use Rattle.rose_roles.specs.declared.taken.RoseTaken.TheVariants as rose
@@ -24,7 +24,7 @@ ended t = λ k. record { body = t.body; answers = append-nil t.answers k; shown 
 regrouped : (a b c : Taken) → then_taken a (then_taken b c) ≡ then_taken (then_taken a b) c
 regrouped a b c = λ k. record { body = c.body; answers = sym (append_assoc a.answers b.answers c.answers) k; shown = sym (append_assoc a.shown b.shown c.shown) k }
 
-pub taken_push : (base : Base) (body : Body) (values : List Value) (value : Value)
+pub taken_push : (base : Base) (body : Body) (values : List DataValue) (value : DataValue)
     → take_values base body (values ++ value ∷ []) ≡ then_taken (take_values base body values) (take_head base (take_values base body values).body value.id (head_of base value))
 taken_push base body [] value = ended (take_head base body value.id (head_of base value))
 taken_push base body (v ∷ values) value =
@@ -35,7 +35,7 @@ taken_push base body (v ∷ values) value =
 -- ---- in code
 
 -- the taking of one value more, joined with those before
-pub took_more : (base : Base) (start now after : Body) (values : List Value) (value : Value) (all came joined : takens.Taken)
+pub took_more : (base : Base) (start now after : Body) (values : List DataValue) (value : DataValue) (all came joined : takens.Taken)
     → TookAs (take_values base start values) now all → TookAs (take_head base now value.id (head_of base value)) after came → Joined all came joined
     → TookAs (take_values base start (values ++ value ∷ [])) after joined
 took_more base start now after values value all came joined h g j =
@@ -56,11 +56,11 @@ pub took_next : (base : Base) (start now after : Body) (values : List words.Valu
     → TookAs (take_values base start (seen_values values)) now all → TookAs (take_head base now value.id (head_of base (seen_value value))) after came → Joined all came joined
     → TookAs (take_values base start (seen_values (values ++ value ∷ []))) after joined
 took_next base start now after values value all came joined h g j =
-    subst (λ (vs : List Value). TookAs (take_values base start vs) after joined) (sym (map-append seen_value values (value ∷ [])))
+    subst (λ (vs : List DataValue). TookAs (take_values base start vs) after joined) (sym (map-append seen_value values (value ∷ [])))
     (took_more base start now after (seen_values values) (seen_value value) all came joined h g j)
 
 -- one value alone
-pub took_one : (base : Base) (body after : Body) (value : Value) (came : takens.Taken) → TookAs (take_head base body value.id (head_of base value)) after came → TookAs (take_values base body (value ∷ [])) after came
+pub took_one : (base : Base) (body after : Body) (value : DataValue) (came : takens.Taken) → TookAs (take_head base body value.id (head_of base value)) after came → TookAs (take_values base body (value ∷ [])) after came
 took_one base body after value came h = subst (λ (t : Taken). TookAs t after came) (sym (ended (take_head base body value.id (head_of base value)))) h
 
 calls_told : (c : Calls) (t : roses.RoseTaken) → (heard_with c t).calls ≡ c

@@ -10,7 +10,7 @@ use asn1_types::Val;
 use association_state::Ground;
 use open_invocations::Invocations;
 use osi_base::{NoMemory, ProblemKind};
-use rose_roles::{Called, RoseTaken, rejected};
+use rose_roles::{InvokedWith, RoseTaken, rejected};
 use stub_tables::Code;
 
 /// Hears an invocation on a context.
@@ -33,7 +33,12 @@ pub(crate) fn hear_invoke(
     let Some(operation) = place else {
         return Ok(rejected(Some(id), ProblemKind::Invoke, 1));
     };
-    calls.admit(basis.tables, &id, Called { operation, context }, linked)?;
+    calls.admit(
+        basis.tables,
+        &id,
+        InvokedWith { operation, context },
+        linked,
+    )?;
     Ok(RoseTaken::Invoked {
         id,
         operation,

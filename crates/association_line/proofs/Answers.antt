@@ -6,7 +6,7 @@ use Rattle.osi_base.specs.declared.words.SetItem.{SetItem}
 use Rattle.dialogue.specs.declared.config.Mode.{Mode}
 use Rattle.dialogue.specs.declared.config.Mode.TheVariants.{Bare, Direct, Reliable}
 use Rattle.end_rules.specs.Base.{Base, is_reliable}
-use Rattle.end_rules.specs.Messages.{Message, TransportUnit, ConnectionRequest, ConnectionConfirm, DisconnectRequest, TransportError, Word, OfAssociation, OfData, OfMarks, OfActivities, AssociationWord, Connect, Accept, Refuse, Finish, Disconnect, Abort, AbortAccept, DataWord, Values, AlterContext, AlterContextAck, MarkWord, Mark, MarkAck, Restart, RestartAck, Give, Please, GiveConfirm, GiveAck, ActivityWord, Start, Resume, End, EndAck, Interrupt, InterruptAck, Discard, DiscardAck, Value}
+use Rattle.end_rules.specs.Messages.{Message, TransportUnit, ConnectionRequest, ConnectionConfirm, DisconnectRequest, TransportError, Word, OfAssociation, OfData, OfMarks, OfActivities, AssociationWord, Connect, Accept, Refuse, Finish, Disconnect, Abort, AbortAccept, DataWord, Values, AlterContext, AlterContextAck, MarkWord, Mark, MarkAck, Restart, RestartAck, Give, Please, GiveConfirm, GiveAck, ActivityWord, Start, Resume, End, EndAck, Interrupt, InterruptAck, Discard, DiscardAck, DataValue}
 use Rattle.end_rules.specs.State.{Body}
 use Rattle.end_rules.specs.Invoking.{carrier_in}
 use Rattle.end_rules.specs.Hearing.{Taken, Rejecting, queued, sent_on, with_reject, take_head, take_values, head_of, hear}
@@ -71,7 +71,7 @@ rejecting base body context None = tt
 rejecting base body context (Some r) =
     either (λ (taken : Taken). AreAnswers taken.answers) (is_reliable base.mode) (queued body context r) (sent_on body r (carrier_in base body context)) tt (rejected_on body r (carrier_in base body context))
 
-of_values : (base : Base) (body : Body) (values : List Value) → AreAnswers (take_values base body values).answers
+of_values : (base : Base) (body : Body) (values : List DataValue) → AreAnswers (take_values base body values).answers
 of_values base body [] = tt
 of_values base body (value ∷ values) =
     both_answers (take_head base body value.id (head_of base value)).answers

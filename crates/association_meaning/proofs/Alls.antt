@@ -13,7 +13,7 @@ use Rattle.association_meaning.specs.Grounds.{FailsAs}
 use Rattle.association_meaning.specs.Steps.{checked, joined}
 
 abbrev Values : Type 0
-Values = Result (List meant.Value) Fault
+Values = Result (List meant.DataValue) Fault
 
 -- ---- once contexts and forms were looked at
 
@@ -33,10 +33,10 @@ wrong_values NoMemory x v h = tt
 
 pub seen_on : (vs : List Value) (v : Value) → seen_values (vs ++ v ∷ []) ≡ seen_values vs ++ seen_value v ∷ []
 seen_on [] v = refl
-seen_on (w ∷ vs) v = ap (λ (xs : List meant.Value). seen_value w ∷ xs) (seen_on vs v)
+seen_on (w ∷ vs) v = ap (λ (xs : List meant.DataValue). seen_value w ∷ xs) (seen_on vs v)
 
-joined_on : (vs : List meant.Value) (v : meant.Value) (more : Values) → joined (vs ++ v ∷ []) more ≡ joined vs (before_values (Ok v) more)
-joined_on vs v (Ok xs) = ap (λ (ys : List meant.Value). let r : Values = Ok ys in r) (append_assoc vs (v ∷ []) xs)
+joined_on : (vs : List meant.DataValue) (v : meant.DataValue) (more : Values) → joined (vs ++ v ∷ []) more ≡ joined vs (before_values (Ok v) more)
+joined_on vs v (Ok xs) = ap (λ (ys : List meant.DataValue). let r : Values = Ok ys in r) (append_assoc vs (v ∷ []) xs)
 joined_on vs v (Err f) = refl
 
 drop_at : (xs : List Pdv) (i : ℕ) (d : Pdv) → i < length xs → drop i xs ≡ get_or xs i d ∷ drop (suc i) xs
@@ -44,7 +44,7 @@ drop_at [] i d lt = absurd (omega arith)
 drop_at (x ∷ xs) zero d lt = refl
 drop_at (x ∷ xs) (suc i) d lt = drop_at xs i d (omega (arith, lt))
 
-module _ (read : Pdv → Result meant.Value Fault) (xs : List Pdv) (i : ℕ) (d : Pdv) (lt : i < length xs) (vs : List Value)
+module _ (read : Pdv → Result meant.DataValue Fault) (xs : List Pdv) (i : ℕ) (d : Pdv) (lt : i < length xs) (vs : List Value)
     (so_far : joined (seen_values vs) (all_values read (drop i xs)) ≡ all_values read xs) where
   here : joined (seen_values vs) (before_values (read (get_or xs i d)) (all_values read (drop (suc i) xs))) ≡ all_values read xs
   here = ap (λ (ys : List Pdv). joined (seen_values vs) (all_values read ys)) (sym (drop_at xs i d lt)) ∙ so_far
@@ -53,19 +53,19 @@ module _ (read : Pdv → Result meant.Value Fault) (xs : List Pdv) (i : ℕ) (d 
   all_step v new e pushed =
       rw add-one (
       ap (λ (ys : List Value). joined (seen_values ys) (all_values read (drop (suc i) xs))) pushed
-      ∙ ap (λ (ys : List meant.Value). joined ys (all_values read (drop (suc i) xs))) (seen_on vs v)
+      ∙ ap (λ (ys : List meant.DataValue). joined ys (all_values read (drop (suc i) xs))) (seen_on vs v)
       ∙ joined_on (seen_values vs) (seen_value v) (all_values read (drop (suc i) xs))
-      ∙ ap (λ (r : Result meant.Value Fault). joined (seen_values vs) (before_values r (all_values read (drop (suc i) xs)))) (sym e)
+      ∙ ap (λ (r : Result meant.DataValue Fault). joined (seen_values vs) (before_values r (all_values read (drop (suc i) xs)))) (sym e)
       ∙ here)
 
-  pub fails_at : (e : Halt) (r : Result meant.Value Fault) → read (get_or xs i d) ≡ r → FailsAs e r → FailsAs e (all_values read xs)
+  pub fails_at : (e : Halt) (r : Result meant.DataValue Fault) → read (get_or xs i d) ≡ r → FailsAs e r → FailsAs e (all_values read xs)
   fails_at (Faulty f) (Ok v) at h = absurd cc
   fails_at (Faulty f) (Err g) at h =
-      sym here ∙ ap (λ (r : Result meant.Value Fault). joined (seen_values vs) (before_values r (all_values read (drop (suc i) xs)))) (at ∙ h)
+      sym here ∙ ap (λ (r : Result meant.DataValue Fault). joined (seen_values vs) (before_values r (all_values read (drop (suc i) xs)))) (at ∙ h)
   fails_at NoMemory r at h = tt
 
-pub all_done : (read : Pdv → Result meant.Value Fault) (xs : List Pdv) (i : ℕ) (vs : List Value) → length xs ≤ i → joined (seen_values vs) (all_values read (drop i xs)) ≡ all_values read xs → all_values read xs ≡ Ok (seen_values vs)
+pub all_done : (read : Pdv → Result meant.DataValue Fault) (xs : List Pdv) (i : ℕ) (vs : List Value) → length xs ≤ i → joined (seen_values vs) (all_values read (drop i xs)) ≡ all_values read xs → all_values read xs ≡ Ok (seen_values vs)
 all_done read xs i vs le so_far =
     sym so_far
     ∙ ap (λ (ys : List Pdv). joined (seen_values vs) (all_values read ys)) (drop_all i xs le)
-    ∙ ap (λ (ys : List meant.Value). let r : Values = Ok ys in r) (append-nil (seen_values vs))
+    ∙ ap (λ (ys : List meant.DataValue). let r : Values = Ok ys in r) (append-nil (seen_values vs))

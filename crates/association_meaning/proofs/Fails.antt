@@ -12,7 +12,7 @@ use Rattle.osi_base.specs.declared.presentation_word.PresentationReject.{Present
 use Rattle.osi_base.specs.declared.presentation_word.PresentationWord.{PresentationWord}
 use Rattle.stub_tables.specs.declared.tables.Tables.{Tables}
 use Rattle.end_rules.specs.Base.{Base, Fault}
-use Rattle.end_rules.specs.Messages.{Value, ValueContent, Information, Accepting, AbortData, Word}
+use Rattle.end_rules.specs.Messages.{DataValue, ValueContent, Information, Accepting, AbortData, Word}
 use Rattle.association_reading.specs.declared.carried.Carriage.{Carriage}
 use Rattle.association_reading.specs.Places.{PdvPlaces}
 use Rattle.association_reading.specs.Values.{with_content, with_user, and_informed}
@@ -65,7 +65,7 @@ pub refused_fails : (e : Halt) (base : Base) (transport reason : Option ℕ) (st
 refused_fails (Faulty f) base transport reason start user r h = ap (words.refused base transport reason start user) h
 refused_fails NoMemory base transport reason start user r h = tt
 
-pub values_fail : (e : Halt) (word : List Value → Word) (r : Result (List Value) Fault) → FailsAs e r → FailsAs e (with_values word r)
+pub values_fail : (e : Halt) (word : List DataValue → Word) (r : Result (List DataValue) Fault) → FailsAs e r → FailsAs e (with_values word r)
 values_fail (Faulty f) word r h = ap (with_values word) h
 values_fail NoMemory word r h = tt
 
@@ -73,7 +73,7 @@ pub abort_fails : (e : Halt) (base : Base) (set : List SetItem) (places : List P
 abort_fails (Faulty f) base set places r h = ap (words.abort_of base set places) h
 abort_fails NoMemory base set places r h = tt
 
-pub as_values_fail : (e : Halt) (r : Result (List Value) Fault) → FailsAs e r → FailsAs e (words.as_values r)
+pub as_values_fail : (e : Halt) (r : Result (List DataValue) Fault) → FailsAs e r → FailsAs e (words.as_values r)
 as_values_fail (Faulty f) r h = ap words.as_values h
 as_values_fail NoMemory r h = tt
 
@@ -95,11 +95,11 @@ pub as_read_fails : (e : Halt) (r : Result Information Fault) → FailsAs e r �
 as_read_fails (Faulty f) r h = ap as_read h
 as_read_fails NoMemory r h = tt
 
-pub user_fails : (e : Halt) (value : Value) (apdu : Acse) (r : Result (List Information) Fault) → FailsAs e r → FailsAs e (with_user value apdu r)
+pub user_fails : (e : Halt) (value : DataValue) (apdu : Acse) (r : Result (List Information) Fault) → FailsAs e r → FailsAs e (with_user value apdu r)
 user_fails (Faulty f) value apdu r h = ap (with_user value apdu) h
 user_fails NoMemory value apdu r h = tt
 
-pub informed_fails : (e : Halt) (base : Base) (accepted : List SetItem) (is_kind : Acse → Bool) (r : Result (List Value) Fault) → FailsAs e r → FailsAs e (and_informed base accepted is_kind r)
+pub informed_fails : (e : Halt) (base : Base) (accepted : List SetItem) (is_kind : Acse → Bool) (r : Result (List DataValue) Fault) → FailsAs e r → FailsAs e (and_informed base accepted is_kind r)
 informed_fails (Faulty f) base accepted is_kind r h = ap (and_informed base accepted is_kind) h
 informed_fails NoMemory base accepted is_kind r h = tt
 

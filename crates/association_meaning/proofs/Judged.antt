@@ -26,7 +26,7 @@ use Rattle.association_meaning.proofs.Wrongs.{told, told_pdv, told_form, told_fi
 use Rattle.association_meaning.proofs.Alls.{right_values, wrong_values}
 
 module _ (places : List PdvPlaces) (wrong : Pdv → Option PdvField) (fault : PdvPlaces → Pdv → Option Fault)
-    (same : (at : PdvPlaces) (pdv : Pdv) → told at (wrong pdv) ≡ fault at pdv) (pdvs : List Pdv) (v : Result (List meant.Value) Fault) (w : Option Wrong)
+    (same : (at : PdvPlaces) (pdv : Pdv) → told at (wrong pdv) ≡ fault at pdv) (pdvs : List Pdv) (v : Result (List meant.DataValue) Fault) (w : Option Wrong)
     (first : w ≡ first_wrong 0 wrong pdvs) where
   told_here : told_wrong places w ≡ first_fault fault places pdvs
   told_here = ap (told_wrong places) first ∙ told_first places wrong fault same pdvs

@@ -14,7 +14,7 @@ use Rattle.presentation_pdus.specs.declared.place.PpduFault.TheVariants as why
 use Rattle.presentation_pdus.specs.Units.{ppdu_at}
 use Rattle.end_rules.specs.Base.{Base, Fault}
 use Rattle.end_rules.specs.State.{Body}
-use Rattle.end_rules.specs.Messages.{Value, Accepting, ProviderReason, UserValues, Word, OfAssociation, Finish, Disconnect, Abort, OfData, Values, OfMarks, Please}
+use Rattle.end_rules.specs.Messages.{DataValue, Accepting, ProviderReason, UserValues, Word, OfAssociation, Finish, Disconnect, Abort, OfData, Values, OfMarks, Please}
 use Rattle.association_reading.specs.declared.carried.Carriage.{Carriage}
 use Rattle.association_reading.specs.declared.carried.Carriage.TheVariants as carriage
 use Rattle.association_reading.specs.Places.{pdv_places}
@@ -82,7 +82,7 @@ natural_is None = refl
 natural_is (Some (pos n)) = refl
 natural_is (Some (negsuc n)) = refl
 
-values_abort : (transport : Option ℕ) (r : Result (List Value) Fault) → with_abort transport (as_values r) ≡ reading.with_values (λ values. OfAssociation (Abort transport (UserValues values))) r
+values_abort : (transport : Option ℕ) (r : Result (List DataValue) Fault) → with_abort transport (as_values r) ≡ reading.with_values (λ values. OfAssociation (Abort transport (UserValues values))) r
 values_abort transport (Ok vs) = refl
 values_abort transport (Err f) = refl
 
@@ -104,7 +104,7 @@ aborted_is base body transport start user (Err why.NoMemory) = refl
 
 -- ---- values alone
 
-module _ (base : Base) (body : Body) (carried : Carriage) (word : List Value → Word) (carrier : PpduPlace) (start : ℕ) (user : List ℕ) where
+module _ (base : Base) (body : Body) (carried : Carriage) (word : List DataValue → Word) (carrier : PpduPlace) (start : ℕ) (user : List ℕ) where
   data_is : (r : Read) → reading.with_values word (under base.tables body.sets.held carried (pdv_places carrier start user) (data_in start r)) ≡ reading.on_ppdu start r (reading.data_meaning base body carried word carrier start user)
   data_is (Ok (pdus.Connect p)) = refl
   data_is (Ok (pdus.Accept p)) = refl

@@ -5,7 +5,7 @@ use Rattle.osi_base.specs.declared.words.SetItem.{SetItem}
 use Rattle.osi_base.specs.declared.presentation_word.PresentationConnect.{PresentationConnect}
 use Rattle.osi_base.specs.declared.presentation_word.PresentationAccept.{PresentationAccept}
 use Rattle.end_rules.specs.Base.{Base, Fault}
-use Rattle.end_rules.specs.Messages.{Value}
+use Rattle.end_rules.specs.Messages.{DataValue}
 use Rattle.end_rules.specs.Policy.{is_faulty_proposal}
 use Rattle.end_rules.specs.Connecting.{set_for, set_accepted}
 use Rattle.association_reading.specs.Places.{PdvPlaces}
@@ -13,7 +13,7 @@ use Rattle.association_reading.specs.Association.{stands, accept_values, connect
 use Rattle.association_meaning.specs.Steps.{values_for, accepted_values}
 
 abbrev Values : Type 0
-Values = Result (List Value) Fault
+Values = Result (List DataValue) Fault
 
 where_true : (b : Bool) (v w : Values) → b ≡ true → (if b then v else w) ≡ v
 where_true true v w e = refl

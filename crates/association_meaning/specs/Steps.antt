@@ -18,7 +18,7 @@ use Rattle.end_rules.specs.Base.{Base, Fault, Arrived}
 use Rattle.end_rules.specs.Connecting.{has_acse}
 use Rattle.end_rules.specs.Faults.{fault_at, invalid_ppdu}
 use Rattle.end_rules.specs.Sets.{pair_of}
-use Rattle.end_rules.specs.Messages.{Value}
+use Rattle.end_rules.specs.Messages.{DataValue}
 use Rattle.pdv_places.specs.declared.places.PdvField.{PdvField}
 use Rattle.pdv_places.specs.declared.places.PdvField.TheVariants as fields
 use Rattle.pdv_places.specs.Seen.{place_in, places_at}
@@ -84,21 +84,21 @@ checked (Some fault) = Err fault
 -- ---- values one after the other
 
 -- values that were read, and those behind them
-abbrev pub joined : List Value → Result (List Value) Fault → Result (List Value) Fault
+abbrev pub joined : List DataValue → Result (List DataValue) Fault → Result (List DataValue) Fault
 joined values (Ok more) = Ok (values ++ more)
 joined values (Err fault) = Err fault
 
 -- ---- values of a CN whose list may stand, and of an AC that stands
 
-abbrev pub values_associated : Base → PresentationConnect → List SetItem → List PdvPlaces → Result (List Value) Fault
+abbrev pub values_associated : Base → PresentationConnect → List SetItem → List PdvPlaces → Result (List DataValue) Fault
 values_associated base presentation set places = and_informed base set is_aarq (values_under base.tables set carriage.Association places presentation.user)
 
-abbrev pub values_for : Base → PresentationConnect → List SetItem → List PdvPlaces → Result (List Value) Fault
+abbrev pub values_for : Base → PresentationConnect → List SetItem → List PdvPlaces → Result (List DataValue) Fault
 values_for base presentation set places =
     if has_acse set then values_associated base presentation set places
     else left_values base presentation.definitions set places presentation.user
 
-abbrev pub accepted_values : Base → PresentationAccept → List SetItem → List PdvPlaces → Result (List Value) Fault
+abbrev pub accepted_values : Base → PresentationAccept → List SetItem → List PdvPlaces → Result (List DataValue) Fault
 accepted_values base presentation set places = and_informed base set is_acceptance (values_under base.tables set carriage.Association places presentation.user)
 
 -- values of which no contexts are asked

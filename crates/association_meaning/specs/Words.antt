@@ -17,7 +17,7 @@ use Rattle.presentation_pdus.specs.Units.{ppdu_at}
 use Rattle.stub_tables.specs.declared.tables.Tables.{Tables}
 use Rattle.end_rules.specs.Base.{Base, Fault}
 use Rattle.end_rules.specs.Faults.{invalid_ppdu}
-use Rattle.end_rules.specs.Messages.{Value, Accepting, AbortData, NoData, ProviderReason, UserValues, Word, OfAssociation, Connect, Accept, Refuse, Finish, Disconnect, Abort, AbortAccept, OfData, Values, OfMarks, Mark, MarkAck, Restart, RestartAck, Give, Please, GiveConfirm, GiveAck, OfActivities, Start, Resume, End, EndAck, Interrupt, InterruptAck, Discard, DiscardAck}
+use Rattle.end_rules.specs.Messages.{DataValue, Accepting, AbortData, NoData, ProviderReason, UserValues, Word, OfAssociation, Connect, Accept, Refuse, Finish, Disconnect, Abort, AbortAccept, OfData, Values, OfMarks, Mark, MarkAck, Restart, RestartAck, Give, Please, GiveConfirm, GiveAck, OfActivities, Start, Resume, End, EndAck, Interrupt, InterruptAck, Discard, DiscardAck}
 use Rattle.association_reading.specs.declared.carried.Carriage.{Carriage}
 use Rattle.association_reading.specs.declared.carried.Carriage.TheVariants as carriage
 use Rattle.association_reading.specs.Places.{PdvPlaces, pdv_places}
@@ -85,7 +85,7 @@ abbrev pub refused_with : Base → Option ℕ → Option ℕ → ℕ → Option 
 refused_with base transport reason start None = Ok (OfAssociation (Refuse transport reason None []))
 refused_with base transport reason start (Some user) = refused base transport reason start user (reject_in start (ppdu_at place.Rf user))
 
-abbrev pub as_values : Result (List Value) Fault → Result AbortData Fault
+abbrev pub as_values : Result (List DataValue) Fault → Result AbortData Fault
 as_values (Ok values) = Ok (UserValues values)
 as_values (Err fault) = Err fault
 
@@ -114,11 +114,11 @@ aborted_with base set transport start (Some user) = aborted base set transport s
 
 -- ---- values alone
 
-abbrev pub under : Tables → List SetItem → Carriage → List PdvPlaces → Result (List Pdv) Fault → Result (List Value) Fault
+abbrev pub under : Tables → List SetItem → Carriage → List PdvPlaces → Result (List Pdv) Fault → Result (List DataValue) Fault
 under tables held carried places (Ok pdvs) = values_under tables held carried places pdvs
 under tables held carried places (Err fault) = Err fault
 
-abbrev pub values_with : Tables → List SetItem → Carriage → PpduPlace → ℕ → List ℕ → Result (List Value) Fault
+abbrev pub values_with : Tables → List SetItem → Carriage → PpduPlace → ℕ → List ℕ → Result (List DataValue) Fault
 values_with tables held carried carrier start user = under tables held carried (pdv_places carrier start user) (data_in start (ppdu_at carrier user))
 
 abbrev pub finished : Tables → List SetItem → Option ℕ → ℕ → List ℕ → Result Word Fault

@@ -1,4 +1,4 @@
-pub mod Ends
+pub mod NewestEnd
 pub mod Nodes
 pub mod Pieces
 pub mod Link

@@ -4,7 +4,7 @@ ghost use Rattle.std.specs.Prelude.{◌≡◌, ◌<◌, [], ◌∷◌, suc, leng
 ghost use Rattle.osi_base.specs.Limits.{most_32};
 ghost use Rattle.end_rules.specs.State.{Octets as octets_piece, Marked as marked_piece, joined, highest, newest_set, from_mark, up_to};
 ghost use Rattle.end_rules.specs.ByItself.{ends_in_octets};
-ghost use Rattle.association_pieces.specs.Ends.{starts_at, front_octets};
+ghost use Rattle.association_pieces.specs.NewestEnd.{starts_at, front_octets};
 
 use crate::piece::Piece;
 use crate::stack::Stack;
@@ -101,7 +101,7 @@ impl Pieces {
     }
 
     /// The set of the newest mark with this number; none where there is none.
-    #[tactic(auto, using(crate::proofs::Ends::left_at))]
+    #[tactic(auto, using(crate::proofs::NewestEnd::left_at))]
     pub fn set_of(&self, n: u32) -> &[SetItem]
         ensures { result.now ≡ newest_set (from_mark n self.now) }
     {
@@ -152,7 +152,7 @@ impl Pieces {
 }
 
 /// All octets of pieces that are given from the first to the newest.
-#[tactic(auto, using(crate::proofs::Ends::joined_push))]
+#[tactic(auto, using(crate::proofs::NewestEnd::joined_push))]
 fn join(alloc: Global, pieces: &[Piece]) -> Result<Octets, NoMemory>
     ensures { IfOk result (λ octets. octets ≡ joined (reverse pieces.now)) }
 {
@@ -199,7 +199,7 @@ fn cut_stack(stack: &mut Stack<Piece>, octets: usize, n: u32) -> usize
 }
 
 /// The number of the newest mark.
-#[tactic(auto, using(crate::proofs::Ends::left_at))]
+#[tactic(auto, using(crate::proofs::NewestEnd::left_at))]
 fn highest_in(stack: &Stack<Piece>) -> u32
     ensures highest { result ≡ highest stack.now }
     ensures fits { result < most_32 }

@@ -2,7 +2,7 @@
 
 ghost use Rattle.std.specs.Prelude.{◌≡◌, [], ◌∷◌, suc, nat_lt, slice_get, IfOk, OnOk};
 ghost use Rattle.end_rules.specs.Sets.{below, newest, next_number};
-ghost use Rattle.association_pieces.specs.Ends.{starts_below, rest};
+ghost use Rattle.association_pieces.specs.NewestEnd.{starts_below, rest};
 
 use crate::stack::Stack;
 use osi_base::{NoMemory, SetItem, SetList};
@@ -105,7 +105,7 @@ impl SavedSets {
     }
 
     /// The set that was saved last under a number below this one; none where there is none.
-    #[tactic(auto, using(crate::proofs::Ends::left_at))]
+    #[tactic(auto, using(crate::proofs::NewestEnd::left_at))]
     pub fn set_below(&self, n: u32) -> &[SetItem]
         ensures { result.now ≡ newest (below n self.now) }
     {

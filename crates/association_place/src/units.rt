@@ -1,4 +1,4 @@
-//! All units, before they are read further.
+//! Whether a unit of the session whose values aren't read yet may stand where it comes.
 
 ghost use Rattle.std.specs.Prelude.{◌≡◌};
 ghost use Rattle.end_rules.specs.InPlace.{may_accept, is_in_place};

@@ -1,4 +1,4 @@
-//! All units.
+//! Whether a message may stand where it comes, by its kind.
 
 ghost use Rattle.std.specs.Prelude.{◌≡◌};
 ghost use Rattle.end_rules.specs.Messages.{unit_of};

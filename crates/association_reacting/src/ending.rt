@@ -6,7 +6,7 @@ ghost use Rattle.end_rules.specs.Base.{is_bare};
 ghost use Rattle.end_rules.specs.Messages.{End as rule_end, OfActivities, Session};
 ghost use Rattle.end_rules.specs.Reacting.{on_word, word_fault, react_to_word, react};
 ghost use Rattle.association_state.specs.Seen.{base_in, seen};
-ghost use Rattle.association_reacting.specs.Ends.{ArrivesAs};
+ghost use Rattle.association_reacting.specs.ActivityEnds.{ArrivesAs};
 ghost use Rattle.association_reacting.specs.Reacts.{ReactsAs};
 
 use crate::faults::{fails_on_accepted, has_connection};

@@ -6,7 +6,7 @@ ghost use Rattle.end_rules.specs.Base.{is_bare};
 ghost use Rattle.end_rules.specs.Reacting.{react_to_word, react_to_transport, react};
 ghost use Rattle.association_words.specs.Seen.{seen_message, seen_word, seen_transport};
 ghost use Rattle.association_state.specs.Seen.{base_in, seen};
-ghost use Rattle.association_reacting.specs.Ends.{is_end_word, is_end_message};
+ghost use Rattle.association_reacting.specs.ActivityEnds.{is_end_word, is_end_message};
 ghost use Rattle.association_reacting.specs.Reacts.{ReactsAs};
 
 use crate::faults::{fails_on_accepted, has_connection};

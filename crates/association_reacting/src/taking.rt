@@ -5,7 +5,7 @@ ghost use Rattle.end_rules.specs.Reacting.{fails as rule_fails, word_fault, on_w
 ghost use Rattle.association_words.specs.Seen.{seen_fault, seen_word};
 ghost use Rattle.association_state.specs.Seen.{base_in, seen};
 ghost use Rattle.association_answers.specs.Reacted.{TakenAs};
-ghost use Rattle.association_reacting.specs.Ends.{is_end_word};
+ghost use Rattle.association_reacting.specs.ActivityEnds.{is_end_word};
 ghost use Rattle.association_reacting.specs.Reacts.{ReactsAs};
 
 use crate::faults::word_fault;

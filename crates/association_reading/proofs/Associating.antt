@@ -28,7 +28,7 @@ use Rattle.end_rules.specs.Base.{Base, Fault, acse_name, is_reliable}
 use Rattle.end_rules.specs.Sets.{pair_of}
 use Rattle.end_rules.specs.State.{Body}
 use Rattle.end_rules.specs.Faults.{or_fault}
-use Rattle.end_rules.specs.Messages.{Information, Transferring, Other, ValueContent, Association, Value, Accepting, UserValues, ProviderReason, Word, OfAssociation, Connect, Accept, Refuse, Abort}
+use Rattle.end_rules.specs.Messages.{Information, Transferring, Other, ValueContent, Association, DataValue, Accepting, UserValues, ProviderReason, Word, OfAssociation, Connect, Accept, Refuse, Abort}
 use Rattle.end_rules.specs.Writing.{acse_pair}
 use Rattle.end_rules.specs.Connecting.{set_for, set_accepted, has_acse}
 use Rattle.end_rules.specs.Policy.{is_faulty_proposal}
@@ -117,20 +117,20 @@ keeps-abort (acse.Abort source before) user e = refl
 abbrev the_content : ValueContent → Result ValueContent Fault
 the_content c = Ok c
 
-abbrev the_values : List Value → Result (List Value) Fault
+abbrev the_values : List DataValue → Result (List DataValue) Fault
 the_values vs = Ok vs
 
 -- the value with its user information as octets, and as it is
-abbrev value_so : ℕ → Acse → List Information → Value
+abbrev value_so : ℕ → Acse → List Information → DataValue
 value_so id apdu user = record { id = id; pair = Some acse_pair; content = Association apdu user }
 
 module _ (base : Base) (accepted : List SetItem) (is_kind : Acse → Bool) (keeps : KeepsUser is_kind) where
-  content-back : (values : List Value) (one : CarriesOne base accepted is_kind values) → acse_content (acse_at (written_acse (user_put one.user one.apdu))) ≡ the_content (Association one.apdu (as_octets one.user))
+  content-back : (values : List DataValue) (one : CarriesOne base accepted is_kind values) → acse_content (acse_at (written_acse (user_put one.user one.apdu))) ≡ the_content (Association one.apdu (as_octets one.user))
   content-back values one =
       ap acse_content (written_acse_is_read (user_put one.user one.apdu) one.writable).1
       ∙ (λ i. the_content (Association ((alone-again one.apdu one.user ∙ one.alone) i) (map other (keeps one.apdu one.user one.of_kind i))))
 
-  informed-back : (values : List Value) (one : CarriesOne base accepted is_kind values) → and_informed base accepted is_kind (the_values (value_so one.id one.apdu (as_octets one.user) ∷ [])) ≡ the_values (value_so one.id one.apdu one.user ∷ [])
+  informed-back : (values : List DataValue) (one : CarriesOne base accepted is_kind values) → and_informed base accepted is_kind (the_values (value_so one.id one.apdu (as_octets one.user) ∷ [])) ≡ the_values (value_so one.id one.apdu one.user ∷ [])
   informed-back values one = go (is_reliable base.mode) refl one.informed
     where
       go : (b : Bool) → is_reliable base.mode ≡ b → IsInformed (is_reliable base.mode) accepted one.user
@@ -144,14 +144,14 @@ module _ (base : Base) (accepted : List SetItem) (is_kind : Acse → Bool) (keep
           ∙ ap (λ (r : Result (List Information) Fault). with_user (value_so one.id one.apdu (as_octets one.user)) one.apdu r) (read-back accepted one.user (subst (λ (b : Bool). IsInformed b accepted one.user) e h))
 
   -- no context is asked of it
-  unasked-back : (tables : Tables) (places : List PdvPlaces) (values : List Value) (one : CarriesOne base accepted is_kind values)
+  unasked-back : (tables : Tables) (places : List PdvPlaces) (values : List DataValue) (one : CarriesOne base accepted is_kind values)
       → and_informed base accepted is_kind (unasked_values places (pdvs_of tables (value_so one.id one.apdu one.user ∷ []))) ≡ the_values (value_so one.id one.apdu one.user ∷ [])
   unasked-back tables places values one =
       ap (λ (r : Result ValueContent Fault). and_informed base accepted is_kind (before_values (with_content one.id (Some acse_pair) r) (the_values []))) (content-back values one)
       ∙ informed-back values one
 
   -- on its context
-  under-back : (tables : Tables) (places : List PdvPlaces) (values : List Value) (one : CarriesOne base accepted is_kind values) → pair_of accepted one.id ≡ Some acse_pair
+  under-back : (tables : Tables) (places : List PdvPlaces) (values : List DataValue) (one : CarriesOne base accepted is_kind values) → pair_of accepted one.id ≡ Some acse_pair
       → and_informed base accepted is_kind (values_under tables accepted carriage.Association places (pdvs_of tables (value_so one.id one.apdu one.user ∷ []))) ≡ the_values (value_so one.id one.apdu one.user ∷ [])
   under-back tables places values one on_it =
       ap (λ (p : Option Pair). and_informed base accepted is_kind
@@ -180,7 +180,7 @@ associations = record {
       ∙ ap (λ (r : Option ℕ). the_word (OfAssociation (Abort transport (ProviderReason r)))) (natural-back reason);
 }
   where
-    connects : (base : Base) (body : Body) (start : ℕ) (session : SessionConnect) (presentation : PresentationConnect) (values : List Value) → session.user ≡ [] → presentation.user ≡ []
+    connects : (base : Base) (body : Body) (start : ℕ) (session : SessionConnect) (presentation : PresentationConnect) (values : List DataValue) → session.user ≡ [] → presentation.user ≡ []
         → is_faulty_proposal true [] presentation.definitions ≡ false → has_acse (set_for base presentation) ≡ true → CarriesOneOn base (set_for base presentation) is_aarq values
         → IsWrittenIn place.Cn (ppdus.Connect (record presentation { user = pdvs_of base.tables values }))
         → on_ppdu start (ppdu_at place.Cn (written_ppdu (ppdus.Connect (record presentation { user = pdvs_of base.tables values }))))
@@ -188,12 +188,12 @@ associations = record {
     connects base body start session presentation values s p faulty has h w =
         let user : List ℕ = written_ppdu (ppdus.Connect (record presentation { user = pdvs_of base.tables values })) in
         let set : List SetItem = set_for base presentation in
-        let words : List Value → Word = λ vs. OfAssociation (Connect (record session { user = [] }) (record presentation { user = [] }) vs) in
+        let words : List DataValue → Word = λ vs. OfAssociation (Connect (record session { user = [] }) (record presentation { user = [] }) vs) in
         let places : List PdvPlaces = pdv_places place.Cn start user in
-        let under : Result (List Value) Fault = and_informed base set is_aarq (values_under base.tables set carriage.Association places (pdvs_of base.tables values)) in
-        let otherwise : Result (List Value) Fault = left_values base presentation.definitions set places (pdvs_of base.tables values) in
+        let under : Result (List DataValue) Fault = and_informed base set is_aarq (values_under base.tables set carriage.Association places (pdvs_of base.tables values)) in
+        let otherwise : Result (List DataValue) Fault = left_values base presentation.definitions set places (pdvs_of base.tables values) in
         let is : under ≡ the_values values =
-        ap (λ (vs : List Value). and_informed base set is_aarq (values_under base.tables set carriage.Association places (pdvs_of base.tables vs))) h.one.is_one
+        ap (λ (vs : List DataValue). and_informed base set is_aarq (values_under base.tables set carriage.Association places (pdvs_of base.tables vs))) h.one.is_one
         ∙ under-back base set is_aarq keeps-aarq base.tables places values h.one h.on_it ∙ ap the_values (sym h.one.is_one) in
         ap (λ (r : Result PresentationWord PpduFault). on_ppdu start r (connect_meaning base (record session { user = user }) start)) (read_in place.Cn (ppdus.Connect (record presentation { user = pdvs_of base.tables values })) w)
         ∙ ap (λ (b : Bool). with_values words (if b then Ok [] else (if has_acse set then under else otherwise))) faulty
@@ -201,50 +201,50 @@ associations = record {
         ∙ ap (with_values words) is
         ∙ (λ i. the_word (OfAssociation (Connect (record session { user = sym s i }) (record presentation { user = sym p i }) values)))
 
-    accepts : (base : Base) (body : Body) (start : ℕ) (session : Accepting) (presentation : PresentationAccept) (values : List Value) → presentation.user ≡ [] → stands base presentation ≡ true
+    accepts : (base : Base) (body : Body) (start : ℕ) (session : Accepting) (presentation : PresentationAccept) (values : List DataValue) → presentation.user ≡ [] → stands base presentation ≡ true
         → CarriesOneOn base (set_accepted base presentation) is_acceptance values → IsWrittenIn place.Ac (ppdus.Accept (record presentation { user = pdvs_of base.tables values }))
         → on_ppdu start (ppdu_at place.Ac (written_ppdu (ppdus.Accept (record presentation { user = pdvs_of base.tables values }))))
         (accept_meaning base session start (written_ppdu (ppdus.Accept (record presentation { user = pdvs_of base.tables values })))) ≡ the_word (OfAssociation (Accept session presentation values))
     accepts base body start session presentation values p fits h w =
         let user : List ℕ = written_ppdu (ppdus.Accept (record presentation { user = pdvs_of base.tables values })) in
         let set : List SetItem = set_accepted base presentation in
-        let words : List Value → Word = λ vs. OfAssociation (Accept session (record presentation { user = [] }) vs) in
+        let words : List DataValue → Word = λ vs. OfAssociation (Accept session (record presentation { user = [] }) vs) in
         let places : List PdvPlaces = pdv_places place.Ac start user in
-        let under : Result (List Value) Fault = and_informed base set is_acceptance (values_under base.tables set carriage.Association places (pdvs_of base.tables values)) in
+        let under : Result (List DataValue) Fault = and_informed base set is_acceptance (values_under base.tables set carriage.Association places (pdvs_of base.tables values)) in
         let is : under ≡ the_values values =
-        ap (λ (vs : List Value). and_informed base set is_acceptance (values_under base.tables set carriage.Association places (pdvs_of base.tables vs))) h.one.is_one
+        ap (λ (vs : List DataValue). and_informed base set is_acceptance (values_under base.tables set carriage.Association places (pdvs_of base.tables vs))) h.one.is_one
         ∙ under-back base set is_acceptance keeps-acceptance base.tables places values h.one h.on_it ∙ ap the_values (sym h.one.is_one) in
         ap (λ (r : Result PresentationWord PpduFault). on_ppdu start r (accept_meaning base session start user)) (read_in place.Ac (ppdus.Accept (record presentation { user = pdvs_of base.tables values })) w)
         ∙ ap (λ (b : Bool). with_values words (if b then under else Ok [])) fits
         ∙ ap (with_values words) is
         ∙ (λ i. the_word (OfAssociation (Accept session (record presentation { user = sym p i }) values)))
 
-    refuses : (base : Base) (body : Body) (start : ℕ) (transport reason : Option ℕ) (presentation : PresentationReject) (values : List Value) → presentation.user ≡ []
+    refuses : (base : Base) (body : Body) (start : ℕ) (transport reason : Option ℕ) (presentation : PresentationReject) (values : List DataValue) → presentation.user ≡ []
         → CarriesOne base (set_refused base presentation) is_response values → IsWrittenIn place.Rf (ppdus.Reject (record presentation { user = pdvs_of base.tables values }))
         → on_ppdu start (ppdu_at place.Rf (written_ppdu (ppdus.Reject (record presentation { user = pdvs_of base.tables values }))))
         (refuse_meaning base transport reason start (written_ppdu (ppdus.Reject (record presentation { user = pdvs_of base.tables values })))) ≡ the_word (OfAssociation (Refuse transport reason (Some presentation) values))
     refuses base body start transport reason presentation values p one w =
         let user : List ℕ = written_ppdu (ppdus.Reject (record presentation { user = pdvs_of base.tables values })) in
         let set : List SetItem = set_refused base presentation in
-        let words : List Value → Word = λ vs. OfAssociation (Refuse transport reason (Some (record presentation { user = [] })) vs) in
+        let words : List DataValue → Word = λ vs. OfAssociation (Refuse transport reason (Some (record presentation { user = [] })) vs) in
         let places : List PdvPlaces = pdv_places place.Rf start user in
         let is : and_informed base set is_response (unasked_values places (pdvs_of base.tables values)) ≡ the_values values =
-        ap (λ (vs : List Value). and_informed base set is_response (unasked_values places (pdvs_of base.tables vs))) one.is_one
+        ap (λ (vs : List DataValue). and_informed base set is_response (unasked_values places (pdvs_of base.tables vs))) one.is_one
         ∙ unasked-back base set is_response keeps-response base.tables places values one ∙ ap the_values (sym one.is_one) in
         ap (λ (r : Result PresentationWord PpduFault). on_ppdu start r (refuse_meaning base transport reason start user)) (read_in place.Rf (ppdus.Reject (record presentation { user = pdvs_of base.tables values })) w)
         ∙ ap (with_values words) is
         ∙ (λ i. the_word (OfAssociation (Refuse transport reason (Some (record presentation { user = sym p i })) values)))
 
-    aborts : (base : Base) (body : Body) (start : ℕ) (transport : Option ℕ) (values : List Value) → CarriesOne base body.link.accepted is_abort values → IsWrittenIn place.Ab (ppdus.UserAbort None (pdvs_of base.tables values))
+    aborts : (base : Base) (body : Body) (start : ℕ) (transport : Option ℕ) (values : List DataValue) → CarriesOne base body.link.accepted is_abort values → IsWrittenIn place.Ab (ppdus.UserAbort None (pdvs_of base.tables values))
         → on_ppdu start (ppdu_at place.Ab (written_ppdu (ppdus.UserAbort None (pdvs_of base.tables values))))
         (abort_meaning base body transport start (written_ppdu (ppdus.UserAbort None (pdvs_of base.tables values)))) ≡ the_word (OfAssociation (Abort transport (UserValues values)))
     aborts base body start transport values one w =
         let user : List ℕ = written_ppdu (ppdus.UserAbort None (pdvs_of base.tables values)) in
         let set : List SetItem = body.link.accepted in
-        let words : List Value → Word = λ vs. OfAssociation (Abort transport (UserValues vs)) in
+        let words : List DataValue → Word = λ vs. OfAssociation (Abort transport (UserValues vs)) in
         let places : List PdvPlaces = pdv_places place.Ab start user in
         let is : and_informed base set is_abort (unasked_values places (pdvs_of base.tables values)) ≡ the_values values =
-        ap (λ (vs : List Value). and_informed base set is_abort (unasked_values places (pdvs_of base.tables vs))) one.is_one
+        ap (λ (vs : List DataValue). and_informed base set is_abort (unasked_values places (pdvs_of base.tables vs))) one.is_one
         ∙ unasked-back base set is_abort keeps-abort base.tables places values one ∙ ap the_values (sym one.is_one) in
         ap (λ (r : Result PresentationWord PpduFault). on_ppdu start r (abort_meaning base body transport start user)) (read_in place.Ab (ppdus.UserAbort None (pdvs_of base.tables values)) w)
         ∙ ap (with_values words) is

@@ -5,8 +5,9 @@ use Rattle.std.specs.Prelude.{Bool}
 use Rattle.std.specs.List.{flat_map}
 use Rattle.std.proofs.lemmas.Bool.{cases_lt}
 use Rattle.std.proofs.lemmas.List.{append-nil, length-take, length-drop}
+use Rattle.osi_base.specs.Limits.{tsdu_limit}
 use Rattle.tpkt.specs.declared.packet.Packet.{Packet}
-use Rattle.tpkt.specs.Wire.{two, header, mark, packet, tsdu_limit, Tpdu, Whole, Part, IsUnit, Splits, begun_by, handed}
+use Rattle.tpkt.specs.Wire.{two, header, mark, packet, Tpdu, Whole, Part, IsUnit, Splits, begun_by, handed}
 use Rattle.tpkt.specs.Stream.{IsOctets}
 use Rattle.tpkt.specs.Reader.{nothing, reading}
 use Rattle.tpkt.specs.Written.{parts_of, part_packet, written_tsdu}

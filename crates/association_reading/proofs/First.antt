@@ -2,7 +2,7 @@
 use Rattle.std.proofs.Common.{sym, arith, ◌≡◌, refl, ap, subst, ◌∙◌, ℕ, ◌≤◌, true, false, List, [], ◌∷◌, ◌++◌, length, None, Ok}
 use Rattle.association_reading.specs.Front.{fronts_of, first_in, with_octets, nothing_came, Front, OfSession, start_of, first_front, all_fronts, fronts_of_units}
 use Rattle.tpkt.specs.declared.packet.Packet.TheVariants.{Connect, Confirm, Disconnect, Tsdu}
-use Rattle.tpkt.specs.Wire.{packet, Whole, IsUnit, Splits, begun_by, tsdu_limit}
+use Rattle.tpkt.specs.Wire.{packet, Whole, IsUnit, Splits, begun_by}
 use Rattle.tpkt.proofs.WrittenLaws.{connect_is, confirm_is, disconnect_is, tsdu_split, written_octets}
 use Rattle.association_wire.specs.Written.{request_ends, confirm_ends, with_user, in_its_place, session_units, tsdu_of}
 use Rattle.association_reading.specs.Laws.{TransportUnitsStandFirst, WrittenStandsFirst}
@@ -10,6 +10,7 @@ use Rattle.std.specs.Prelude.{Bool, if◌then◌else◌, Result}
 use Rattle.std.proofs.lemmas.List.{append-nil}
 use Rattle.osi_base.specs.declared.session_word.SessionWord.{SessionWord}
 use Rattle.osi_base.specs.declared.session_word.SessionWord.TheVariants as units
+use Rattle.osi_base.specs.Limits.{tsdu_limit}
 use Rattle.tpkt.specs.declared.packet.Packet.{Packet}
 use Rattle.tpkt.specs.declared.reader_state.Held.{Held}
 use Rattle.tpkt.specs.Stream.{IsOctets}
@@ -20,7 +21,7 @@ use Rattle.tpkt.proofs.ReaderLaws.{short_empty}
 use Rattle.tpkt.proofs.StreamLaws.{any_cut, split_read}
 use Rattle.spdu_codec.specs.declared.places.UserPlaces.{UserPlaces}
 use Rattle.spdu_codec.specs.Written.{stands_alone}
-use Rattle.spdu_codec.specs.Reading.{Fault, units_at}
+use Rattle.spdu_codec.specs.Reading.{UnitFault, units_at}
 use Rattle.spdu_codec.specs.Places.{user_places}
 use Rattle.spdu_codec.proofs.WireLaws.{all_again}
 use Rattle.spdu_codec.proofs.RoundLaws.{written_are}
@@ -60,7 +61,7 @@ stands_first tables size word more least most sendable =
       p.0,
       ap (λ (f : ReaderProgress). first_of f.held f.packets) (any_cut nothing octets more)
           ∙ ap (λ (ps : List Packet). first_of b.held (ps ++ b.packets)) one
-          ∙ ap (λ (r : Result (List SessionWord) Fault). first_front b.held (fronts_of_units (user_places tsdu) r ++ all_fronts b.packets)) read
+          ∙ ap (λ (r : Result (List SessionWord) UnitFault). first_front b.held (fronts_of_units (user_places tsdu) r ++ all_fronts b.packets)) read
           ∙ p.1,
     )
 

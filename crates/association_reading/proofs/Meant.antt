@@ -6,7 +6,7 @@ use Rattle.acse.specs.Fields.{acse_at}
 use Rattle.acse.specs.Written.{written_acse}
 use Rattle.acse.proofs.PlainLaws.{written_acse_is_read}
 use Rattle.rtse_apdus.proofs.RtseLaws.{written_rtse_is_read}
-use Rattle.end_rules.specs.Messages.{Association, ValueContent, Value, NoData, ProviderReason, UserValues, Word, OfAssociation, Connect, Accept, Refuse, Finish, Disconnect, Abort, AbortAccept, OfData, Values, AlterContext, AlterContextAck, OfMarks, Mark, MarkAck, Restart, RestartAck, Give, Please, GiveConfirm, GiveAck, OfActivities, Start, Resume, End, EndAck, Interrupt, InterruptAck, Discard, DiscardAck}
+use Rattle.end_rules.specs.Messages.{Association, ValueContent, DataValue, NoData, ProviderReason, UserValues, Word, OfAssociation, Connect, Accept, Refuse, Finish, Disconnect, Abort, AbortAccept, OfData, Values, AlterContext, AlterContextAck, OfMarks, Mark, MarkAck, Restart, RestartAck, Give, Please, GiveConfirm, GiveAck, OfActivities, Start, Resume, End, EndAck, Interrupt, InterruptAck, Discard, DiscardAck}
 use Rattle.association_wire.specs.Values.{with_user as user_put, content_octets, in_form, pdv_of, pdvs_of}
 use Rattle.association_reading.specs.Values.{without_user, associated, acse_content, rtse_content, content_under, with_content, value_by, value_in, before_values, all_values, unless_fault, values_under}
 use Rattle.association_reading.specs.Laws.{AssociationIsReadBack, TransferWordsAreReadBack, SessionWordsAreReadBack, IsWrittenIn, AlterationsAreReadBack, IsMeant, AreMeantIn, DataAreReadBack, RemoteIsReadBack}
@@ -111,50 +111,50 @@ module _ (tables : Tables) (set : List SetItem) (carried : Carriage) where
   abbrev written_as : ℕ → Pair → ValueContent → Pdv
   written_as id pair content = record { transfer = None; id = id; content = in_form pair.transfer (content_octets tables pair.transfer content) }
 
-  same_pdv : (v : Value) (h : IsMeant tables set carried v) → pdv_of tables v ≡ written_as v.id h.pair v.content
+  same_pdv : (v : DataValue) (h : IsMeant tables set carried v) → pdv_of tables v ≡ written_as v.id h.pair v.content
   same_pdv v h = ap (λ (p : Option Pair). let x : Pdv = record { transfer = None; id = v.id; content = in_form (syntax_of p) (content_octets tables (syntax_of p) v.content) } in x) h.has_pair
 
   abbrev fault_at_place : PdvPlaces → Pdv → Option Fault
   fault_at_place at pdv = pdv_fault (name_carried tables carried) at pdv (pair_of set pdv.id)
 
-  no_fault : (v : Value) (at : PdvPlaces) → IsMeant tables set carried v → fault_at_place at (pdv_of tables v) ≡ None
+  no_fault : (v : DataValue) (at : PdvPlaces) → IsMeant tables set carried v → fault_at_place at (pdv_of tables v) ≡ None
   no_fault v at h =
       ap (λ (pdv : Pdv). fault_at_place at pdv) (same_pdv v h)
       ∙ ap (λ (p : Option Pair). pdv_fault (name_carried tables carried) at (written_as v.id h.pair v.content) p) h.in_set
       ∙ rw (h.carries, form_is h.pair.transfer (content_octets tables h.pair.transfer v.content)) refl
 
-  value_back : (v : Value) → IsMeant tables set carried v → value_in tables carried set (pdv_of tables v) ≡ Ok v
+  value_back : (v : DataValue) → IsMeant tables set carried v → value_in tables carried set (pdv_of tables v) ≡ Ok v
   value_back v h =
       ap (λ (pdv : Pdv). value_in tables carried set pdv) (same_pdv v h)
       ∙ ap (λ (p : Option Pair). value_by tables carried p (written_as v.id h.pair v.content)) h.in_set
       ∙ ap (λ (os : List ℕ). with_content v.id (Some h.pair) (content_under tables carried h.pair os)) (octets_are h.pair.transfer (content_octets tables h.pair.transfer v.content))
       ∙ ap (λ (r : Result ValueContent Fault). with_content v.id (Some h.pair) r) h.content
-      ∙ ap (λ (p : Option Pair). let x : Result Value Fault = Ok (record { id = v.id; pair = p; content = v.content }) in x) (sym h.has_pair)
+      ∙ ap (λ (p : Option Pair). let x : Result DataValue Fault = Ok (record { id = v.id; pair = p; content = v.content }) in x) (sym h.has_pair)
 
-  no_faults : (vs : List Value) (places : List PdvPlaces) → AreMeantIn tables set carried vs → first_fault fault_at_place places (pdvs_of tables vs) ≡ None
+  no_faults : (vs : List DataValue) (places : List PdvPlaces) → AreMeantIn tables set carried vs → first_fault fault_at_place places (pdvs_of tables vs) ≡ None
   no_faults [] places h = refl
   no_faults (v ∷ vs) places h =
       ap (λ (f : Option Fault). or_fault f (first_fault fault_at_place (other_places places) (pdvs_of tables vs))) (no_fault v (first_place places) h.0)
       ∙ no_faults vs (other_places places) h.1
 
-  values_back : (vs : List Value) → AreMeantIn tables set carried vs → all_values (value_in tables carried set) (pdvs_of tables vs) ≡ Ok vs
+  values_back : (vs : List DataValue) → AreMeantIn tables set carried vs → all_values (value_in tables carried set) (pdvs_of tables vs) ≡ Ok vs
   values_back [] h = refl
   values_back (v ∷ vs) h =
-      ap (λ (r : Result Value Fault). before_values r (all_values (value_in tables carried set) (pdvs_of tables vs))) (value_back v h.0)
-      ∙ ap (λ (r : Result (List Value) Fault). before_values (Ok v) r) (values_back vs h.1)
+      ap (λ (r : Result DataValue Fault). before_values r (all_values (value_in tables carried set) (pdvs_of tables vs))) (value_back v h.0)
+      ∙ ap (λ (r : Result (List DataValue) Fault). before_values (Ok v) r) (values_back vs h.1)
 
-  all_back : (vs : List Value) (places : List PdvPlaces) → AreMeantIn tables set carried vs → values_under tables set carried places (pdvs_of tables vs) ≡ Ok vs
+  all_back : (vs : List DataValue) (places : List PdvPlaces) → AreMeantIn tables set carried vs → values_under tables set carried places (pdvs_of tables vs) ≡ Ok vs
   all_back vs places h =
       ap (λ (f : Option Fault). unless_fault f (all_values (value_in tables carried set) (pdvs_of tables vs))) (no_faults vs places h)
       ∙ values_back vs h
 
-data_back : (base : Base) (body : Body) (carried : Carriage) (word : List Value → Word) (carrier : PpduPlace) (start : ℕ) (vs : List Value)
+data_back : (base : Base) (body : Body) (carried : Carriage) (word : List DataValue → Word) (carrier : PpduPlace) (start : ℕ) (vs : List DataValue)
     → IsWrittenIn carrier (ppdus.Data (pdvs_of base.tables vs)) → AreMeantIn base.tables body.sets.held carried vs
     → on_ppdu start (ppdu_at carrier (written_ppdu (ppdus.Data (pdvs_of base.tables vs)))) (data_meaning base body carried word carrier start (written_ppdu (ppdus.Data (pdvs_of base.tables vs)))) ≡ Ok (word vs)
 data_back base body carried word carrier start vs back meant =
     let user : List ℕ = written_ppdu (ppdus.Data (pdvs_of base.tables vs)) in
     ap (λ (r : Result PresentationWord PpduFault). on_ppdu start r (data_meaning base body carried word carrier start user)) (read_in carrier (ppdus.Data (pdvs_of base.tables vs)) back)
-    ∙ ap (λ (r : Result (List Value) Fault). with_values word r) (all_back base.tables body.sets.held carried vs (pdv_places carrier start user) meant)
+    ∙ ap (λ (r : Result (List DataValue) Fault). with_values word r) (all_back base.tables body.sets.held carried vs (pdv_places carrier start user) meant)
 
 pub data_words : DataAreReadBack
 data_words = record {

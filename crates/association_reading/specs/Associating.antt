@@ -14,7 +14,7 @@ use Rattle.presentation_pdus.specs.declared.place.PpduPlace.TheVariants as place
 use Rattle.end_rules.specs.Base.{Base, is_reliable}
 use Rattle.end_rules.specs.Sets.{pair_of}
 use Rattle.end_rules.specs.State.{Body}
-use Rattle.end_rules.specs.Messages.{Information, Transferring, Other, Association, Value, Accepting, ProviderReason, UserValues, Word, OfAssociation, Connect, Accept, Refuse, Abort, unit_of}
+use Rattle.end_rules.specs.Messages.{Information, Transferring, Other, Association, DataValue, Accepting, ProviderReason, UserValues, Word, OfAssociation, Connect, Accept, Refuse, Abort, unit_of}
 use Rattle.end_rules.specs.Policy.{is_faulty_proposal}
 use Rattle.end_rules.specs.Writing.{acse_pair}
 use Rattle.end_rules.specs.Connecting.{is_on_rtse, set_for, set_accepted, has_acse}
@@ -40,7 +40,7 @@ IsInformed reads accepted (Transferring id apdu ∷ more) = ((reads && is_on_rts
 
 -- ---- one value of association control, in BER, of this kind, with user information that these contexts are for
 
-pub record CarriesOne (base : Base) (accepted : List SetItem) (is_kind : Acse → Bool) (values : List Value) : Type 0 where
+pub record CarriesOne (base : Base) (accepted : List SetItem) (is_kind : Acse → Bool) (values : List DataValue) : Type 0 where
   pub id : ℕ
   pub apdu : Acse
   pub user : List Information
@@ -51,7 +51,7 @@ pub record CarriesOne (base : Base) (accepted : List SetItem) (is_kind : Acse �
   pub informed : IsInformed (is_reliable base.mode) accepted user
 
 -- and its context is in the set
-pub record CarriesOneOn (base : Base) (set : List SetItem) (is_kind : Acse → Bool) (values : List Value) : Type 0 where
+pub record CarriesOneOn (base : Base) (set : List SetItem) (is_kind : Acse → Bool) (values : List DataValue) : Type 0 where
   pub one : CarriesOne base set is_kind values
   pub on_it : pair_of set one.id ≡ Some acse_pair
 
@@ -62,23 +62,23 @@ IsMeantAs base body start word = meaning base body (with_user (user_octets base.
 
 pub record AssociationsAreReadBack : Type 0 where
   -- CN: association control is accepted of its own list
-  pub connect : (base : Base) (body : Body) (start : ℕ) (session : SessionConnect) (presentation : PresentationConnect) (values : List Value) →
+  pub connect : (base : Base) (body : Body) (start : ℕ) (session : SessionConnect) (presentation : PresentationConnect) (values : List DataValue) →
       session.user ≡ [] → presentation.user ≡ [] →
       is_faulty_proposal true [] presentation.definitions ≡ false → has_acse (set_for base presentation) ≡ true →
       CarriesOneOn base (set_for base presentation) is_aarq values → IsWrittenIn place.Cn (ppdus.Connect (record presentation { user = pdvs_of base.tables values })) →
       IsMeantAs base body start (OfAssociation (Connect session presentation values))
   -- AC: its results fit what was proposed, and leave the contexts of the association
-  pub accept : (base : Base) (body : Body) (start : ℕ) (session : Accepting) (presentation : PresentationAccept) (values : List Value) →
+  pub accept : (base : Base) (body : Body) (start : ℕ) (session : Accepting) (presentation : PresentationAccept) (values : List DataValue) →
       presentation.user ≡ [] → stands base presentation ≡ true →
       CarriesOneOn base (set_accepted base presentation) is_acceptance values → IsWrittenIn place.Ac (ppdus.Accept (record presentation { user = pdvs_of base.tables values })) →
       IsMeantAs base body start (OfAssociation (Accept session presentation values))
   -- RF with CPR
-  pub refuse : (base : Base) (body : Body) (start : ℕ) (transport reason : Option ℕ) (presentation : PresentationReject) (values : List Value) →
+  pub refuse : (base : Base) (body : Body) (start : ℕ) (transport reason : Option ℕ) (presentation : PresentationReject) (values : List DataValue) →
       presentation.user ≡ [] →
       CarriesOne base (set_refused base presentation) is_response values → IsWrittenIn place.Rf (ppdus.Reject (record presentation { user = pdvs_of base.tables values })) →
       IsMeantAs base body start (OfAssociation (Refuse transport reason (Some presentation) values))
   -- AB with ARU, and with ARP
-  pub abort : (base : Base) (body : Body) (start : ℕ) (transport : Option ℕ) (values : List Value) →
+  pub abort : (base : Base) (body : Body) (start : ℕ) (transport : Option ℕ) (values : List DataValue) →
       CarriesOne base body.link.accepted is_abort values → IsWrittenIn place.Ab (ppdus.UserAbort None (pdvs_of base.tables values)) →
       IsMeantAs base body start (OfAssociation (Abort transport (UserValues values)))
   pub provider_abort : (base : Base) (body : Body) (start : ℕ) (transport : Option ℕ) (reason : Option ℕ) →

@@ -15,7 +15,7 @@ use Rattle.fixed_tables.specs.declared.pdu.PduFault.{PduFault}
 use Rattle.acse.specs.Fields.{acse_at}
 use Rattle.end_rules.specs.Base.{Base, Fault, acse_name, is_reliable}
 use Rattle.end_rules.specs.Sets.{same_name, pair_of, accepted_set, fit_proposals}
-use Rattle.end_rules.specs.Messages.{ValueContent, Unread, Value}
+use Rattle.end_rules.specs.Messages.{ValueContent, Unread, DataValue}
 use Rattle.end_rules.specs.Policy.{is_faulty_proposal}
 use Rattle.end_rules.specs.Writing.{proposals, acse_pair}
 use Rattle.end_rules.specs.Connecting.{Associated, is_request, is_accepting, set_for, set_accepted, has_acse, has_rtse}
@@ -54,21 +54,21 @@ abbrev pub left_content : List ℕ → Result Acse PduFault → ValueContent
 left_content octets (Ok apdu) = associated apdu
 left_content octets (Err fault) = Unread octets
 
-abbrev pub left_value : Pdv → Value
+abbrev pub left_value : Pdv → DataValue
 left_value pdv = record { id = pdv.id; pair = None; content = left_content (octets_of pdv.content) (acse_at (octets_of pdv.content)) }
 
 abbrev pub fault_unless_left : List Proposal → List SetItem → PdvPlaces → Pdv → Option Fault
 fault_unless_left definitions set at pdv = if is_left definitions pdv then None else pdv_fault acse_name at pdv (pair_of set pdv.id)
 
-abbrev pub value_or_left : Base → List Proposal → List SetItem → Pdv → Result Value Fault
+abbrev pub value_or_left : Base → List Proposal → List SetItem → Pdv → Result DataValue Fault
 value_or_left base definitions set pdv = if is_left definitions pdv then Ok (left_value pdv) else value_in base.tables carriage.Association set pdv
 
-abbrev pub left_values : Base → List Proposal → List SetItem → List PdvPlaces → List Pdv → Result (List Value) Fault
+abbrev pub left_values : Base → List Proposal → List SetItem → List PdvPlaces → List Pdv → Result (List DataValue) Fault
 left_values base definitions set places pdvs =
     unless_fault (first_fault (fault_unless_left definitions set) places pdvs) (all_values (value_or_left base definitions set) pdvs)
 
 -- a list that is faulty ends the association before its values are looked at
-abbrev pub connect_values : Base → PresentationConnect → List PdvPlaces → Result (List Value) Fault
+abbrev pub connect_values : Base → PresentationConnect → List PdvPlaces → Result (List DataValue) Fault
 connect_values base presentation places =
     if is_faulty_proposal true [] presentation.definitions then Ok []
     else (if has_acse (set_for base presentation)
@@ -82,7 +82,7 @@ stands base presentation =
     fit_proposals (proposals base) presentation.results && has_acse (set_accepted base presentation) &&
     (not (is_reliable base.mode) || has_rtse (set_accepted base presentation))
 
-abbrev pub accept_values : Base → PresentationAccept → List PdvPlaces → Result (List Value) Fault
+abbrev pub accept_values : Base → PresentationAccept → List PdvPlaces → Result (List DataValue) Fault
 accept_values base presentation places =
     if stands base presentation
     then and_informed base (set_accepted base presentation) is_acceptance (values_under base.tables (set_accepted base presentation) carriage.Association places presentation.user)
@@ -90,10 +90,10 @@ accept_values base presentation places =
 
 -- ---- RF and AB: no contexts are asked; values are APDUs of association control in BER
 
-abbrev pub unasked_value : Pdv → Result Value Fault
+abbrev pub unasked_value : Pdv → Result DataValue Fault
 unasked_value pdv = with_content pdv.id (Some acse_pair) (acse_content (acse_at (octets_of pdv.content)))
 
-abbrev pub unasked_values : List PdvPlaces → List Pdv → Result (List Value) Fault
+abbrev pub unasked_values : List PdvPlaces → List Pdv → Result (List DataValue) Fault
 unasked_values places pdvs =
     unless_fault (first_fault (λ (at : PdvPlaces) (pdv : Pdv). form_fault at Ber pdv.content) places pdvs) (all_values unasked_value pdvs)
 
@@ -101,9 +101,9 @@ unasked_values places pdvs =
 abbrev pub set_refused : Base → PresentationReject → List SetItem
 set_refused base presentation = accepted_set (proposals base) presentation.results
 
-abbrev pub refuse_values : Base → PresentationReject → List PdvPlaces → Result (List Value) Fault
+abbrev pub refuse_values : Base → PresentationReject → List PdvPlaces → Result (List DataValue) Fault
 refuse_values base presentation places =
     and_informed base (set_refused base presentation) is_response (unasked_values places presentation.user)
 
-abbrev pub abort_values : Base → List SetItem → List PdvPlaces → List Pdv → Result (List Value) Fault
+abbrev pub abort_values : Base → List SetItem → List PdvPlaces → List Pdv → Result (List DataValue) Fault
 abort_values base accepted places user = and_informed base accepted is_abort (unasked_values places user)

@@ -11,7 +11,7 @@ use Rattle.tpkt.specs.declared.packet.TFault.{TFault}
 use Rattle.tpkt.specs.declared.reader_state.Held.{Held}
 use Rattle.tpkt.specs.Reader.{nothing, reading}
 use Rattle.spdu_codec.specs.declared.places.UserPlaces.{UserPlaces}
-use Rattle.spdu_codec.specs.Reading.{Fault, units_at}
+use Rattle.spdu_codec.specs.Reading.{UnitFault, units_at}
 use Rattle.spdu_codec.specs.Places.{user_places}
 use Rattle.end_rules.specs.Messages.{TransportUnit, ConnectionRequest, ConnectionConfirm, DisconnectRequest, TransportError}
 
@@ -35,7 +35,7 @@ leading unit start = OfSession unit start ∷ []
 abbrev pub start_of : Option ℕ → ℕ
 start_of place = unwrap_or place 0
 
-abbrev pub fronts_of_units : UserPlaces → Result (List SessionWord) Fault → List Front
+abbrev pub fronts_of_units : UserPlaces → Result (List SessionWord) UnitFault → List Front
 fronts_of_units at (Ok []) = []
 fronts_of_units at (Ok (unit ∷ [])) = OfSession unit (start_of at.first) ∷ []
 fronts_of_units at (Ok (first ∷ second ∷ more)) = leading first (start_of at.first) ++ OfSession second (start_of at.second) ∷ []

@@ -4,10 +4,10 @@ use Rattle.osi_base.specs.declared.acse_word.Acse.{Acse}
 use Rattle.acse.specs.Written.{IsWritable as IsWritableAcse}
 use Rattle.rtse_apdus.specs.Written.{IsWritable as IsWritableRtse}
 use Rattle.osi_base.specs.declared.rtse_word.Rtse.TheVariants as rtse
-use Rattle.tpkt.specs.Wire.{IsTwo, tsdu_limit, unit_least, unit_most}
+use Rattle.tpkt.specs.Wire.{IsTwo, unit_least, unit_most}
 use Rattle.tpkt.specs.Written.{HasRoom}
 use Rattle.association_wire.specs.Written.{request_ends, confirm_ends, written_unit, with_user, session_units, tsdu_of, written}
-use Rattle.end_rules.specs.Messages.{Association, Plea, Part, TransportUnit, ConnectionRequest, ConnectionConfirm, DisconnectRequest, Remote, Value, NoData, Word, OfAssociation, Refuse, Finish, Disconnect, Abort, AbortAccept, OfData, Values, AlterContext, AlterContextAck, OfMarks, Mark, MarkAck, Restart, RestartAck, Give, Please, GiveConfirm, GiveAck, OfActivities, Session, unit_of}
+use Rattle.end_rules.specs.Messages.{Association, Plea, Part, TransportUnit, ConnectionRequest, ConnectionConfirm, DisconnectRequest, Remote, DataValue, NoData, Word, OfAssociation, Refuse, Finish, Disconnect, Abort, AbortAccept, OfData, Values, AlterContext, AlterContextAck, OfMarks, Mark, MarkAck, Restart, RestartAck, Give, Please, GiveConfirm, GiveAck, OfActivities, Session, unit_of}
 use Rattle.association_reading.specs.Front.{Short, OfTransport, OfSession, first_in, with_octets, nothing_came}
 use Rattle.association_reading.specs.Values.{without_user, content_under}
 use Rattle.std.specs.Prelude.{◌≡◌, ℕ, ◌<◌, ◌≤◌, List, [], ◌∷◌, ◌++◌, length, true, Option, Some, None, Ok}
@@ -18,6 +18,7 @@ use Rattle.osi_base.specs.declared.words.Answers.{Answers}
 use Rattle.osi_base.specs.declared.words.RestoredItem.{RestoredItem}
 use Rattle.osi_base.specs.declared.presentation_word.PresentationWord.{PresentationWord}
 use Rattle.osi_base.specs.declared.presentation_word.PresentationWord.TheVariants as ppdus
+use Rattle.osi_base.specs.Limits.{tsdu_limit}
 use Rattle.stub_tables.specs.declared.tables.Tables.{Tables}
 use Rattle.stub_tables.specs.declared.apdu.Apdu.{Apdu}
 use Rattle.stub_tables.specs.Readable.{IsReadable}
@@ -90,29 +91,29 @@ pub record AlterationsAreReadBack : Type 0 where
 
 -- a value is meant under a set in a message that carries these values: its pair is that of its context, and its content is
 -- what its octets are under the pair
-pub record IsMeant (tables : Tables) (set : List SetItem) (carried : Carriage) (value : Value) : Type 0 where
+pub record IsMeant (tables : Tables) (set : List SetItem) (carried : Carriage) (value : DataValue) : Type 0 where
   pub pair : Pair
   pub has_pair : value.pair ≡ Some pair
   pub in_set : pair_of set value.id ≡ Some pair
   pub carries : is_carried (name_carried tables carried) pair.abstract_name ≡ true
   pub content : content_under tables carried pair (content_octets tables pair.transfer value.content) ≡ Ok value.content
 
-abbrev pub AreMeantIn : Tables → List SetItem → Carriage → List Value → Type 0
+abbrev pub AreMeantIn : Tables → List SetItem → Carriage → List DataValue → Type 0
 AreMeantIn tables set carried [] = Unit {0}
 AreMeantIn tables set carried (value ∷ values) = IsMeant tables set carried value × AreMeantIn tables set carried values
 
 -- data, pleas, releases and their answers, where their units may be written and their values are meant under the held set
 pub record DataAreReadBack : Type 0 where
-  pub values : (base : Base) (body : Body) (start : ℕ) (value : Value) (values : List Value) →
+  pub values : (base : Base) (body : Body) (start : ℕ) (value : DataValue) (values : List DataValue) →
       IsWrittenIn place.Dt (ppdus.Data (pdvs_of base.tables (value ∷ values))) → AreMeantIn base.tables body.sets.held (carried_by_data base) (value ∷ values) →
       meaning base body (with_user (user_octets base.tables (OfData (Values (value ∷ values)))) (unit_of (OfData (Values (value ∷ values))))) start ≡ Ok (OfData (Values (value ∷ values)))
-  pub please : (base : Base) (body : Body) (start : ℕ) (tokens : ℕ) (value : Value) (values : List Value) →
+  pub please : (base : Base) (body : Body) (start : ℕ) (tokens : ℕ) (value : DataValue) (values : List DataValue) →
       IsWrittenIn place.Pt (ppdus.Data (pdvs_of base.tables (value ∷ values))) → AreMeantIn base.tables body.sets.held carriage.Transfer (value ∷ values) →
       meaning base body (with_user (user_octets base.tables (OfMarks (Please (Some tokens) (value ∷ values)))) (unit_of (OfMarks (Please (Some tokens) (value ∷ values))))) start ≡ Ok (OfMarks (Please (Some tokens) (value ∷ values)))
-  pub finish : (base : Base) (body : Body) (start : ℕ) (transport : Option ℕ) (value : Value) (values : List Value) →
+  pub finish : (base : Base) (body : Body) (start : ℕ) (transport : Option ℕ) (value : DataValue) (values : List DataValue) →
       IsWrittenIn place.Fn (ppdus.Data (pdvs_of base.tables (value ∷ values))) → AreMeantIn base.tables body.sets.held carriage.Association (value ∷ values) →
       meaning base body (with_user (user_octets base.tables (OfAssociation (Finish transport (value ∷ values)))) (unit_of (OfAssociation (Finish transport (value ∷ values))))) start ≡ Ok (OfAssociation (Finish transport (value ∷ values)))
-  pub disconnect : (base : Base) (body : Body) (start : ℕ) (value : Value) (values : List Value) →
+  pub disconnect : (base : Base) (body : Body) (start : ℕ) (value : DataValue) (values : List DataValue) →
       IsWrittenIn place.Dn (ppdus.Data (pdvs_of base.tables (value ∷ values))) → AreMeantIn base.tables body.sets.held carriage.Association (value ∷ values) →
       meaning base body (with_user (user_octets base.tables (OfAssociation (Disconnect (value ∷ values)))) (unit_of (OfAssociation (Disconnect (value ∷ values))))) start ≡ Ok (OfAssociation (Disconnect (value ∷ values)))
 

@@ -13,7 +13,7 @@ use Rattle.presentation_pdus.specs.declared.place.PpduFault.{PpduFault}
 use Rattle.presentation_pdus.specs.declared.place.PpduFault.TheVariants as why
 use Rattle.presentation_pdus.specs.Units.{ppdu_at}
 use Rattle.end_rules.specs.Base.{Base, Fault, is_reliable}
-use Rattle.end_rules.specs.Messages.{Value, Accepting, NoData, ProviderReason, UserValues, Word, OfAssociation, Connect, Accept, Refuse, Finish, Disconnect, Abort, AbortAccept, OfData, Values, AlterContext, AlterContextAck, OfMarks, Mark, MarkAck, Restart, RestartAck, Give, Please, GiveConfirm, GiveAck, OfActivities, Start, Resume, End, EndAck, Interrupt, InterruptAck, Discard, DiscardAck}
+use Rattle.end_rules.specs.Messages.{DataValue, Accepting, NoData, ProviderReason, UserValues, Word, OfAssociation, Connect, Accept, Refuse, Finish, Disconnect, Abort, AbortAccept, OfData, Values, AlterContext, AlterContextAck, OfMarks, Mark, MarkAck, Restart, RestartAck, Give, Please, GiveConfirm, GiveAck, OfActivities, Start, Resume, End, EndAck, Interrupt, InterruptAck, Discard, DiscardAck}
 use Rattle.end_rules.specs.State.{Body}
 use Rattle.end_rules.specs.Faults.{fault_at, invalid_ppdu}
 use Rattle.association_reading.specs.declared.carried.Carriage.{Carriage}
@@ -28,7 +28,7 @@ on_ppdu start (Ok unit) next = next unit
 on_ppdu start (Err (why.At at kind reason)) next = Err (fault_at layers.Presentation (start + at) reason)
 on_ppdu start (Err why.NoMemory) next = Err invalid_ppdu
 
-abbrev pub with_values : (List Value → Word) → Result (List Value) Fault → Result Word Fault
+abbrev pub with_values : (List DataValue → Word) → Result (List DataValue) Fault → Result Word Fault
 with_values word (Ok values) = Ok (word values)
 with_values word (Err fault) = Err fault
 
@@ -79,12 +79,12 @@ aborted_with base body transport start (Some user) = on_ppdu start (ppdu_at plac
 
 -- ---- user data alone, with values of one abstract syntax under the held set
 
-abbrev pub data_meaning : Base → Body → Carriage → (List Value → Word) → PpduPlace → ℕ → List ℕ → PresentationWord → Result Word Fault
+abbrev pub data_meaning : Base → Body → Carriage → (List DataValue → Word) → PpduPlace → ℕ → List ℕ → PresentationWord → Result Word Fault
 data_meaning base body carried word carrier start user (ppdus.Data pdvs) =
     with_values word (values_under base.tables body.sets.held carried (pdv_places carrier start user) pdvs)
 data_meaning base body carried word carrier start user _ = not_carried
 
-abbrev pub data_with : Base → Body → Carriage → (List Value → Word) → PpduPlace → ℕ → List ℕ → Result Word Fault
+abbrev pub data_with : Base → Body → Carriage → (List DataValue → Word) → PpduPlace → ℕ → List ℕ → Result Word Fault
 data_with base body carried word carrier start user =
     on_ppdu start (ppdu_at carrier user) (data_meaning base body carried word carrier start user)
 

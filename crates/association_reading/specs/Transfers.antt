@@ -10,7 +10,7 @@ use Rattle.rtse_apdus.specs.Transfer.{transfer_at, written_transfer}
 use Rattle.stub_tables.specs.declared.tables.Tables.{Tables}
 use Rattle.end_rules.specs.Base.{Item, Fault, Arrived, Whole, Raw, Spellings}
 use Rattle.end_rules.specs.Sets.{pair_of}
-use Rattle.end_rules.specs.Messages.{ValueContent, Remote, Unread, Association, Plea, Part, Value}
+use Rattle.end_rules.specs.Messages.{ValueContent, Remote, Unread, Association, Plea, Part, DataValue}
 use Rattle.end_rules.specs.Faults.{acse_fault, rtse_fault}
 use Rattle.end_wire.specs.Values.{spellings_with}
 use Rattle.association_wire.specs.Values.{pdv_of}
@@ -46,7 +46,7 @@ abbrev pub arrived_at : Tables → List SetItem → List ℕ → Result Arrived 
 arrived_at tables set octets = arrived_in tables set (places_of (spot_at 0 octets)) (transfer_at octets)
 
 -- an item as a value of its context
-abbrev pub value_of_item : Item → Value
+abbrev pub value_of_item : Item → DataValue
 value_of_item item = record { id = item.id; pair = Some item.pair; content = Remote item.apdu }
 
 abbrev pub transferred : Tables → Item → List ℕ

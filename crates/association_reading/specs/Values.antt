@@ -17,7 +17,7 @@ use Rattle.rtse_apdus.specs.Reading.{rtse_at}
 use Rattle.stub_tables.specs.declared.tables.Tables.{Tables}
 use Rattle.end_rules.specs.Base.{Base, Fault, rtse_name, is_reliable}
 use Rattle.end_rules.specs.Sets.{same_name, pair_of}
-use Rattle.end_rules.specs.Messages.{Information, Transferring, Other, ValueContent, Unread, Association, Plea, Part, Value}
+use Rattle.end_rules.specs.Messages.{Information, Transferring, Other, ValueContent, Unread, Association, Plea, Part, DataValue}
 use Rattle.end_rules.specs.Connecting.{is_on_rtse}
 use Rattle.end_rules.specs.Faults.{fault_at, acse_fault, rtse_fault}
 use Rattle.end_wire.specs.Values.{content_at}
@@ -81,33 +81,33 @@ abbrev pub content_by : Tables → Carriage → Option Pair → List ℕ → Res
 content_by tables carried None octets = Ok (Unread octets)
 content_by tables carried (Some pair) octets = content_under tables carried pair octets
 
-abbrev pub with_content : ℕ → Option Pair → Result ValueContent Fault → Result Value Fault
+abbrev pub with_content : ℕ → Option Pair → Result ValueContent Fault → Result DataValue Fault
 with_content id pair (Ok content) = Ok (record { id = id; pair = pair; content = content })
 with_content id pair (Err fault) = Err fault
 
-abbrev pub value_by : Tables → Carriage → Option Pair → Pdv → Result Value Fault
+abbrev pub value_by : Tables → Carriage → Option Pair → Pdv → Result DataValue Fault
 value_by tables carried pair pdv = with_content pdv.id pair (content_by tables carried pair (octets_of pdv.content))
 
-abbrev pub value_in : Tables → Carriage → List SetItem → Pdv → Result Value Fault
+abbrev pub value_in : Tables → Carriage → List SetItem → Pdv → Result DataValue Fault
 value_in tables carried set pdv = value_by tables carried (pair_of set pdv.id) pdv
 
 -- ---- values one after the other: the contexts and forms of all, then what each is
 
-abbrev pub before_values : Result Value Fault → Result (List Value) Fault → Result (List Value) Fault
+abbrev pub before_values : Result DataValue Fault → Result (List DataValue) Fault → Result (List DataValue) Fault
 before_values (Err fault) values = Err fault
 before_values (Ok value) (Err fault) = Err fault
 before_values (Ok value) (Ok values) = Ok (value ∷ values)
 
-abbrev pub all_values : (Pdv → Result Value Fault) → List Pdv → Result (List Value) Fault
+abbrev pub all_values : (Pdv → Result DataValue Fault) → List Pdv → Result (List DataValue) Fault
 all_values read [] = Ok []
 all_values read (pdv ∷ pdvs) = before_values (read pdv) (all_values read pdvs)
 
-abbrev pub unless_fault : Option Fault → Result (List Value) Fault → Result (List Value) Fault
+abbrev pub unless_fault : Option Fault → Result (List DataValue) Fault → Result (List DataValue) Fault
 unless_fault None values = values
 unless_fault (Some fault) values = Err fault
 
 -- values of a message
-abbrev pub values_under : Tables → List SetItem → Carriage → List PdvPlaces → List Pdv → Result (List Value) Fault
+abbrev pub values_under : Tables → List SetItem → Carriage → List PdvPlaces → List Pdv → Result (List DataValue) Fault
 values_under tables set carried places pdvs =
     unless_fault (first_fault (λ (at : PdvPlaces) (pdv : Pdv). pdv_fault (name_carried tables carried) at pdv (pair_of set pdv.id)) places pdvs)
     (all_values (value_in tables carried set) pdvs)
@@ -125,20 +125,20 @@ first_informed accepted (Transferring id apdu ∷ more) = Ok (Transferring id ap
 first_informed accepted (Other id octets ∷ more) =
     if is_on_rtse accepted id then informed id more (rtse_at octets) else Ok (Other id octets ∷ more)
 
-abbrev pub with_user : Value → Acse → Result (List Information) Fault → Result (List Value) Fault
+abbrev pub with_user : DataValue → Acse → Result (List Information) Fault → Result (List DataValue) Fault
 with_user value apdu (Ok user) = Ok (record value { content = Association apdu user } ∷ [])
 with_user value apdu (Err fault) = Err fault
 
-abbrev pub informed_value : List SetItem → (Acse → Bool) → Value → ValueContent → Result (List Value) Fault
+abbrev pub informed_value : List SetItem → (Acse → Bool) → DataValue → ValueContent → Result (List DataValue) Fault
 informed_value accepted is_kind value (Association apdu user) =
     if is_kind apdu then with_user value apdu (first_informed accepted user) else Ok (value ∷ [])
 informed_value accepted is_kind value content = Ok (value ∷ [])
 
-abbrev pub informed_values : List SetItem → (Acse → Bool) → List Value → Result (List Value) Fault
+abbrev pub informed_values : List SetItem → (Acse → Bool) → List DataValue → Result (List DataValue) Fault
 informed_values accepted is_kind (value ∷ []) = informed_value accepted is_kind value value.content
 informed_values accepted is_kind values = Ok values
 
-abbrev pub and_informed : Base → List SetItem → (Acse → Bool) → Result (List Value) Fault → Result (List Value) Fault
+abbrev pub and_informed : Base → List SetItem → (Acse → Bool) → Result (List DataValue) Fault → Result (List DataValue) Fault
 and_informed base accepted is_kind (Err fault) = Err fault
 and_informed base accepted is_kind (Ok values) =
     if is_reliable base.mode then informed_values accepted is_kind values else Ok values

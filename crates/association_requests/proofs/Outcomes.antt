@@ -18,10 +18,10 @@ use Rattle.end_rules.specs.State.{Body, Calls, OpenCall, opened_with}
 use Rattle.end_rules.specs.Invoking.{Reply, carrier_in, is_stopped, operation_of, can_answer_open, can_answer, can_refuse_open, can_refuse}
 use Rattle.end_rules.specs.Requesting.{sent_at_once, handed_in, answering, after_outcome, due_outcome, result_in, error_for}
 use Rattle.end_rules.specs.History.{sent, after_steps}
-use Rattle.rose_roles.specs.declared.called.Called as rose
+use Rattle.rose_roles.specs.declared.invoked_with.InvokedWith as rose
 use Rattle.open_invocations.specs.Invocations.{called_in}
 use Rattle.association_calls.specs.Replies.{IsChecked}
-use Rattle.association_requests.specs.declared.called.Called.{Called}
+use Rattle.association_requests.specs.declared.call_outcome.CallOutcome.{CallOutcome}
 use Rattle.association_requests.specs.Called.{sent_by, MadeAs, Makes}
 
 -- ---- data
@@ -57,14 +57,14 @@ not_open None h k = absurd cc
 not_open (Some o) h k = absurd cc
 
 module _ (base : Base) (old : Body) (id : ℤ) (apdu : Apdu) where
-  pub ended_due : (o : Option OpenCall) (called : rose.Called) (sending : List Message) → called_in o ≡ Some called
+  pub ended_due : (o : Option OpenCall) (called : rose.InvokedWith) (sending : List Message) → called_in o ≡ Some called
       → sending ≡ sent_at_once base.mode (answering id old) (carrier_in base old called.context) apdu → sending ≡ due_outcome base old o (Some apdu)
   ended_due None called sending e h = absurd cc
   ended_due (Some o) called sending e h =
       let at : called.context ≡ o.context = cc in
       h ∙ whatever_is_open base.mode (answering id old).calls old (carrier_in base old called.context) apdu ∙ ap (λ (c : ℕ). sent_at_once base.mode old (carrier_in base old c) apdu) at
 
-  pub ended_body : (o : Option OpenCall) (called : rose.Called) (new : Body) → called_in o ≡ Some called → new ≡ handed_in base.mode called.context apdu (answering id old) → new ≡ after_outcome base old id o (Some apdu)
+  pub ended_body : (o : Option OpenCall) (called : rose.InvokedWith) (new : Body) → called_in o ≡ Some called → new ≡ handed_in base.mode called.context apdu (answering id old) → new ≡ after_outcome base old id o (Some apdu)
   ended_body None called new e h = absurd cc
   ended_body (Some o) called new e h =
       let at : called.context ≡ o.context = cc in
@@ -85,7 +85,7 @@ module _ (base : Base) (old : Body) (id : ℤ) (apdu : Apdu) where
   abbrev its : Option OpenCall
   its = opened_with false id old.calls.opens
 
-  pub answer_made : (value : Option Val) (new : Body) (made : Called) → (can_answer base old id value ≡ Ok None) × (result_in base old id value ≡ Some apdu) → made.answer ≡ None
+  pub answer_made : (value : Option Val) (new : Body) (made : CallOutcome) → (can_answer base old id value ≡ Ok None) × (result_in base old id value ≡ Some apdu) → made.answer ≡ None
       → sent_by made ≡ due_outcome base old its (Some apdu) → new ≡ after_outcome base old id its (Some apdu) → MadeAs (can_answer base old id value) base old new (the_calls.Answer id value) made
   answer_made value new made c a d b =
       record {
@@ -94,7 +94,7 @@ module _ (base : Base) (old : Body) (id : ℤ) (apdu : Apdu) where
         body = outcome_body its (result_in base old id value) new c.1 b;
       }
 
-  pub refuse_made : (place : ℕ) (parameter : Option Val) (new : Body) (made : Called) → (can_refuse base old id place parameter ≡ Ok None) × (error_for id parameter (error_at base.tables place) ≡ Some apdu) → made.answer ≡ None
+  pub refuse_made : (place : ℕ) (parameter : Option Val) (new : Body) (made : CallOutcome) → (can_refuse base old id place parameter ≡ Ok None) × (error_for id parameter (error_at base.tables place) ≡ Some apdu) → made.answer ≡ None
       → sent_by made ≡ due_outcome base old its (Some apdu) → new ≡ after_outcome base old id its (Some apdu) → MadeAs (can_refuse base old id place parameter) base old new (the_calls.Refuse id place parameter) made
   refuse_made place parameter new made c a d b =
       record {

@@ -10,7 +10,7 @@ ghost use Rattle.association_sends.specs.Due.{listed};
 ghost use Rattle.association_state.specs.Seen.{base_in, seen};
 ghost use Rattle.association_requests.specs.Called.{CalledAs, Makes};
 
-use crate::called::Called;
+use crate::call_outcome::CallOutcome;
 use crate::due::due;
 use crate::operations::{answer, invoke, refuse};
 use crate::sent::after_sent;
@@ -49,7 +49,7 @@ fn begin(body: &mut Body, call: &Call)
 }
 
 /// Makes a call that isn't one of remote operations.
-fn request(basis: &Ground<'_>, body: &mut Body, call: &Call) -> Result<Called, CallRefusal>
+fn request(basis: &Ground<'_>, body: &mut Body, call: &Call) -> Result<CallOutcome, CallRefusal>
     requires { is_of_bare_mode call.now ≡ false }
     ensures { Makes (can_by_rows (base_in basis.now) (seen body.old) call.now) (base_in basis.now)
         (seen body.old) (seen body.new) call.now result }
@@ -61,7 +61,7 @@ fn request(basis: &Ground<'_>, body: &mut Body, call: &Call) -> Result<Called, C
 }
 
 /// Makes a call that no row of all calls refuses.
-fn make(basis: &Ground<'_>, body: &mut Body, call: &Call) -> Result<Called, CallRefusal>
+fn make(basis: &Ground<'_>, body: &mut Body, call: &Call) -> Result<CallOutcome, CallRefusal>
     ensures { Makes (can_by_rows (base_in basis.now) (seen body.old) call.now) (base_in basis.now)
         (seen body.old) (seen body.new) call.now result }
 {
@@ -90,7 +90,7 @@ fn make(basis: &Ground<'_>, body: &mut Body, call: &Call) -> Result<Called, Call
 }
 
 /// Makes a call. A refused one changes nothing, unless memory was refused.
-pub fn call(basis: &Ground<'_>, body: &mut Body, call: &Call) -> Result<Called, CallRefusal>
+pub fn call(basis: &Ground<'_>, body: &mut Body, call: &Call) -> Result<CallOutcome, CallRefusal>
     ensures { CalledAs (base_in basis.now) (seen body.old) (seen body.new) call.now result }
 {
     match check_phase(basis, body, call) {

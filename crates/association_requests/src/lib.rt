@@ -3,7 +3,7 @@
 #![tactic(auto)]
 
 mod broken;
-mod called;
+mod call_outcome;
 mod calls;
 mod due;
 mod operations;
@@ -11,7 +11,7 @@ mod own;
 mod sent;
 
 pub use broken::broke;
-pub use called::Called;
+pub use call_outcome::CallOutcome;
 pub use calls::call;
 pub use own::{Own, next_own};
 pub use sent::after_sent;

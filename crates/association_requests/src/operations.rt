@@ -2,10 +2,10 @@
 //! queue.
 
 ghost use Rattle.std.specs.Prelude.{◌≡◌, ◌<◌, ◌+◌, pos, Some, None, true, false, is_some, IfOk, IfSome, OnOk, option_map};
+ghost use Rattle.osi_base.specs.Limits.{last_invocation};
 ghost use Rattle.dialogue.specs.declared.call.Call.TheVariants as the_calls;
 ghost use Rattle.stub_tables.specs.Lookup.{operation_at};
 ghost use Rattle.dialogue.specs.declared.config.Mode.TheVariants.{Direct, Bare};
-ghost use Rattle.end_rules.specs.Base.{last_invocation};
 ghost use Rattle.end_rules.specs.State.{opened_with};
 ghost use Rattle.end_rules.specs.Hearing.{is_silent_at};
 ghost use Rattle.end_rules.specs.Invoking.{next_id, can_invoke, can_answer, can_refuse};
@@ -17,7 +17,7 @@ ghost use Rattle.association_state.specs.Seen.{base_in, seen};
 ghost use Rattle.association_calls.specs.Rooms.{HasRoom};
 ghost use Rattle.association_requests.specs.Called.{Makes, sent_by};
 
-use crate::called::Called;
+use crate::call_outcome::CallOutcome;
 use asn1_types::Val;
 use association_calls::{Making, carrier_in, check_answer, check_invoke, check_refuse};
 use association_hearing::{data_on, queueing};
@@ -111,7 +111,7 @@ pub(crate) fn invoke(
     body: &mut Body,
     making: Making,
     argument: &Option<Val>,
-) -> Result<Called, CallRefusal>
+) -> Result<CallOutcome, CallRefusal>
     ensures { Makes (can_invoke (base_in basis.now) (seen body.old) making.context making.place
         argument.now making.linked) (base_in basis.now) (seen body.old) (seen body.new)
         (the_calls.Invoke making.context making.place argument.now making.linked) result }
@@ -119,7 +119,7 @@ pub(crate) fn invoke(
     let apdu = check_invoke(basis, body, making, argument)?;
     let id = open(basis, body, making)?;
     let message = hand_in(basis, body, making.context, Some(making.context), apdu)?;
-    Ok(Called {
+    Ok(CallOutcome {
         answer: Some(id),
         message,
     })
@@ -131,7 +131,7 @@ fn end_invocation(
     body: &mut Body,
     id: &i64,
     apdu: Apdu,
-) -> Result<Called, NoMemory>
+) -> Result<CallOutcome, NoMemory>
     requires { is_some (opened_with false id.now (seen body.old).calls.opens) ≡ true }
     ensures answer { IfOk result (λ called. called.answer ≡ None) }
     ensures due { IfOk result (λ called. sent_by called ≡ due_outcome (base_in basis.now)
@@ -145,7 +145,7 @@ fn end_invocation(
     let carrier = carrier_in(basis, body, called.context);
     body.calls.close(id);
     let message = hand_in(basis, body, called.context, carrier, apdu)?;
-    Ok(Called {
+    Ok(CallOutcome {
         answer: None,
         message,
     })
@@ -157,7 +157,7 @@ pub(crate) fn answer(
     body: &mut Body,
     id: &i64,
     value: &Option<Val>,
-) -> Result<Called, CallRefusal>
+) -> Result<CallOutcome, CallRefusal>
     ensures { Makes (can_answer (base_in basis.now) (seen body.old) id.now value.now)
         (base_in basis.now) (seen body.old) (seen body.new) (the_calls.Answer id.now value.now)
         result }
@@ -173,7 +173,7 @@ pub(crate) fn refuse(
     id: &i64,
     place: u32,
     parameter: &Option<Val>,
-) -> Result<Called, CallRefusal>
+) -> Result<CallOutcome, CallRefusal>
     ensures { Makes (can_refuse (base_in basis.now) (seen body.old) id.now place parameter.now)
         (base_in basis.now) (seen body.old) (seen body.new) (the_calls.Refuse id.now place
         parameter.now) result }

@@ -22,7 +22,7 @@ use Rattle.dialogue.specs.declared.indication.Indication.{Indication}
 use Rattle.dialogue.specs.declared.indication.Indication.TheVariants as indications
 use Rattle.end_rules.specs.Base.{Base, Head, is_reliable}
 use Rattle.end_rules.specs.Sets.{Alteration}
-use Rattle.end_rules.specs.Messages.{ValueContent, Remote, Value, Message, Transport, Session, Word, OfAssociation, OfData, OfMarks, OfActivities, TransportUnit, ConnectionRequest, ConnectionConfirm, DisconnectRequest, TransportError}
+use Rattle.end_rules.specs.Messages.{ValueContent, Remote, DataValue, Message, Transport, Session, Word, OfAssociation, OfData, OfMarks, OfActivities, TransportUnit, ConnectionRequest, ConnectionConfirm, DisconnectRequest, TransportError}
 use Rattle.end_rules.specs.Messages.{AssociationWord, Connect, Accept, Refuse, Finish, Disconnect, Abort, AbortAccept, Values, AlterContext, AlterContextAck}
 use Rattle.end_rules.specs.Messages.{MarkWord, Mark, MarkAck, Restart, RestartAck, Give, Please, GiveConfirm, GiveAck, ActivityWord, Start, Resume, End, EndAck, Interrupt, InterruptAck, Discard, DiscardAck}
 use Rattle.end_rules.specs.State.{Body, OpenCall, Calls, is_empty, is_broken, opened_with, close, post_order}
@@ -83,11 +83,11 @@ pub record HoldsOurs (tables : Tables) (made : List Invocation) (given : List Ou
   pub is_it : content ≡ Remote apdu
   pub is_ours : IsOurs tables made given apdu
 
-abbrev pub HoldOurs : Tables → List Invocation → List Outcome → List Value → Type 0
+abbrev pub HoldOurs : Tables → List Invocation → List Outcome → List DataValue → Type 0
 HoldOurs tables made given [] = Unit {0}
 HoldOurs tables made given (value ∷ values) = HoldsOurs tables made given value.content × HoldOurs tables made given values
 
-pub hold-on : (tables : Tables) (made more : List Invocation) (given later : List Outcome) (values : List Value) → HoldOurs tables made given values → HoldOurs tables (made ++ more) (given ++ later) values
+pub hold-on : (tables : Tables) (made more : List Invocation) (given later : List Outcome) (values : List DataValue) → HoldOurs tables made given values → HoldOurs tables (made ++ more) (given ++ later) values
 hold-on tables made more given later [] h = tt
 hold-on tables made more given later (value ∷ values) h =
     (record { apdu = h.0.apdu; is_it = h.0.is_it; is_ours = ours-on tables made more given later h.0.apdu h.0.is_ours }, hold-on tables made more given later values h.1)
@@ -334,7 +334,7 @@ activity-plain base body DiscardAck n =
     (lost-more body (shown_cut (invocation_in body.sending.current) body.calls) (cut-plain (invocation_in body.sending.current) body.calls)) (tt, tt)
 
 -- the values that are heard when a message is taken
-abbrev pub heard_values : Base → Body → Message → List Value
+abbrev pub heard_values : Base → Body → Message → List DataValue
 heard_values base body (Session (OfData (Values values))) = if is_reliable base.mode then [] else values
 heard_values base body (Session (OfActivities (End number))) = handed_up base body
 heard_values base body message = []
@@ -427,7 +427,7 @@ module _ (base : Base) (own made : List Invocation) (given : List Outcome) where
     apdu-noted context (apdus.Error id code parameter) h = error-noted id (opened_with true id calls.opens) code parameter refl h
     apdu-noted context (apdus.Reject id problem) h = reject-noted id problem
 
-  value-noted : (asked : List Asked) (body : Body) (value : Value) (before : List Indication) → AreMade base.tables own asked → Once base.tables asked body.calls before → HoldsOurs base.tables made given value.content → AreNoted base.tables own made given (take_head base body value.id (head_of base value)).shown
+  value-noted : (asked : List Asked) (body : Body) (value : DataValue) (before : List Indication) → AreMade base.tables own asked → Once base.tables asked body.calls before → HoldsOurs base.tables made given value.content → AreNoted base.tables own made given (take_head base body value.id (head_of base value)).shown
   value-noted asked body value before m once h =
       let says_so : head_of base value ≡ head_of_apdu h.apdu = ap (λ (c : ValueContent). head_of base (record { id = value.id; pair = value.pair; content = c })) h.is_it in
       subst (λ (head : Head). AreNoted base.tables own made given (take_head base body value.id head).shown) (sym says_so)
@@ -436,7 +436,7 @@ module _ (base : Base) (own made : List Invocation) (given : List Outcome) where
       noted-append base.tables own made given heard.shown with_it.shown (apdu-noted asked m body.calls before once value.id h.apdu h.is_ours)
       (plain-noted base.tables own made given with_it.shown (reject-plain base (record body { calls = heard.calls }) value.id heard.reject)))
 
-  values-noted : (asked : List Asked) (body : Body) (values : List Value) (before : List Indication) → AreMade base.tables own asked → Once base.tables asked body.calls before → HoldOurs base.tables made given values → AreNoted base.tables own made given (take_values base body values).shown
+  values-noted : (asked : List Asked) (body : Body) (values : List DataValue) (before : List Indication) → AreMade base.tables own asked → Once base.tables asked body.calls before → HoldOurs base.tables made given values → AreNoted base.tables own made given (take_values base body values).shown
   values-noted asked body [] before m once h = tt
   values-noted asked body (value ∷ values) before m once h =
       let first = take_head base body value.id (head_of base value) in

@@ -1,4 +1,4 @@
-//! Aborts.
+//! Aborts that an end writes.
 
 ghost use Rattle.std.specs.Prelude.{◌≡◌, IfOk, map, option_map, pos, Some, [], ◌∷◌};
 ghost use Rattle.osi_base.specs.declared.rtse_word.Rtse.TheVariants as rtse;

@@ -1,4 +1,4 @@
-//! Answers to an opening, and the release.
+//! Answers to an opening, and the release, that an end writes.
 
 ghost use Rattle.std.specs.Prelude.{◌≡◌, IfOk, Some, None, map, [], ◌∷◌, pos};
 ghost use Rattle.osi_base.specs.declared.acse_word.Acse.TheVariants as acse;

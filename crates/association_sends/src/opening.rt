@@ -1,4 +1,4 @@
-//! The opening.
+//! The opening that an end writes.
 
 ghost use Rattle.std.specs.Prelude.{◌≡◌, IfOk, pos};
 ghost use Rattle.osi_base.specs.declared.rtse_word.Rtse.TheVariants as rtse;

@@ -1,4 +1,4 @@
-//! Tokens, and parts of transfers.
+//! Tokens, and parts of transfers, that an end writes.
 
 ghost use Rattle.std.specs.Prelude.{◌≡◌, IfOk};
 ghost use Rattle.std.specs.Option.{option_copied};

@@ -1,4 +1,4 @@
-//! Values of the association.
+//! Values of the association in the messages that an end writes.
 
 ghost use Rattle.std.specs.Prelude.{◌≡◌, IfOk, map};
 ghost use Rattle.end_rules.specs.Base.{acse_name, rtse_name};

@@ -1,9 +1,10 @@
 //! What alterations name, and which of them may not be asked for at all.
 
-ghost use Rattle.std.specs.Prelude.{◌≡◌, IfOk, min, ◌||◌, length, nat_eq};
+ghost use Rattle.std.specs.Prelude.{◌≡◌, IfOk, min, ◌||◌, length, nat_eq, ◌+◌};
 ghost use Rattle.std.specs.List.{list_any};
 ghost use Rattle.end_rules.specs.Sets.{is_named_in, is_deleted_in, is_among, named_ids, proposed_ids, count_added, has_parity};
 ghost use Rattle.end_rules.specs.Altering.{has_double, is_no_context, has_bad_transfers, is_bad};
+ghost use Rattle.end_rules.specs.Base.{most_contexts};
 
 use crate::alteration::Alteration;
 use crate::altering::named_ids;
@@ -70,14 +71,14 @@ pub fn is_deleted_in(own: &[Alteration], id: u32) -> bool
 
 /// How many contexts an alteration would add, at most 65.
 fn added_len(alteration: &Alteration) -> usize
-    ensures { result ≡ min 65 (length alteration.now.add) }
+    ensures { result ≡ min (most_contexts + 1) (length alteration.now.add) }
 {
     alteration.add.len().min(65)
 }
 
 /// How many contexts the alterations would add, at most 65.
 pub fn count_added(own: &[Alteration]) -> usize
-    ensures count { result ≡ min 65 (count_added own.now) }
+    ensures count { result ≡ min (most_contexts + 1) (count_added own.now) }
 {
     let mut count: usize = 0;
     for alteration in own {

@@ -1,4 +1,4 @@
-//! Values and alterations.
+//! Values as they come; alterations are taken by `alterations`.
 
 ghost use Rattle.std.specs.Prelude.{◌≡◌, IfOk, OnOk, option_map};
 ghost use Rattle.end_rules.specs.Messages.{Values as values_word};

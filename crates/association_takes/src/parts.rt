@@ -3,7 +3,7 @@
 ghost use Rattle.std.specs.Prelude.{◌≡◌, ◌≤◌, ◌+◌, ◌++◌, ◌∷◌, min, length, nat_lt, not, OnOk, option_map};
 ghost use Rattle.std.specs.List.{list_any};
 ghost use Rattle.osi_base.specs.Limits.{most_transferred};
-ghost use Rattle.end_rules.specs.Messages.{Value as rule_value};
+ghost use Rattle.end_rules.specs.Messages.{DataValue};
 ghost use Rattle.end_rules.specs.State.{joined, Octets as octets_piece};
 ghost use Rattle.end_rules.specs.Faults.{rtse_fault, fault_if, or_fault};
 ghost use Rattle.end_rules.specs.TakesData.{part_in, parts_in, is_part, is_associated, is_remote, values_fault, with_parts};
@@ -61,7 +61,7 @@ fn is_remote(content: &ValueContent) -> bool
 
 /// Whether a value of association control is among these.
 pub(crate) fn has_associated(values: &[Value]) -> bool
-    ensures { result ≡ list_any (λ (v : rule_value). is_associated v.content)
+    ensures { result ≡ list_any (λ (v : DataValue). is_associated v.content)
         (seen_values values.now) }
 {
     for value in values {
@@ -74,7 +74,7 @@ pub(crate) fn has_associated(values: &[Value]) -> bool
 
 /// Whether one of these is no part of a transfer.
 fn has_other(values: &[Value]) -> bool
-    ensures { result ≡ list_any (λ (v : rule_value). not (is_part v.content))
+    ensures { result ≡ list_any (λ (v : DataValue). not (is_part v.content))
         (seen_values values.now) }
 {
     for value in values {
@@ -87,7 +87,7 @@ fn has_other(values: &[Value]) -> bool
 
 /// Whether one of these is none of remote operations.
 fn has_strange(values: &[Value]) -> bool
-    ensures { result ≡ list_any (λ (v : rule_value). not (is_remote v.content))
+    ensures { result ≡ list_any (λ (v : DataValue). not (is_remote v.content))
         (seen_values values.now) }
 {
     for value in values {
@@ -122,7 +122,7 @@ fn is_too_long(body: &Body, values: &[Value]) -> bool
 
 /// Why parts of a transfer may not be taken.
 fn parts_fault(basis: &Ground<'_>, body: &Body, values: &[Value]) -> Option<Fault>
-    ensures { option_map seen_fault result ≡ or_fault (fault_if (list_any (λ (v : rule_value). not
+    ensures { option_map seen_fault result ≡ or_fault (fault_if (list_any (λ (v : DataValue). not
         (is_part v.content)) (seen_values values.now)) rtse_fault) (fault_if
         (nat_lt most_transferred (length (joined (seen body.now).receiving.pieces
         ++ parts_in (seen_values values.now)))) rtse_fault) }

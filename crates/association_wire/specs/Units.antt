@@ -5,15 +5,15 @@ use Rattle.osi_base.specs.declared.presentation_word.PresentationWord.{Presentat
 use Rattle.osi_base.specs.declared.presentation_word.PresentationWord.TheVariants as units
 use Rattle.stub_tables.specs.declared.tables.Tables.{Tables}
 use Rattle.presentation_pdus.specs.Words.{written_ppdu}
-use Rattle.end_rules.specs.Messages.{Value, AbortData, NoData, ProviderReason, UserValues, AssociationWord, Connect, Accept, Refuse, Finish, Disconnect, Abort, AbortAccept, DataWord, Values, AlterContext, AlterContextAck, MarkWord, Mark, MarkAck, Restart, RestartAck, Give, Please, GiveConfirm, GiveAck, Word, OfAssociation, OfData, OfMarks, OfActivities}
+use Rattle.end_rules.specs.Messages.{DataValue, AbortData, NoData, ProviderReason, UserValues, AssociationWord, Connect, Accept, Refuse, Finish, Disconnect, Abort, AbortAccept, DataWord, Values, AlterContext, AlterContextAck, MarkWord, Mark, MarkAck, Restart, RestartAck, Give, Please, GiveConfirm, GiveAck, Word, OfAssociation, OfData, OfMarks, OfActivities}
 use Rattle.association_wire.specs.Values.{pdvs_of}
 
 -- user data alone; none where there is no value
-abbrev pub data_unit : Tables → List Value → Option PresentationWord
+abbrev pub data_unit : Tables → List DataValue → Option PresentationWord
 data_unit tables [] = None
 data_unit tables (value ∷ values) = Some (units.Data (pdvs_of tables (value ∷ values)))
 
-abbrev pub reject_unit : Tables → List Value → PresentationReject → PresentationWord
+abbrev pub reject_unit : Tables → List DataValue → PresentationReject → PresentationWord
 reject_unit tables values reject = units.Reject (record reject { user = pdvs_of tables values })
 
 -- what an abort carries: nothing, ARP, or ARU, whose list of contexts isn't written

@@ -13,7 +13,7 @@ use Rattle.stub_tables.specs.declared.tables.Tables.{Tables}
 use Rattle.apdu_spelling.specs.Writing.{written_apdu}
 use Rattle.acse.specs.Written.{written_acse}
 use Rattle.rtse_apdus.specs.Written.{written_rtse}
-use Rattle.end_rules.specs.Messages.{Information, Transferring, Other, ValueContent, Remote, Unread, Association, Plea, Part, Value}
+use Rattle.end_rules.specs.Messages.{Information, Transferring, Other, ValueContent, Remote, Unread, Association, Plea, Part, DataValue}
 use Rattle.end_rules.specs.Hearing.{syntax_of}
 
 -- user information of an APDU of association control
@@ -43,9 +43,9 @@ in_form Der octets = forms.SingleAsn1Type octets
 in_form Packed octets = forms.OctetAligned octets
 
 -- a value in a PDV-list of its own, which doesn't tell the transfer syntax
-abbrev pub pdv_of : Tables → Value → Pdv
+abbrev pub pdv_of : Tables → DataValue → Pdv
 pdv_of tables value =
     record { transfer = None; id = value.id; content = in_form (syntax_of value.pair) (content_octets tables (syntax_of value.pair) value.content) }
 
-abbrev pub pdvs_of : Tables → List Value → List Pdv
+abbrev pub pdvs_of : Tables → List DataValue → List Pdv
 pdvs_of tables values = map (pdv_of tables) values

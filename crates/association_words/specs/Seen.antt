@@ -42,10 +42,10 @@ seen_content (Association apdu user) = meant.Association apdu (map seen_informat
 seen_content (Plea priority) = meant.Plea priority
 seen_content (Part octets) = meant.Part octets
 
-abbrev pub seen_value : Value → meant.Value
+abbrev pub seen_value : Value → meant.DataValue
 seen_value value = record { id = value.id; pair = value.pair; content = seen_content value.content }
 
-abbrev pub seen_values : List Value → List meant.Value
+abbrev pub seen_values : List Value → List meant.DataValue
 seen_values values = map seen_value values
 
 abbrev pub seen_item : Item → rules.Item

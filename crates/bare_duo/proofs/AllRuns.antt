@@ -33,8 +33,9 @@ use Rattle.end_model.specs.Acting.{ReadsBack}
 use Rattle.end_model.specs.Pairs.{base_at, two_new, begins, WritesAll, BareModelled}
 use Rattle.bare_duo.specs.Shows.{shown_all}
 use Rattle.bare_duo.specs.Worlds.{end_at, stepping, first_octets, Runs, rests, calls, carries, breaks}
-use Rattle.bare_duo.specs.Passing.{sent_by, taken_by, shown_to, indications_at}
-use Rattle.bare_duo.specs.Outcomes.{invoked_by, answered_by, called_at, all_called, invocations, answers}
+use Rattle.run_laws.specs.Showing.{indications_in, indications_at}
+use Rattle.bare_duo.specs.Passing.{sent_by, taken_by}
+use Rattle.run_laws.specs.Outcomes.{invoked_by, answered_by, called_at, all_called, invocations, answers}
 use Rattle.bare_duo.specs.Allowed.{TakesAllowed}
 use Rattle.bare_duo.specs.Carrying.{octets_given}
 use Rattle.bare_duo.specs.Laws.{NothingWrong, NothingWholeWaits}
@@ -60,7 +61,7 @@ first_some (Some n) octets = go n octets
 indications-append : (side : Side) (one more : List Entry) → indications_at side (one ++ more) ≡ indications_at side one ++ indications_at side more
 indications-append side [] more = refl
 indications-append side (e ∷ es) more =
-    ap (λ (l : List Indication). shown_to side e ++ l) (indications-append side es more) ∙ sym (append_assoc (shown_to side e) (indications_at side es) (indications_at side more))
+    ap (λ (l : List Indication). indications_in side e ++ l) (indications-append side es more) ∙ sym (append_assoc (indications_in side e) (indications_at side es) (indications_at side more))
 
 called-append : {X : Type 0} (tells : Call → Reply → List X) (side : Side) (one more : List Entry) → all_called tells side (one ++ more) ≡ all_called tells side one ++ all_called tells side more
 called-append tells side [] more = refl

@@ -22,7 +22,7 @@ use Rattle.end_rules.specs.State.{OpenCall, Calls, is_empty, opened_with, opens_
 use Rattle.end_rules.specs.Invoking.{is_linked_to, operation_of}
 use Rattle.end_rules.specs.Hearing.{Heard, rejected, told, unless_problem, first_problem, problem_if, is_right, value_in, carried_in, code_returned, value_returned, head_of_apdu, hear}
 use Rattle.end_rules.specs.Hearing.{is_silent_at, has_links, link_problem, argument_problem, invoke_problem, opening, invoked, is_place, result_problem, hear_result_of, known_error_problem, error_problem, error_told, hear_error_of}
-use Rattle.bare_duo.specs.Outcomes.{has_result, takes_parameter, has_error}
+use Rattle.run_laws.specs.Outcomes.{has_result, takes_parameter, has_error}
 use Rattle.bare_duo.specs.Allowed.{operation_in, may_link, may_be_invoked, may_invoke, may_return, may_result, may_error, may_take_apdu}
 
 -- ---- problems that there aren't

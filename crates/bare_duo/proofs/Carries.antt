@@ -28,7 +28,8 @@ use Rattle.end_model.specs.Acting.{ReadsBack}
 use Rattle.end_model.specs.Pairs.{base_at, WritesAll, BareModelled}
 use Rattle.bare_duo.specs.Shows.{shown_all}
 use Rattle.bare_duo.specs.Worlds.{end_at, stepping, first_octets, Runs, rests, calls, carries, breaks}
-use Rattle.bare_duo.specs.Passing.{sent_by, taken_by, indications_at}
+use Rattle.run_laws.specs.Showing.{indications_at}
+use Rattle.bare_duo.specs.Passing.{sent_by, taken_by}
 use Rattle.bare_duo.specs.Carrying.{octets_given, whole_within, TakenWhenWhole, ShowsItsMessages, CarriesShow, EachCarryShows}
 use Rattle.bare_duo.proofs.Flights.{AllSent, parts, written_all}
 use Rattle.bare_duo.proofs.Counts.{taken_among}

@@ -17,7 +17,7 @@ use Rattle.dialogue.specs.declared.config.Config.{Config}
 use Rattle.dialogue.specs.declared.indication.Indication.{Indication}
 use Rattle.end_rules.specs.Base.{Base}
 use Rattle.end_rules.specs.Faults.{fault_at, shown_at_fault}
-use Rattle.end_rules.specs.Messages.{Message, ValueContent, Value as PresentationValue}
+use Rattle.end_rules.specs.Messages.{Message, ValueContent, DataValue}
 use Rattle.end_rules.specs.State.{Body, Link, passes_over}
 use Rattle.end_rules.specs.Invoking.{carrier_in}
 use Rattle.end_rules.specs.Hearing.{Rejecting, Heard, hear, head_of, with_reject, sent_on, syntax_of}
@@ -88,7 +88,7 @@ module _ (t : Tables) (config : Config) (readable : IsReadable t) (one_content :
 
   took-link : (body : Body) (content : ValueContent) → (after_taken b body (bare_message body.sets.held content)).link ≡ body.link
   took-link body content =
-      let v : PresentationValue = bare_value body.sets.held content in
+      let v : DataValue = bare_value body.sets.held content in
       let heard : Heard = hear b body.calls v.id (head_of b v) in reject-link (record body { calls = heard.calls }) v.id heard.reject
 
   answers-body : (e : End) (m : Message) (answers : List Message) → (after_all b e (map (answered m) answers)).body ≡ e.body

@@ -5,6 +5,7 @@ use Rattle.osi_base.specs.declared.words.Problem.{Problem}
 use Rattle.osi_base.specs.declared.words.SetItem.{SetItem}
 use Rattle.osi_base.specs.declared.syntax.Pair.{Pair}
 use Rattle.osi_base.specs.declared.syntax.Syntax.TheVariants.{Ber}
+use Rattle.osi_base.specs.Limits.{last_invocation}
 use Rattle.asn1_types.specs.declared.value.Val.{Val}
 use Rattle.stub_tables.specs.declared.tables.Tables.{Tables}
 use Rattle.stub_tables.specs.declared.operation.Operation.{Operation}
@@ -20,9 +21,9 @@ use Rattle.dialogue.specs.declared.call.Call.{Call}
 use Rattle.dialogue.specs.declared.call.Call.TheVariants as the_calls
 use Rattle.dialogue.specs.declared.call.CallRefusal.{CallRefusal}
 use Rattle.dialogue.specs.declared.call.CallRefusal.TheVariants as refusals
-use Rattle.end_rules.specs.Base.{Base, is_bare, most_open, last_invocation}
+use Rattle.end_rules.specs.Base.{Base, is_bare, most_open}
 use Rattle.end_rules.specs.Sets.{pair_of, is_deleted_in}
-use Rattle.end_rules.specs.Messages.{Message, Value, Session, OfData, Values, Remote}
+use Rattle.end_rules.specs.Messages.{Message, DataValue, Session, OfData, Values, Remote}
 use Rattle.end_rules.specs.State.{Body, OpenCall, bare_set, opened_with, opens_of}
 use Rattle.end_rules.specs.Invoking.{Reply, is_too_long, invoke_apdu, result_apdu, error_apdu, is_stopped, is_on_module, linking_refusal, link_refusal, is_linked_to, can_send_invoke, can_invoke_operation, unless_refused, carrier_in, can_send_outcome, lacks_carrier, is_queue_full, can_answer_open, can_refuse_open, operation_of, next_id}
 use Rattle.end_rules.specs.Calling.{can_call, can_by_rows, is_dead, is_initiators, is_phase_for, is_of_bare_mode}
@@ -115,11 +116,11 @@ module _ (t : Tables) (ca cb : Config) where
 
   -- ---- what is plain and ours is sent
 
-  value_of : Message → Option Value
+  value_of : Message → Option DataValue
   value_of (Session (OfData (Values (v ∷ [])))) = Some v
   value_of _ = None
 
-  some_is : (v w : Value) → Some v ≡ Some w → v ≡ w
+  some_is : (v w : DataValue) → Some v ≡ Some w → v ≡ w
   some_is v w e = cc
 
   remote_is : (a b : Apdu) → Remote a ≡ Remote b → a ≡ b
@@ -132,17 +133,17 @@ module _ (t : Tables) (ca cb : Config) where
       go true e h = eqb-true 0 id e
       go false e h = cc
 
-  same_value : (v w : Value) → Session (OfData (Values (v ∷ []))) ≡ Session (OfData (Values (w ∷ []))) → v ≡ w
+  same_value : (v w : DataValue) → Session (OfData (Values (v ∷ []))) ≡ Session (OfData (Values (w ∷ []))) → v ≡ w
   same_value v w e = cc
 
   sent_of : (role : Role) (held : List SetItem) (m : Message) (meant : ModelMessage) → held ≡ bare_set t → IsPlain (at_role role) held m → IsOurs (at_role role) m meant → IsSent t m
   sent_of role held m meant bare p o =
-      let mine : Value = record { id = p.id; pair = pair_of held p.id; content = Remote p.apdu } in
-      let its : Value = record { id = o.item.id; pair = Some o.item.pair; content = Remote o.item.apdu } in
+      let mine : DataValue = record { id = p.id; pair = pair_of held p.id; content = Remote p.apdu } in
+      let its : DataValue = record { id = o.item.id; pair = Some o.item.pair; content = Remote o.item.apdu } in
       let same : mine ≡ its = same_value mine its (sym p.is_its ∙ o.is_data) in
-      let apdu : p.apdu ≡ o.item.apdu = remote_is p.apdu o.item.apdu (ap (λ (v : Value). v.content) same) in
-      let id : p.id ≡ o.item.id = ap (λ (v : Value). v.id) same in
-      let pair : pair_of held p.id ≡ Some o.item.pair = ap (λ (v : Value). v.pair) same in
+      let apdu : p.apdu ≡ o.item.apdu = remote_is p.apdu o.item.apdu (ap (λ (v : DataValue). v.content) same) in
+      let id : p.id ≡ o.item.id = ap (λ (v : DataValue). v.id) same in
+      let pair : pair_of held p.id ≡ Some o.item.pair = ap (λ (v : DataValue). v.pair) same in
       let zero : 0 ≡ p.id = zero_only p.id o.item.pair (ap (λ (h : List SetItem). pair_of h p.id) (sym bare) ∙ pair) in
       let proper : IsProper (at_role role) p.apdu = subst (λ (a : Apdu). IsProper (at_role role) a) (sym apdu) o.is_proper in
       record {

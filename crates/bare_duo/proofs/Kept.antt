@@ -46,7 +46,8 @@ use Rattle.end_model.proofs.Facts.{is-up}
 use Rattle.bare_duo.proofs.Flights.{AllSent, sent-append, written_all, written-append, next_of, none_faulty}
 use Rattle.bare_duo.specs.Shows.{shown_of, apdu_in, shown_by, shown_all}
 use Rattle.bare_duo.specs.Passing.{sent_in, took_in}
-use Rattle.bare_duo.specs.Outcomes.{Invocation, Outcome, invocation_in, outcome_in, invocations_in, outcomes_in}
+use Rattle.run_laws.specs.Outcomes.{Invocation, Outcome, invocation_in, outcome_in}
+use Rattle.bare_duo.specs.Outcomes.{invocations_in, outcomes_in}
 use Rattle.bare_duo.specs.Allowed.{may_take, MightTake}
 use Rattle.bare_duo.specs.Carrying.{given_by}
 use Rattle.bare_duo.specs.Laws.{IsCalm}

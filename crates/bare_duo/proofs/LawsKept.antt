@@ -21,7 +21,7 @@ use Rattle.dialogue.specs.declared.event.Event.{Event}
 use Rattle.dialogue.specs.declared.event.Entry.{Entry}
 use Rattle.end_rules.specs.Base.{Base}
 use Rattle.end_rules.specs.Sets.{pair_of}
-use Rattle.end_rules.specs.Messages.{Message, Value, Remote}
+use Rattle.end_rules.specs.Messages.{Message, DataValue, Remote}
 use Rattle.end_rules.specs.State.{bare_set}
 use Rattle.end_rules.specs.History.{Step, called, sent, encoded, fed, took, answered, passed, fault, aborted, feed_end, gave, broke}
 use Rattle.end_rules.specs.World.{World, Ends, Shared, base_at as base_of, other, shared_at, shared_after}
@@ -34,7 +34,8 @@ use Rattle.end_model.specs.Acting.{ReadsBack}
 use Rattle.end_model.specs.Pairs.{base_at, bare_pair, HasCodec, BareModelled, WritesAll}
 use Rattle.bare_duo.specs.Worlds.{ends_of, end_at, Runs}
 use Rattle.bare_duo.specs.Passing.{sent_in, sent_by, taken_by, as_read, at_sending, values_in, sendings, BeginsWith, TakenAsSent, ShownAsTaken}
-use Rattle.bare_duo.specs.Outcomes.{Invocation, Outcome, invocations, answers, invocations_in, outcomes_in, told_invocations, outcomes, IsAllowed, AreNumbered, Differ}
+use Rattle.run_laws.specs.Outcomes.{Invocation, Outcome, invocations, answers, told_invocations, outcomes, IsAllowed, Differ}
+use Rattle.bare_duo.specs.Outcomes.{invocations_in, outcomes_in, AreNumbered}
 use Rattle.bare_duo.specs.Laws.{IsCalm, NothingWrong, NobodyIsDead, KeepsLaws, EveryRunKeepsLaws}
 use Rattle.bare_duo.specs.Shows.{shown_all}
 use Rattle.bare_duo.proofs.Flights.{IsSent, AllSent, parts}
@@ -85,7 +86,7 @@ module _ (t : Tables) (ends : Ends) (first : (shared_at ends []).set ≡ bare_se
   same_pair : (w : World) (m : Message) → (shared_at ends w).set ≡ bare_set t → IsSent t m → at_sending ends w m ≡ as_read m
   same_pair w m h s =
       ap (at_sending ends w) s.is_its
-      ∙ ap (λ (set : List SetItem). record { message = bare_message (bare_set t) (Remote s.apdu); pairs = map (λ (v : Value). pair_of set v.id) (values_in (bare_message (bare_set t) (Remote s.apdu))) }) h
+      ∙ ap (λ (set : List SetItem). record { message = bare_message (bare_set t) (Remote s.apdu); pairs = map (λ (v : DataValue). pair_of set v.id) (values_in (bare_message (bare_set t) (Remote s.apdu))) }) h
       ∙ ap as_read (sym s.is_its)
 
   same_pairs : (w : World) (ms : List Message) → (shared_at ends w).set ≡ bare_set t → AllSent t ms → map (at_sending ends w) ms ≡ map as_read ms

@@ -12,7 +12,8 @@ use Rattle.end_rules.specs.Base.{Base}
 use Rattle.end_rules.specs.State.{OpenCall, Calls, is_key, opened_with, closed, close, orphaned}
 use Rattle.end_rules.specs.Hearing.{is_silent_at, opening}
 use Rattle.end_model.proofs.Numbered.{opened-snoc, opened-closed, same-own, same-id, same-key}
-use Rattle.bare_duo.specs.Outcomes.{Invocation, Outcome, id_of, has_outcome, IsIn, IsAllowed, AreNumbered, Differ}
+use Rattle.run_laws.specs.Outcomes.{Invocation, Outcome, id_of, has_outcome, IsIn, IsAllowed, Differ}
+use Rattle.bare_duo.specs.Outcomes.{AreNumbered}
 
 -- ---- lists
 

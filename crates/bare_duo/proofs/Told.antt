@@ -36,7 +36,8 @@ use Rattle.end_model.proofs.Ladder.{passed, called}
 use Rattle.end_model.proofs.InvokeRungs.{invokable, answerable, refusable}
 use Rattle.end_model.proofs.HandingRows.{next-is}
 use Rattle.bare_duo.specs.Shows.{value_of, shown_of, shown_invoke, shown_error, shown_all}
-use Rattle.bare_duo.specs.Outcomes.{Invocation, Outcome, returned, failed, has_result, invoked_by, answered_by, invocations_in, outcomes_in}
+use Rattle.run_laws.specs.Outcomes.{Invocation, Outcome, returned, failed, has_result, invoked_by, answered_by}
+use Rattle.bare_duo.specs.Outcomes.{invocations_in, outcomes_in}
 use Rattle.bare_duo.proofs.Allowing.{opens_of_invoke, closes_of_result, closes_of_error}
 use Rattle.bare_duo.proofs.Settling.{Settled, settled-close, settled-peer, settled-own, settled-told}
 

@@ -17,7 +17,7 @@ use Rattle.end_rules.specs.World.{World, Ends}
 use Rattle.end_rules.specs.Base.{most_open}
 use Rattle.bare_duo.specs.Shows.{apdu_in}
 use Rattle.bare_duo.specs.Worlds.{end_at}
-use Rattle.bare_duo.specs.Outcomes.{has_result, has_error}
+use Rattle.run_laws.specs.Outcomes.{has_result, has_error}
 
 -- the operation of an open invocation
 abbrev pub operation_in : Tables → Option OpenCall → Option Operation

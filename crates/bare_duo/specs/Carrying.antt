@@ -12,7 +12,8 @@ use Rattle.end_rules.specs.World.{World, Ends, is_side, other}
 use Rattle.end_wire.specs.Bare.{written}
 use Rattle.bare_duo.specs.Shows.{shown_all}
 use Rattle.bare_duo.specs.Worlds.{end_at}
-use Rattle.bare_duo.specs.Passing.{sent_by, taken_by, indications_at}
+use Rattle.run_laws.specs.Showing.{indications_at}
+use Rattle.bare_duo.specs.Passing.{sent_by, taken_by}
 
 -- how many octets an end gave out
 abbrev pub given_by : ℕ → Step → ℕ

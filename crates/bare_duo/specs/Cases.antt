@@ -13,7 +13,7 @@ use Rattle.end_rules.specs.Cases.{calc}
 use Rattle.end_rules.specs.Messages.{Message, Unread}
 use Rattle.end_rules.specs.State.{Calls, bare_set}
 use Rattle.end_wire.specs.Bare.{bare_message}
-use Rattle.bare_duo.specs.Outcomes.{Invocation}
+use Rattle.run_laws.specs.Outcomes.{Invocation}
 
 -- add is invoked at A, with its octets in one carry; B answers it, and its outcome comes in the next
 abbrev pub one_answered : List Entry

@@ -4,11 +4,10 @@ use Rattle.osi_base.specs.declared.words.Side.{Side}
 use Rattle.osi_base.specs.declared.syntax.Pair.{Pair}
 use Rattle.stub_tables.specs.declared.tables.Tables.{Tables}
 use Rattle.dialogue.specs.declared.event.Entry.{Entry}
-use Rattle.dialogue.specs.declared.event.Entry.TheVariants as entries
-use Rattle.dialogue.specs.declared.indication.Indication.{Indication}
-use Rattle.end_rules.specs.Messages.{Message, Session, Word, OfData, DataWord, Values, Value}
+use Rattle.end_rules.specs.Messages.{Message, Session, Word, OfData, DataWord, Values, DataValue}
 use Rattle.end_rules.specs.History.{Step, called, sent, encoded, fed, took, answered, passed, fault, aborted, feed_end, gave, broke}
 use Rattle.end_rules.specs.World.{World, Ends, is_side, other, pair_at_sending}
+use Rattle.run_laws.specs.Showing.{indications_at}
 use Rattle.bare_duo.specs.Shows.{shown_all}
 
 -- ---- what is sent and taken
@@ -52,15 +51,15 @@ taken_by side (m ∷ w) = if is_side side m.side then taken_by side w ++ took_in
 
 -- ---- taken as sent
 
-abbrev pub values_in_data : DataWord → List Value
+abbrev pub values_in_data : DataWord → List DataValue
 values_in_data (Values values) = values
 values_in_data _ = []
 
-abbrev pub values_in_word : Word → List Value
+abbrev pub values_in_word : Word → List DataValue
 values_in_word (OfData word) = values_in_data word
 values_in_word _ = []
 
-abbrev pub values_in : Message → List Value
+abbrev pub values_in : Message → List DataValue
 values_in (Session word) = values_in_word word
 values_in _ = []
 
@@ -72,10 +71,10 @@ pub record Passed : Type 0 where
 -- with the pairs that the one shared set gave the identifiers just before its sending, and with those under which its
 -- values were read
 abbrev pub at_sending : Ends → World → Message → Passed
-at_sending ends w m = record { message = m; pairs = map (λ (v : Value). pair_at_sending ends w v.id) (values_in m) }
+at_sending ends w m = record { message = m; pairs = map (λ (v : DataValue). pair_at_sending ends w v.id) (values_in m) }
 
 abbrev pub as_read : Message → Passed
-as_read m = record { message = m; pairs = map (λ (v : Value). v.pair) (values_in m) }
+as_read m = record { message = m; pairs = map (λ (v : DataValue). v.pair) (values_in m) }
 
 abbrev pub sendings : Ends → Side → World → List Passed
 sendings ends side [] = []
@@ -95,16 +94,6 @@ abbrev pub TakenAsSent : Ends → World → Type 0
 TakenAsSent ends w = (side : Side) → BeginsWith (sendings ends side w) (takings (other side) w)
 
 -- ---- what is shown
-
--- what carries to one end showed
-abbrev pub shown_to : Side → Entry → List Indication
-shown_to side (entries.Carry from most carried) = if is_side side (other from) then carried.shown else []
-shown_to side (entries.Call from call answer) = []
-shown_to side entries.Break = []
-
-abbrev pub indications_at : Side → List Entry → List Indication
-indications_at side [] = []
-indications_at side (e ∷ es) = shown_to side e ++ indications_at side es
 
 -- Carries to an end showed what its takings show, in their order, and nothing else.
 abbrev pub ShownAsTaken : Tables → List Entry → World → Type 0

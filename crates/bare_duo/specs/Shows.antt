@@ -8,7 +8,7 @@ use Rattle.stub_tables.specs.declared.apdu.Returned.{Returned}
 use Rattle.stub_tables.specs.Lookup.{operation_with, error_with}
 use Rattle.dialogue.specs.declared.indication.Indication.{Indication}
 use Rattle.dialogue.specs.declared.indication.Indication.TheVariants as indications
-use Rattle.end_rules.specs.Messages.{Message, Session, Word, OfData, DataWord, Values, Value, ValueContent, Remote}
+use Rattle.end_rules.specs.Messages.{Message, Session, Word, OfData, DataWord, Values, DataValue, ValueContent, Remote}
 
 abbrev pub value_of : Option Returned → Option Val
 value_of None = None
@@ -33,7 +33,7 @@ abbrev pub apdu_in_content : ValueContent → Option Apdu
 apdu_in_content (Remote apdu) = Some apdu
 apdu_in_content _ = None
 
-abbrev pub apdu_in_values : List Value → Option Apdu
+abbrev pub apdu_in_values : List DataValue → Option Apdu
 apdu_in_values (v ∷ []) = apdu_in_content v.content
 apdu_in_values _ = None
 

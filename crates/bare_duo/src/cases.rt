@@ -6,7 +6,7 @@ ghost use Rattle.end_rules.specs.Cases.{calc};
 ghost use Rattle.bare_duo.specs.Allowed.{may_take};
 ghost use Rattle.bare_duo.specs.Carrying.{whole_within};
 ghost use Rattle.bare_duo.specs.Cases.{a_reject, a_result, invoking, nothing_open, of_three, of_two, one_answered, own_add, peer_add, the_first};
-ghost use Rattle.bare_duo.specs.Outcomes.{answers, invocations, outcomes, returned, told_invocations};
+ghost use Rattle.run_laws.specs.Outcomes.{answers, invocations, outcomes, returned, told_invocations};
 
 /// One invocation and its result, as a transcript tells them.
 pub fn one_answer_is_told()

@@ -1,4 +1,5 @@
-//! Schedules run over two ends of bare mode that see of each other octets alone.
+//! Schedules run over two ends of bare mode that see of each other octets alone; the laws of such
+//! runs, and worked ones.
 #![tactic(auto)]
 
 mod cases;

@@ -1,4 +1,4 @@
-//! What calls write.
+//! The octets that calls write, and whether an APDU is too long.
 
 ghost use Rattle.std.specs.Prelude.{◌≡◌, IfOk, OnOk, OnErr};
 ghost use Rattle.apdu_spelling.specs.Writing.{written_apdu};
@@ -32,10 +32,14 @@ impl<'t> End<'t> {
     pub(crate) fn short_text(&self, apdu: &Apdu) -> Result<Option<Octets>, NoMemory>
         ensures { IfOk result (IsShortText (base self.now) apdu.now) }
     {
-        if is_too_long(self.tables, apdu) {
+        let used = self.tables.use_in(apdu);
+        if is_too_long(self.tables, used, apdu) {
             return Ok(None);
         }
-        Ok(Some(self.text(Syntax::Ber, apdu)?))
+        let text = self
+            .heads
+            .write_with(self.alloc, Syntax::Ber, self.tables, used, apdu)?;
+        Ok(Some(text))
     }
 
     /// Puts octets behind those that wait.

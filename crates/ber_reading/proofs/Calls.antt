@@ -6,7 +6,7 @@ use Rattle.asn1_types.specs.Table.{AreSoundRows}
 use Rattle.asn1_types.specs.Value.{Value}
 use Rattle.ber_spelling.specs.declared.fault.ReadFault.{ReadFault}
 use Rattle.ber_spelling.specs.declared.fault.ReadFault.TheVariants as faults
-use Rattle.ber_reading.specs.declared.public.Read.{Read}
+use Rattle.ber_reading.specs.declared.whole_values.Read.{Read}
 use Rattle.ber_reading.specs.Calls.{IsRead}
 use Rattle.ber_spelling.specs.Octets.{AreOctets}
 use Rattle.ber_spelling.specs.Reading.{Reading, Gives}

@@ -4,7 +4,7 @@ use Rattle.asn1_types.specs.Value.{Value}
 use Rattle.ber_spelling.specs.declared.fault.ReadFault.{ReadFault}
 use Rattle.ber_spelling.specs.declared.fault.ReadFault.TheVariants.{NoMemory}
 use Rattle.ber_spelling.specs.Reading.{Spot, Reading, ◌>>=◌, Gives}
-use Rattle.ber_reading.specs.declared.public.Read.{Read}
+use Rattle.ber_reading.specs.declared.whole_values.Read.{Read}
 
 -- unless memory is refused, a call gave this value with this many octets
 abbrev pub IsRead : Result Read ReadFault → Value → ℕ → Type 0

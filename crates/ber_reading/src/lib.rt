@@ -3,11 +3,11 @@
 
 mod contents;
 mod parts;
-mod public;
 mod read;
 mod short_parts;
+mod whole_values;
 
 pub use ber_spelling::ReadFault;
 pub use contents::any_value;
-pub use public::{LIMIT, Read, ber_read, ber_read_within, der_read};
 pub use read::value;
+pub use whole_values::{LIMIT, Read, ber_read, ber_read_within, der_read};

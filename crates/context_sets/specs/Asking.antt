@@ -4,6 +4,7 @@ use Rattle.std.specs.List.{list_any}
 use Rattle.std.specs.Option.{option_or}
 use Rattle.osi_base.specs.declared.syntax.Pair.{Pair}
 use Rattle.osi_base.specs.declared.words.Proposal.{Proposal}
+use Rattle.osi_base.specs.Limits.{highest_context}
 use Rattle.context_sets.specs.declared.alteration.Alteration.{Alteration}
 use Rattle.context_sets.specs.declared.fault.SetRefusal.{SetRefusal}
 use Rattle.context_sets.specs.declared.fault.SetRefusal.TheVariants.{AlterPending, BadProposal, WrongParity, Named, Present, Absent, Fixed, InUse, SetFull, NoMemory}
@@ -15,9 +16,9 @@ use Rattle.context_sets.specs.Alterations.{additions, named_by, is_among, is_nam
 abbrev pub is_of : Bool → ℕ → Bool
 is_of initiator id = nat_eq (id % 2) (if initiator then 1 else 0)
 
--- an identifier is a number from 1 to 32767
+-- an identifier is a number from 1 on, within its limit
 abbrev pub is_no_identifier : ℕ → Bool
-is_no_identifier id = nat_eq id 0 || nat_lt 32767 id
+is_no_identifier id = nat_eq id 0 || nat_lt highest_context id
 
 -- one of these, which stand behind those before, is no identifier or stood there already
 abbrev pub are_bad : List ℕ → List ℕ → Bool

@@ -1,4 +1,4 @@
-//! What is written in DER are octets.
+//! A DER spelling consists of octets, numbers below 256, where the strings in the value do.
 #![tactic(auto)]
 
 mod laws;

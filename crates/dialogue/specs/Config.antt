@@ -1,20 +1,33 @@
 -- Which configurations an end refuses, and why: the first row that holds decides.
 use Rattle.std.specs.Prelude.{◌≡◌, ℕ, List, [], length, Bool, ◌||◌, not, nat_lt, nat_eq, Option, Some, None, Result, Ok, Err, if◌then◌else◌}
+use Rattle.osi_base.specs.Limits.{most_checkpoint, most_window}
 use Rattle.dialogue.specs.declared.config.Config.{Config}
 use Rattle.dialogue.specs.declared.config.Mode.TheVariants.{Bare}
 use Rattle.dialogue.specs.declared.config.ConfigRefusal.{ConfigRefusal}
 use Rattle.dialogue.specs.declared.config.ConfigRefusal.TheVariants as refusals
 
--- a selector has 1 to 16 octets (X.225 8.3.1.16; the bounds are this project's own)
-abbrev pub is_bad_selector : List ℕ → Bool
-is_bad_selector octets = nat_eq (length octets) 0 || nat_lt 16 (length octets)
+-- octets of a selector (this project's own limit)
+abbrev pub most_selector : ℕ
+most_selector = 16
 
--- a reference has 1 to 64 octets, a common reference 13
+-- a selector has at least one octet (X.225 8.3.1.16)
+abbrev pub is_bad_selector : List ℕ → Bool
+is_bad_selector octets = nat_eq (length octets) 0 || nat_lt most_selector (length octets)
+
+-- octets of a reference
+abbrev pub most_reference : ℕ
+most_reference = 64
+
+-- octets of a common reference, a UTCTime
+abbrev pub common_octets : ℕ
+common_octets = 13
+
+-- a reference has at least one octet
 abbrev pub is_bad_reference : List ℕ → List ℕ → Bool
-is_bad_reference reference common = nat_eq (length reference) 0 || nat_lt 64 (length reference) || not (nat_eq (length common) 13)
+is_bad_reference reference common = nat_eq (length reference) 0 || nat_lt most_reference (length reference) || not (nat_eq (length common) common_octets)
 
 abbrev pub is_bad_window : ℕ → ℕ → Bool
-is_bad_window checkpoint window = nat_lt 255 checkpoint || nat_eq window 0 || nat_lt 255 window
+is_bad_window checkpoint window = nat_lt most_checkpoint checkpoint || nat_eq window 0 || nat_lt most_window window
 
 -- the refusal of a configuration of bare mode, which has no contexts
 abbrev pub config_refusal : Config → Option ConfigRefusal

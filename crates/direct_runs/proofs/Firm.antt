@@ -21,7 +21,7 @@ use Rattle.dialogue.specs.declared.call.Call.TheVariants as the_calls
 use Rattle.end_rules.specs.Base.{Base, Spellings, Item}
 use Rattle.end_rules.specs.Sets.{Alteration, Saved, is_among, named_ids, proposed_ids, pair_of, is_fixed, altered, listed, below, newest, next_number}
 use Rattle.end_rules.specs.Policy.{policy, is_faulty_proposal}
-use Rattle.end_rules.specs.Messages.{Message, Transport, Session, TransportUnit, ConnectionRequest, ConnectionConfirm, DisconnectRequest, TransportError, Value, Accepting}
+use Rattle.end_rules.specs.Messages.{Message, Transport, Session, TransportUnit, ConnectionRequest, ConnectionConfirm, DisconnectRequest, TransportError, DataValue, Accepting}
 use Rattle.end_rules.specs.Messages.{Word, OfAssociation, OfData, OfMarks, OfActivities, Connect, Accept, Refuse, Finish, Disconnect, Abort, AbortAccept, Values, AlterContext, AlterContextAck, Mark, MarkAck, Restart, RestartAck, Give, Please, GiveConfirm, GiveAck, unit_of}
 use Rattle.end_rules.specs.State.{Body, Sets, OpenCall, opened_with, is_up, is_carrying, is_joined}
 use Rattle.end_rules.specs.Writing.{acse_pair, session_connect, presentation_connect, connect_values, user_abort, disconnect_message, proposals}
@@ -349,7 +349,7 @@ module _ (tables : Tables) (spellings : Spellings) (a b : Config) where
     accepts-so Initiator h = λ f. silent _ (λ g e. (record { held = first-has; own = tt; saved = (refl, first-has) }, f))
     accepts-so Responder h = cc
 
-    accepted-does : (role : Role) (session : Accepting) (presentation : PresentationAccept) (values : List Value) → IsWord (base Initiator) (base Responder) (OfAssociation (Accept session presentation values)) → is_in_place (base role) body (unit_of (OfAssociation (Accept session presentation values))) ≡ true → IsFirm shared → WordDoes role body shared (OfAssociation (Accept session presentation values))
+    accepted-does : (role : Role) (session : Accepting) (presentation : PresentationAccept) (values : List DataValue) → IsWord (base Initiator) (base Responder) (OfAssociation (Accept session presentation values)) → is_in_place (base role) body (unit_of (OfAssociation (Accept session presentation values))) ≡ true → IsFirm shared → WordDoes role body shared (OfAssociation (Accept session presentation values))
     accepted-does role session presentation values i in_place f =
         subst (AcceptDoes role) (sym i.1)
         (accepts-so role (and-left (is_initiator role) (is_carrying body.link.stage) (and-left (is_initiator role && is_carrying body.link.stage) (is_opening body.link.phase) (and-left _ (has_version_two session.version) (and-left _ (has_units (needed_units Direct) (selected_with Direct session.requirements)) in_place))))) f

@@ -21,7 +21,7 @@ use Rattle.dialogue.specs.declared.call.CallRefusal.TheVariants as refusals
 use Rattle.dialogue.specs.declared.indication.Indication.{Indication}
 use Rattle.end_rules.specs.Base.{Base, Spellings, Item}
 use Rattle.end_rules.specs.Sets.{Alteration}
-use Rattle.end_rules.specs.Messages.{ValueContent, Remote, Value, Message, Transport, Session, Word, OfAssociation, OfData, OfMarks, OfActivities, TransportUnit, ConnectionRequest, ConnectionConfirm, DisconnectRequest, TransportError, unit_of}
+use Rattle.end_rules.specs.Messages.{ValueContent, Remote, DataValue, Message, Transport, Session, Word, OfAssociation, OfData, OfMarks, OfActivities, TransportUnit, ConnectionRequest, ConnectionConfirm, DisconnectRequest, TransportError, unit_of}
 use Rattle.end_rules.specs.Messages.{Connect, Accept, Refuse, Finish, Disconnect, Abort, AbortAccept, Values, AlterContext, AlterContextAck, Mark, MarkAck, Restart, RestartAck, Give, Please, GiveConfirm, GiveAck}
 use Rattle.end_rules.specs.State.{Body, OpenCall, is_up, is_unused, is_broken, is_carrying, opened_with}
 use Rattle.end_rules.specs.Writing.{provider_refusal, refuse_message, user_abort}
@@ -93,7 +93,7 @@ abbrev IsRejectAlone : ValueContent → Type 0
 IsRejectAlone (Remote (apdus.Reject id problem)) = Unit {0}
 IsRejectAlone content = ⊥
 
-abbrev AreRejects : List Value → Type 0
+abbrev AreRejects : List DataValue → Type 0
 AreRejects [] = Unit {0}
 AreRejects (value ∷ values) = IsRejectAlone value.content × AreRejects values
 
@@ -112,7 +112,7 @@ abbrev content_invokes : ValueContent → List ℤ
 content_invokes (Remote apdu) = apdu_invokes apdu
 content_invokes content = []
 
-abbrev values_invoke : List Value → List ℤ
+abbrev values_invoke : List DataValue → List ℤ
 values_invoke [] = []
 values_invoke (value ∷ values) = content_invokes value.content ++ values_invoke values
 
@@ -128,7 +128,7 @@ pub invokes-append : (xs ys : List Message) → all_invokes (xs ++ ys) ≡ all_i
 invokes-append [] ys = refl
 invokes-append (x ∷ xs) ys = ap (λ (l : List ℤ). message_invokes x ++ l) (invokes-append xs ys) ∙ sym (append_assoc (message_invokes x) (all_invokes xs) (all_invokes ys))
 
-rejects-none : (values : List Value) → AreRejects values → values_invoke values ≡ []
+rejects-none : (values : List DataValue) → AreRejects values → values_invoke values ≡ []
 rejects-none [] h = refl
 rejects-none (value ∷ values) h = ap (λ (l : List ℤ). l ++ values_invoke values) (one-none value.content h.0) ∙ rejects-none values h.1
   where
@@ -149,7 +149,7 @@ pub all-rejects_none : (ms : List Message) → AllRejects ms → all_invokes ms 
 all-rejects_none [] h = refl
 all-rejects_none (m ∷ ms) h = ap (λ (l : List ℤ). l ++ all_invokes ms) (reject-none m h.0) ∙ all-rejects_none ms h.1
 
-rejects-hold : (tables : Tables) (made : List Invocation) (given : List Outcome) (values : List Value) → AreRejects values → HoldOurs tables made given values
+rejects-hold : (tables : Tables) (made : List Invocation) (given : List Outcome) (values : List DataValue) → AreRejects values → HoldOurs tables made given values
 rejects-hold tables made given [] h = tt
 rejects-hold tables made given (value ∷ values) h = (one value.content h.0, rejects-hold tables made given values h.1)
   where
@@ -333,7 +333,7 @@ module _ (tables : Tables) (spellings : Spellings) (a b : Config) where
   WordHands role body word = TakeHands body (after_word (base role) body word) (Session word) (answers_to_word (base role) body word) (shown_of_word (base role) body word)
 
   module _ (role : Role) (body : Body) where
-    connect-hands : (session : SessionConnect) (presentation : PresentationConnect) (values : List Value) → WordHands role body (OfAssociation (Connect session presentation values))
+    connect-hands : (session : SessionConnect) (presentation : PresentationConnect) (values : List DataValue) → WordHands role body (OfAssociation (Connect session presentation values))
     connect-hands session presentation values = go (is_refused (base role) body session presentation values)
       where
         shown : List Indication

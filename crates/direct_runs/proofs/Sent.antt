@@ -15,7 +15,7 @@ use Rattle.dialogue.specs.declared.event.Entry.{Entry}
 use Rattle.dialogue.specs.declared.indication.Indication.{Indication}
 use Rattle.end_rules.specs.Base.{Base, Spellings, Fault}
 use Rattle.end_rules.specs.Sets.{pair_of}
-use Rattle.end_rules.specs.Messages.{Message, Transport, Session, Value, Word, OfAssociation, OfData, OfMarks, OfActivities, Connect, Accept, Refuse, Finish, Disconnect, Abort, AbortAccept, Values, AlterContext, AlterContextAck, Mark, MarkAck, Restart, RestartAck, Give, Please, GiveConfirm, GiveAck, unit_of}
+use Rattle.end_rules.specs.Messages.{Message, Transport, Session, DataValue, Word, OfAssociation, OfData, OfMarks, OfActivities, Connect, Accept, Refuse, Finish, Disconnect, Abort, AbortAccept, Values, AlterContext, AlterContextAck, Mark, MarkAck, Restart, RestartAck, Give, Please, GiveConfirm, GiveAck, unit_of}
 use Rattle.end_rules.specs.State.{Body, is_carrying, is_joined, passes_over}
 use Rattle.end_rules.specs.Writing.{proposals}
 use Rattle.end_rules.specs.Calling.{can_call}
@@ -92,7 +92,7 @@ not-empty message left (f ∷ fs) h = record { first = f; rest = fs; is_it = ref
 
 -- with the pairs that the set gave
 abbrev under : Message → List SetItem → Passed
-under message set = record { message = message; pairs = map (λ (v : Value). pair_of set v.id) (values_in message) }
+under message set = record { message = message; pairs = map (λ (v : DataValue). pair_of set v.id) (values_in message) }
 
 abbrev expected : List Message → List (List SetItem) → List Passed
 expected [] sets = []

@@ -16,7 +16,7 @@ use Rattle.dialogue.specs.declared.config.Config.{Config}
 use Rattle.dialogue.specs.declared.config.Mode.{Mode}
 use Rattle.dialogue.specs.declared.config.Mode.TheVariants.{Bare, Direct, Reliable}
 use Rattle.end_rules.specs.Base.{Base, application_context}
-use Rattle.end_rules.specs.Messages.{Information, Transferring, Other, ValueContent, Remote, Unread, Association, Plea, Part, Value}
+use Rattle.end_rules.specs.Messages.{Information, Transferring, Other, ValueContent, Remote, Unread, Association, Plea, Part, DataValue}
 use Rattle.end_rules.specs.Writing.{own_proposals, requirement_bits, presentation_connect, connect_values}
 
 -- ---- what the rules send as CP, with its user data as octets
@@ -34,7 +34,7 @@ associated (Unread octets) = octets
 associated (Plea priority) = []
 associated (Part octets) = octets
 
-abbrev pub pdv_of : Value → Pdv
+abbrev pub pdv_of : DataValue → Pdv
 pdv_of value = record { transfer = None; id = value.id; content = SingleAsn1Type (associated value.content) }
 
 abbrev pub connect_of_rules : Base → Bool → PresentationConnect

@@ -2,6 +2,7 @@
 use Rattle.std.specs.Prelude.{ℕ, ◌%◌, List, [], ◌∷◌, ◌++◌, length, Bool, true, false, not, ◌&&◌, ◌||◌, nat_eq, nat_lt, Option, Some, None, if◌then◌else◌}
 use Rattle.std.specs.List.{list_any}
 use Rattle.osi_base.specs.declared.words.Proposal.{Proposal}
+use Rattle.osi_base.specs.Limits.{highest_context, most_connect_data}
 use Rattle.dialogue.specs.declared.config.Config.{Config}
 use Rattle.dialogue.specs.declared.config.Mode.{Mode}
 use Rattle.dialogue.specs.declared.config.ConfigRefusal.{ConfigRefusal}
@@ -13,6 +14,10 @@ use Rattle.end_config.specs.Connecting.{connect_octets}
 
 -- ---- contexts
 
+-- contexts that an initiator proposes beside those of association control and reliable transfer
+abbrev pub most_proposed : ℕ
+most_proposed = 62
+
 -- one of these has the identifier
 abbrev pub is_taken : ℕ → List Proposal → Bool
 is_taken id before = list_any (λ (p : Proposal). nat_eq p.id id) before
@@ -21,7 +26,7 @@ is_taken id before = list_any (λ (p : Proposal). nat_eq p.id id) before
 -- (X.226 8.4.2; the highest is this project's own).
 abbrev pub is_bad_context : Mode → List Proposal → Proposal → Bool
 is_bad_context mode before p =
-    nat_eq (p.id % 2) 0 || nat_eq p.id 1 || (is_reliable mode && nat_eq p.id 3) || nat_lt 32767 p.id || is_taken p.id before || is_empty p.transfers
+    nat_eq (p.id % 2) 0 || nat_eq p.id 1 || (is_reliable mode && nat_eq p.id 3) || nat_lt highest_context p.id || is_taken p.id before || is_empty p.transfers
 
 -- the first context that is bad, behind these
 abbrev pub bad_context : Mode → List Proposal → List Proposal → Option ℕ
@@ -31,7 +36,7 @@ bad_context mode before (p ∷ ps) = if is_bad_context mode before p then Some p
 -- ---- the octets of CP: a CONNECT carries 10,240 octets of user data (X.225 8.3.1.20)
 
 abbrev pub is_too_long : Config → Bool
-is_too_long config = nat_lt 10240 (length (connect_octets config false)) || nat_lt 10240 (length (connect_octets config true))
+is_too_long config = nat_lt most_connect_data (length (connect_octets config false)) || nat_lt most_connect_data (length (connect_octets config true))
 
 -- ---- the rows
 
@@ -41,7 +46,7 @@ or_refusal (Some refusal) later = Some refusal
 
 abbrev pub context_refusal : Option ℕ → ℕ → Option ConfigRefusal
 context_refusal (Some id) count = Some (refusals.BadContext id)
-context_refusal None count = if nat_lt 62 count then Some refusals.TooManyContexts else None
+context_refusal None count = if nat_lt most_proposed count then Some refusals.TooManyContexts else None
 
 -- what is refused without a look at CP: contexts, selectors, references, checkpoint and window
 abbrev pub early_refusal : Config → Option ConfigRefusal

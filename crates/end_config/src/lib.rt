@@ -1,4 +1,5 @@
-//! Which configurations an end refuses, in any mode.
+//! Which configurations an end refuses, in any mode, and the CP with which an initiator opens or
+//! recovers an association.
 #![tactic(auto)]
 
 mod checking;

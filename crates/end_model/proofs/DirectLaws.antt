@@ -13,7 +13,7 @@ use Rattle.dialogue.specs.declared.config.Phase.TheVariants.{Over}
 use Rattle.dialogue.specs.declared.indication.Indication.{Indication}
 use Rattle.end_rules.specs.Base.{Base, Spellings, Item}
 use Rattle.end_rules.specs.Messages.{Message, TransportUnit, Transport, Session, Word}
-use Rattle.end_rules.specs.Messages.{AssociationWord, OfAssociation, OfData, Values, Value, unit_of}
+use Rattle.end_rules.specs.Messages.{AssociationWord, OfAssociation, OfData, Values, DataValue, unit_of}
 use Rattle.end_rules.specs.State.{Body, Awaited, NoAnswer, RestartOf, InterruptOf, DiscardOf}
 use Rattle.end_rules.specs.State.{ReleaseOf, is_up, is_restarting, holds_turn}
 use Rattle.end_rules.specs.Sets.{pair_of}
@@ -154,10 +154,10 @@ module _ (free : Free) (tables : Tables) (spellings : Spellings) (a b : Config) 
       let no_take : Passes ≡ Takes body answers shown = sym (machine.over-passes free tables spellings a b role (body_at role two) message over) ∙ h in cc
 
   -- data are taken by an end whose association stands, and are of this product
-  abbrev IsStanding : Body → List Value → Type 0
+  abbrev IsStanding : Body → List DataValue → Type 0
   IsStanding body values = Live body × OwnValues (base Initiator) values
 
-  stands-a : (two : Two) (shared : Shared) (sets : SetsSent) (values : List Value) (left : List Message) (body : Body) (answers : List Message) (shown : List Indication) → Kept two shared sets → two.to_a ≡ Session (OfData (Values values)) ∷ left → Reacts two Initiator (Session (OfData (Values values))) body answers shown → IsStanding two.a values
+  stands-a : (two : Two) (shared : Shared) (sets : SetsSent) (values : List DataValue) (left : List Message) (body : Body) (answers : List Message) (shown : List Indication) → Kept two shared sets → two.to_a ≡ Session (OfData (Values values)) ∷ left → Reacts two Initiator (Session (OfData (Values values))) body answers shown → IsStanding two.a values
   stands-a two shared sets values left body answers shown k comes h = go k.opened
     where
       none : two.to_a ≡ [] → ⊥
@@ -182,7 +182,7 @@ module _ (free : Free) (tables : Tables) (spellings : Spellings) (a b : Config) 
       go (Standing (Stands live own) s) = let o = subst (AreOwn (base Initiator)) comes own in (live, o.0)
       go (Standing (IsOver p) s) = absurd (over-takes two Initiator (Session (OfData (Values values))) body answers shown p h)
 
-  stands-b : (two : Two) (shared : Shared) (sets : SetsSent) (values : List Value) (left : List Message) (body : Body) (answers : List Message) (shown : List Indication) → Kept two shared sets → two.to_b ≡ Session (OfData (Values values)) ∷ left → Reacts two Responder (Session (OfData (Values values))) body answers shown → IsStanding two.b values
+  stands-b : (two : Two) (shared : Shared) (sets : SetsSent) (values : List DataValue) (left : List Message) (body : Body) (answers : List Message) (shown : List Indication) → Kept two shared sets → two.to_b ≡ Session (OfData (Values values)) ∷ left → Reacts two Responder (Session (OfData (Values values))) body answers shown → IsStanding two.b values
   stands-b two shared sets values left body answers shown k comes h = go k.opened
     where
       none : two.to_b ≡ [] → ⊥
@@ -220,10 +220,10 @@ module _ (free : Free) (tables : Tables) (spellings : Spellings) (a b : Config) 
       go (Standing s (IsOver q)) = over q
 
   -- what the model says of it
-  value-as_sent : (world : World) (role : Role) (body : Body) (value : Value) (left : List Message) (peer : Body) (to_peer : List Message) (set : List SetItem) (rest gs : List (List SetItem)) (shared : Shared) (later : Body) (answers : List Message) (shown : List Indication) → taking.AreJoint free tables spellings a b world role body (Session (OfData (Values (value ∷ []))) ∷ left) peer to_peer (set ∷ rest) gs shared → IsStanding body (value ∷ []) → react (base role) body (Session (OfData (Values (value ∷ [])))) ≡ Takes later answers shown → (pair_of body.sets.held value.id ≡ value.pair) × (pair_of set value.id ≡ value.pair)
+  value-as_sent : (world : World) (role : Role) (body : Body) (value : DataValue) (left : List Message) (peer : Body) (to_peer : List Message) (set : List SetItem) (rest gs : List (List SetItem)) (shared : Shared) (later : Body) (answers : List Message) (shown : List Indication) → taking.AreJoint free tables spellings a b world role body (Session (OfData (Values (value ∷ []))) ∷ left) peer to_peer (set ∷ rest) gs shared → IsStanding body (value ∷ []) → react (base role) body (Session (OfData (Values (value ∷ [])))) ≡ Takes later answers shown → (pair_of body.sets.held value.id ≡ value.pair) × (pair_of set value.id ≡ value.pair)
   value-as_sent world role body value left peer to_peer set rest gs shared later answers shown j stands h = go (is_purged (is_initiator role) body.link.awaits (unit_of (OfData (Values (value ∷ []))))) refl
     where
-      head : List Value → Value
+      head : List DataValue → DataValue
       head [] = value
       head (v ∷ vs) = v
 
@@ -244,7 +244,7 @@ module _ (free : Free) (tables : Tables) (spellings : Spellings) (a b : Config) 
           let same : lookup (state_of setup role world).sets.held item.id ≡ lookup n.first.shared item.id = subst (λ f. SamePair (state_of setup role world) f (model_data v)) n.is_it t.pair in
           let sets : (set_seen set ≡ n.first.shared) × SetsOnWay left rest n.rest = subst (SetsOnWay (Session (OfData (Values (value ∷ []))) ∷ left) (set ∷ rest)) n.is_it j.own_sets in
           let sent : lookup (set_seen set) item.id ≡ Some (pair_seen item.pair) = ap (λ s. lookup s item.id) sets.0 ∙ sym same ∙ t.may.is_read in
-          subst (λ (x : Value). (pair_of body.sets.held x.id ≡ x.pair) × (pair_of set x.id ≡ x.pair)) (sym is)
+          subst (λ (x : DataValue). (pair_of body.sets.held x.id ≡ x.pair) × (pair_of set x.id ≡ x.pair)) (sym is)
           (found-back body.sets.held item.id item.pair read, found-back set item.id item.pair sent)
 
       go : (p : Bool) → is_purged (is_initiator role) body.link.awaits (unit_of (OfData (Values (value ∷ [])))) ≡ p → (pair_of body.sets.held value.id ≡ value.pair) × (pair_of set value.id ≡ value.pair)
@@ -254,7 +254,7 @@ module _ (free : Free) (tables : Tables) (spellings : Spellings) (a b : Config) 
           sym (reacts-so (base role) body (OfData (Values (value ∷ []))) stands.0 ∙ ap (λ p. if p then Passes else on_word (base role) body (OfData (Values (value ∷ []))) (word_fault (base role) body (OfData (Values (value ∷ []))))) e) ∙ h in
           cc
 
-  as-sent : (two : Two) (shared : Shared) (sets : SetsSent) (role : Role) (value : Value) (left : List Message) (set : List SetItem) (rest : List (List SetItem)) (body : Body) (answers : List Message) (shown : List Indication) → Kept two shared sets → coming_to role two ≡ Session (OfData (Values (value ∷ []))) ∷ left → sets_to role sets ≡ set ∷ rest → Reacts two role (Session (OfData (Values (value ∷ [])))) body answers shown → (pair_of (body_at role two).sets.held value.id ≡ value.pair) × (pair_of set value.id ≡ value.pair)
+  as-sent : (two : Two) (shared : Shared) (sets : SetsSent) (role : Role) (value : DataValue) (left : List Message) (set : List SetItem) (rest : List (List SetItem)) (body : Body) (answers : List Message) (shown : List Indication) → Kept two shared sets → coming_to role two ≡ Session (OfData (Values (value ∷ []))) ∷ left → sets_to role sets ≡ set ∷ rest → Reacts two role (Session (OfData (Values (value ∷ [])))) body answers shown → (pair_of (body_at role two).sets.held value.id ≡ value.pair) × (pair_of set value.id ≡ value.pair)
   as-sent two shared sets Initiator value left set rest body answers shown k comes e h =
       value-as_sent k.world Initiator two.a value left two.b two.to_b set rest sets.to_b shared body answers shown (machine.coming-a free tables spellings a b two shared sets k (Session (OfData (Values (value ∷ []))) ∷ left) (set ∷ rest) comes e) (stands-a two shared sets (value ∷ []) left body answers shown k comes h) h
   as-sent two shared sets Responder value left set rest body answers shown k comes e h =

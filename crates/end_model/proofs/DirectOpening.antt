@@ -16,7 +16,7 @@ use Rattle.dialogue.specs.declared.config.Phase.{Phase}
 use Rattle.dialogue.specs.declared.config.Phase.TheVariants.{Idle, Opening, Broken, Over}
 use Rattle.dialogue.specs.declared.indication.Indication.{Indication}
 use Rattle.end_rules.specs.Base.{Base, Spellings}
-use Rattle.end_rules.specs.Messages.{TransportUnit, ConnectionRequest, ConnectionConfirm, Value}
+use Rattle.end_rules.specs.Messages.{TransportUnit, ConnectionRequest, ConnectionConfirm, DataValue}
 use Rattle.end_rules.specs.Messages.{Word, OfAssociation, Connect, Accept, Refuse, Accepting}
 use Rattle.end_rules.specs.Messages.{Message, Transport, Session, unit_of}
 use Rattle.end_rules.specs.State.{Body, Stage, Unused, Asked, Joined, Carrying, NoAnswer}
@@ -221,7 +221,7 @@ module _ (free : Free) (tables : Tables) (spellings : Spellings) (a b : Config) 
   pub record IsAccept (word : Word) : Type 0 where
     pub session : Accepting
     pub presentation : PresentationAccept
-    pub values : List Value
+    pub values : List DataValue
     pub is_it : word ≡ OfAssociation (Accept session presentation values)
     pub version : has_version_two session.version ≡ true
     pub units : has_units (needed_units Direct) (selected_with Direct session.requirements) ≡ true
@@ -233,7 +233,7 @@ module _ (free : Free) (tables : Tables) (spellings : Spellings) (a b : Config) 
     pub transport : Option ℕ
     pub reason : Option ℕ
     pub presentation : Option PresentationReject
-    pub values : List Value
+    pub values : List DataValue
     pub is_it : word ≡ OfAssociation (Refuse transport reason presentation values)
 
   -- ---- CN
@@ -244,7 +244,7 @@ module _ (free : Free) (tables : Tables) (spellings : Spellings) (a b : Config) 
   abbrev session : SessionConnect
   session = session_connect (base Initiator)
 
-  abbrev values : List Value
+  abbrev values : List DataValue
   values = connect_values (base Initiator) false
 
   abbrev held : List SetItem
@@ -390,7 +390,7 @@ module _ (free : Free) (tables : Tables) (spellings : Spellings) (a b : Config) 
     pub sound : IsSoundBody Direct (base Initiator) later
     pub side : Live later ⊎ (later.link.phase ≡ Over)
 
-  accept-so : (world : World) (body : Body) (s : Accepting) (p : PresentationAccept) (v : List Value) (left : List Message) (peer : Body) (to_peer : List Message) (f : List SetItem) (rest gs : List (List SetItem)) (shared : Shared) → AreJoint world Initiator body (Session (OfAssociation (Accept s p v)) ∷ left) peer to_peer (f ∷ rest) gs shared → IsSoundBody Direct (base Initiator) body → At Opening Carrying body → has_version_two s.version ≡ true → has_units (needed_units Direct) (selected_with Direct s.requirements) ≡ true → selected_with Direct s.requirements ≡ proposed_units Direct → manages_with p.requirements (selected_with Direct s.requirements) ≡ true → accept_fault (base Initiator) p v ≡ None → Answered body (OfAssociation (Accept s p v)) left peer to_peer rest gs shared
+  accept-so : (world : World) (body : Body) (s : Accepting) (p : PresentationAccept) (v : List DataValue) (left : List Message) (peer : Body) (to_peer : List Message) (f : List SetItem) (rest gs : List (List SetItem)) (shared : Shared) → AreJoint world Initiator body (Session (OfAssociation (Accept s p v)) ∷ left) peer to_peer (f ∷ rest) gs shared → IsSoundBody Direct (base Initiator) body → At Opening Carrying body → has_version_two s.version ≡ true → has_units (needed_units Direct) (selected_with Direct s.requirements) ≡ true → selected_with Direct s.requirements ≡ proposed_units Direct → manages_with p.requirements (selected_with Direct s.requirements) ≡ true → accept_fault (base Initiator) p v ≡ None → Answered body (OfAssociation (Accept s p v)) left peer to_peer rest gs shared
   accept-so world body s p v left peer to_peer f rest gs shared j sound at version units selected manages none =
       let word : Word = OfAssociation (Accept s p v) in
       let fine_now : word_fault (base Initiator) body word ≡ None = fine (base Initiator) body word (rw (asked-so body at, version, units) refl) none in
@@ -415,7 +415,7 @@ module _ (free : Free) (tables : Tables) (spellings : Spellings) (a b : Config) 
       subst (λ w. Answered body w left peer to_peer rest gs shared) (sym x.is_it)
       (accept-so world body x.session x.presentation x.values left peer to_peer f rest gs shared (subst (λ w. AreJoint world Initiator body (Session w ∷ left) peer to_peer (f ∷ rest) gs shared) x.is_it j) sound at x.version x.units x.selected x.manages x.no_fault)
 
-  refuse-so : (world : World) (body : Body) (transport reason : Option ℕ) (p : Option PresentationReject) (v : List Value) (left : List Message) (peer : Body) (to_peer : List Message) (f : List SetItem) (rest gs : List (List SetItem)) (shared : Shared) → AreJoint world Initiator body (Session (OfAssociation (Refuse transport reason p v)) ∷ left) peer to_peer (f ∷ rest) gs shared → IsSoundBody Direct (base Initiator) body → At Opening Carrying body → Answered body (OfAssociation (Refuse transport reason p v)) left peer to_peer rest gs shared
+  refuse-so : (world : World) (body : Body) (transport reason : Option ℕ) (p : Option PresentationReject) (v : List DataValue) (left : List Message) (peer : Body) (to_peer : List Message) (f : List SetItem) (rest gs : List (List SetItem)) (shared : Shared) → AreJoint world Initiator body (Session (OfAssociation (Refuse transport reason p v)) ∷ left) peer to_peer (f ∷ rest) gs shared → IsSoundBody Direct (base Initiator) body → At Opening Carrying body → Answered body (OfAssociation (Refuse transport reason p v)) left peer to_peer rest gs shared
   refuse-so world body transport reason p v left peer to_peer f rest gs shared j sound at =
       let word : Word = OfAssociation (Refuse transport reason p v) in
       let fine_now : word_fault (base Initiator) body word ≡ None = fine (base Initiator) body word (asked-so body at) refl in

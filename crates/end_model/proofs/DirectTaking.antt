@@ -12,7 +12,7 @@ use Rattle.dialogue.specs.declared.config.Mode.TheVariants.{Direct}
 use Rattle.dialogue.specs.declared.config.Phase.TheVariants.{Up, Releasing, Over}
 use Rattle.dialogue.specs.declared.indication.Indication.{Indication}
 use Rattle.end_rules.specs.Base.{Base, Spellings, Item}
-use Rattle.end_rules.specs.Messages.{Value, Word, OfAssociation, OfData, OfMarks, OfActivities}
+use Rattle.end_rules.specs.Messages.{DataValue, Word, OfAssociation, OfData, OfMarks, OfActivities}
 use Rattle.end_rules.specs.Messages.{Finish, Disconnect, Abort, Values, AlterContext}
 use Rattle.end_rules.specs.Messages.{AlterContextAck, Mark, Restart, RestartAck, Give, Please}
 use Rattle.end_rules.specs.Messages.{Message, Transport, Session, unit_of}
@@ -463,7 +463,7 @@ module _ (free : Free) (tables : Tables) (spellings : Spellings) (a b : Config) 
       (takes-joint free tables spellings a b world role body word left peer to_peer x.taken_so.choice f rest gs shared (shared_after role body word shared) j t (x.taken_so.shares shared (shared_at setup world) t.message t.means j.same))
       x.sound x.side x.own
 
-  values-so : (world : World) (role : Role) (body : Body) (values : List Value) (left : List Message) (peer : Body) (to_peer : List Message) (f : List SetItem) (rest gs : List (List SetItem)) (shared : Shared) → WritesAll free → AreJoint world role body (Session (OfData (Values values)) ∷ left) peer to_peer (f ∷ rest) gs shared → IsSoundBody Direct (base role) body → Live body → is_purged (is_initiator role) body.link.awaits (unit_of (OfData (Values values))) ≡ false → OwnValues (base Initiator) values → Reacted role body (OfData (Values values)) left peer to_peer rest gs shared
+  values-so : (world : World) (role : Role) (body : Body) (values : List DataValue) (left : List Message) (peer : Body) (to_peer : List Message) (f : List SetItem) (rest gs : List (List SetItem)) (shared : Shared) → WritesAll free → AreJoint world role body (Session (OfData (Values values)) ∷ left) peer to_peer (f ∷ rest) gs shared → IsSoundBody Direct (base role) body → Live body → is_purged (is_initiator role) body.link.awaits (unit_of (OfData (Values values))) ≡ false → OwnValues (base Initiator) values → Reacted role body (OfData (Values values)) left peer to_peer rest gs shared
   values-so world role body values left peer to_peer f rest gs shared writes j sound live here own =
       let n = next-word proposed (base Initiator) (OfData (Values values)) left (flight_to setup role world) j.ends.own.flight in
       let item : Item = n.means.item in

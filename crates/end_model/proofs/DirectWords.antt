@@ -5,7 +5,7 @@ use Rattle.osi_base.specs.declared.words.Proposal.{Proposal}
 use Rattle.dialogue.specs.declared.config.Mode.TheVariants.{Direct}
 use Rattle.dialogue.specs.declared.config.Phase.TheVariants.{Up, Releasing, Over}
 use Rattle.end_rules.specs.Base.{Base, Item}
-use Rattle.end_rules.specs.Messages.{Remote, Value, Word, AssociationWord, DataWord, MarkWord}
+use Rattle.end_rules.specs.Messages.{Remote, DataValue, Word, AssociationWord, DataWord, MarkWord}
 use Rattle.end_rules.specs.Messages.{OfAssociation, OfData, OfMarks, OfActivities, Finish}
 use Rattle.end_rules.specs.Messages.{Disconnect, Abort, Values, AlterContext, AlterContextAck, Mark}
 use Rattle.end_rules.specs.Messages.{Restart, RestartAck, Give, Please, Message, Transport, Session}
@@ -29,7 +29,7 @@ use Rattle.end_model.proofs.PurgedWords as words
 
 -- ---- words
 
-pub record OwnValues (base : Base) (values : List Value) : Type 0 where
+pub record OwnValues (base : Base) (values : List DataValue) : Type 0 where
   pub item : Item
   pub is_one : values ≡ value_of_item item ∷ []
   pub is_proper : IsProper base item.apdu
@@ -97,7 +97,7 @@ direct-sent base (message ∷ sent) (m ∷ ms) h body =
     ap (λ x. sent_all Direct (after_sent Direct body x) sent) h.0.is_data ∙ direct-sent base sent ms h.1 body
 
 -- values are of one item at most
-first-of : Value → List Value → Value
+first-of : DataValue → List DataValue → DataValue
 first-of default [] = default
 first-of default (value ∷ values) = value
 
@@ -105,7 +105,7 @@ pub one-item : (x y : Item) → value_of_item x ∷ [] ≡ value_of_item y ∷ [
 unfolding first-of
 one-item x y e =
     let one : value_of_item x ≡ value_of_item y = ap (first-of (value_of_item x)) e in
-    let same : Remote x.apdu ≡ Remote y.apdu = ap (λ (v : Value). v.content) one in
+    let same : Remote x.apdu ≡ Remote y.apdu = ap (λ (v : DataValue). v.content) one in
     cc
 
 -- ---- what is passed over is what the model passes over

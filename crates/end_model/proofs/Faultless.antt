@@ -32,7 +32,7 @@ use Rattle.end_rules.specs.InPlace.{is_peers, is_in_place, is_next_confirmed, aw
 use Rattle.end_rules.specs.TakesData.{alteration, answered_fault}
 use Rattle.end_rules.specs.TakesMarks.{restored_set, list_fault}
 use Rattle.end_rules.specs.Reacting.{fault_above, word_fault}
-use Rattle.end_rules.specs.Messages.{Word, Value, unit_of, OfAssociation, OfData, OfMarks}
+use Rattle.end_rules.specs.Messages.{Word, DataValue, unit_of, OfAssociation, OfData, OfMarks}
 use Rattle.end_rules.specs.Messages.{OfActivities, Finish, AlterContext, AlterContextAck, Values}
 use Rattle.end_rules.specs.Messages.{Part, Mark, MarkAck, Restart, RestartAck, Give, Please}
 use Rattle.end_rules.specs.Messages.{GiveConfirm, GiveAck, Start, Interrupt, Discard}
@@ -212,13 +212,13 @@ give_ack-reliable free base body h =
     let a = both (is_up body.link.phase) body.link.gave f.in_place in
     record { by_transfers = refl; is_up = up-at (at Reliable base) body a.left; asked = a.right }
 
-please-direct : (tokens priority : ℕ) (values : List Value) → Faultless Direct (OfMarks (Please (Some tokens) values)) (model_please priority)
+please-direct : (tokens priority : ℕ) (values : List DataValue) → Faultless Direct (OfMarks (Please (Some tokens) values)) (model_please priority)
 please-direct tokens priority values free base body h =
     let f = fine (at Direct base) body (OfMarks (Please (Some tokens) values)) h in
     let a = both (is_up body.link.phase) (has_token (at Direct base) body) f.in_place in
     record { is_up = up-at (at Direct base) body a.left; in_mode = tt }
 
-please-reliable : (tokens priority : ℕ) (values : List Value) → Faultless Reliable (OfMarks (Please (Some tokens) values)) (model_please priority)
+please-reliable : (tokens priority : ℕ) (values : List DataValue) → Faultless Reliable (OfMarks (Please (Some tokens) values)) (model_please priority)
 please-reliable tokens priority values free base body h =
     let f = fine (at Reliable base) body (OfMarks (Please (Some tokens) values)) h in
     let a = both (is_up body.link.phase) (has_token (at Reliable base) body) f.in_place in
@@ -390,14 +390,14 @@ responds false h = refl
 pub not-reliable : mode_seen Direct ≡ model_reliable → ⊥
 not-reliable e = cc
 
-finish-direct : (transport : Option ℕ) (values : List Value) → Faultless Direct (OfAssociation (Finish transport values)) model_release
+finish-direct : (transport : Option ℕ) (values : List DataValue) → Faultless Direct (OfAssociation (Finish transport values)) model_release
 finish-direct transport values free base body h =
     let f = fine (at Direct base) body (OfAssociation (Finish transport values)) h in
     let a = both (not base.initiator && is_up body.link.phase) true f.in_place in
     let b = both (not base.initiator) (is_up body.link.phase) a.left in
     record { responds = responds base.initiator b.left; is_up = up-at (at Direct base) body b.right; rests = λ e. absurd (not-reliable e) }
 
-finish-reliable : (transport : Option ℕ) (values : List Value) → Faultless Reliable (OfAssociation (Finish transport values)) model_release
+finish-reliable : (transport : Option ℕ) (values : List DataValue) → Faultless Reliable (OfAssociation (Finish transport values)) model_release
 finish-reliable transport values free base body h =
     let f = fine (at Reliable base) body (OfAssociation (Finish transport values)) h in
     let a = both (not base.initiator && is_up body.link.phase) (not body.link.turn && not body.receiving.active) f.in_place in

@@ -23,7 +23,7 @@ use Rattle.end_rules.specs.InPlace.{is_peers, is_opening, asked_to_open, awaits_
 use Rattle.end_rules.specs.Connecting.{set_accepted}
 use Rattle.end_rules.specs.TakesActivities.{arrived_now, fault_in}
 use Rattle.end_rules.specs.Reacting.{word_fault}
-use Rattle.end_rules.specs.Messages.{Value, Accepting, OfAssociation, OfActivities, Connect, Accept, Refuse}
+use Rattle.end_rules.specs.Messages.{DataValue, Accepting, OfAssociation, OfActivities, Connect, Accept, Refuse}
 use Rattle.end_rules.specs.Messages.{Disconnect, Resume, End, EndAck, InterruptAck, DiscardAck}
 use Rattle.agreement.specs.Sets.Role.{Initiator}
 use Rattle.agreement.specs.State.Progress.{Ending as model_ending}
@@ -57,13 +57,13 @@ unjoined Joined phase h (inl e) = subst (λ (p : Phase). IsUnjoined (phase_seen 
 unjoined Joined phase h (inr e) = subst (λ (p : Phase). IsUnjoined (phase_seen Joined p)) (sym e) tt
 unjoined Carrying phase h a = cc
 
-connect-taken : (mode : Mode) (session : SessionConnect) (presentation : PresentationConnect) (values : List Value) → FaultlessWhere IsAsked mode (OfAssociation (Connect session presentation values)) model_connect
+connect-taken : (mode : Mode) (session : SessionConnect) (presentation : PresentationConnect) (values : List DataValue) → FaultlessWhere IsAsked mode (OfAssociation (Connect session presentation values)) model_connect
 connect-taken mode session presentation values free base body asked h =
     let f = fine (at mode base) body (OfAssociation (Connect session presentation values)) h in
     let a = both (not base.initiator) (is_joined body.link.stage) f.in_place in
     record { responds = responds base.initiator a.left; is_unjoined = unjoined body.link.stage body.link.phase a.right asked }
 
-recover-taken : (mode : Mode) (session : SessionConnect) (presentation : PresentationConnect) (values : List Value) → FaultlessWhere IsAsked mode (OfAssociation (Connect session presentation values)) model_recover
+recover-taken : (mode : Mode) (session : SessionConnect) (presentation : PresentationConnect) (values : List DataValue) → FaultlessWhere IsAsked mode (OfAssociation (Connect session presentation values)) model_recover
 recover-taken mode session presentation values free base body asked h =
     let f = fine (at mode base) body (OfAssociation (Connect session presentation values)) h in
     let a = both (not base.initiator) (is_joined body.link.stage) f.in_place in
@@ -97,13 +97,13 @@ asking base body h =
     let b = both base.initiator (is_carrying body.link.stage) a.left in
     record { initiator = b.left; back_at = back body.link.stage body.link.phase b.right a.right }
 
-refuse-taken : (mode : Mode) (transport reason : Option ℕ) (presentation : Option PresentationReject) (values : List Value) → Faultless mode (OfAssociation (Refuse transport reason presentation values)) model_refuse
+refuse-taken : (mode : Mode) (transport reason : Option ℕ) (presentation : Option PresentationReject) (values : List DataValue) → Faultless mode (OfAssociation (Refuse transport reason presentation values)) model_refuse
 refuse-taken mode transport reason presentation values free base body h =
     let f = fine (at mode base) body (OfAssociation (Refuse transport reason presentation values)) h in
     let a = asking (at mode base) body f.in_place in
     record { initiates = initiates base.initiator a.initiator; asked = a.back_at }
 
-accept-taken : (mode : Mode) (session : Accepting) (presentation : PresentationAccept) (values : List Value) (free : Free) (base : Base) (body : Body) → word_fault (at mode base) body (OfAssociation (Accept session presentation values)) ≡ None
+accept-taken : (mode : Mode) (session : Accepting) (presentation : PresentationAccept) (values : List DataValue) (free : Free) (base : Base) (body : Body) → word_fault (at mode base) body (OfAssociation (Accept session presentation values)) ≡ None
     → MayTake (setup_seen free mode base) (role_seen base.initiator) (seen (at mode base) body) (model_accept (set_seen (set_accepted (at mode base) presentation)))
 accept-taken mode session presentation values free base body h =
     let f = fine (at mode base) body (OfAssociation (Accept session presentation values)) h in
@@ -129,7 +129,7 @@ released InterruptOf h = cc
 released DiscardOf h = cc
 released ReleaseOf h = refl
 
-disconnect-taken : (mode : Mode) (values : List Value) → FaultlessWhere IsReleasing mode (OfAssociation (Disconnect values)) model_release_answer
+disconnect-taken : (mode : Mode) (values : List DataValue) → FaultlessWhere IsReleasing mode (OfAssociation (Disconnect values)) model_release_answer
 disconnect-taken mode values free base body releasing h =
     let f = fine (at mode base) body (OfAssociation (Disconnect values)) h in
     record { is_releasing = ap (phase_seen body.link.stage) releasing; asked = released body.link.awaits f.in_place }

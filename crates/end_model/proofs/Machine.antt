@@ -6,7 +6,7 @@ use Rattle.dialogue.specs.declared.config.Mode.{Mode}
 use Rattle.dialogue.specs.declared.config.Mode.TheVariants.{Bare, Direct, Reliable}
 use Rattle.end_rules.specs.Base.{Base}
 use Rattle.end_rules.specs.State.{Body}
-use Rattle.end_rules.specs.Messages.{Message, Word, Value, AssociationWord, DataWord, Transport}
+use Rattle.end_rules.specs.Messages.{Message, Word, DataValue, AssociationWord, DataWord, Transport}
 use Rattle.end_rules.specs.Messages.{Session, OfAssociation, OfData, OfMarks, OfActivities, Connect}
 use Rattle.end_rules.specs.Messages.{Accept, Refuse, Finish, Disconnect, Abort, AbortAccept, Values}
 use Rattle.end_rules.specs.Messages.{AlterContext, AlterContextAck}
@@ -35,7 +35,7 @@ use Rattle.end_model.proofs.BareMachine.{flight-other}
 
 -- ---- what a word means at one end it means at the other
 
-values-for : (mode : Mode) (a b : Base) (values : List Value) (message : model.Message) → (IsData a values message → IsData b values message) → ValuesMean mode a values message → ValuesMean mode b values message
+values-for : (mode : Mode) (a b : Base) (values : List DataValue) (message : model.Message) → (IsData a values message → IsData b values message) → ValuesMean mode a values message → ValuesMean mode b values message
 values-for Bare a b values message f h = f h
 values-for Direct a b values message f h = f h
 values-for Reliable a b values message f h = h

@@ -18,7 +18,7 @@ use Rattle.end_rules.specs.Connecting.{refused_connect, refusal_message, context
 use Rattle.end_rules.specs.Connecting.{lacks_request, rejecting_information, transfer_rejection}
 use Rattle.end_rules.specs.Writing.{provider_refusal, refuse_message}
 use Rattle.end_rules.specs.Units.{selected_with, manages_with}
-use Rattle.end_rules.specs.Messages.{Accepting, Value, OfAssociation, Connect, Accept}
+use Rattle.end_rules.specs.Messages.{Accepting, DataValue, OfAssociation, Connect, Accept}
 use Rattle.agreement.specs.Sets.{ContextSet}
 use Rattle.agreement.specs.Messages.Choice.{Nothing, Accepting as accepting, Refusing}
 use Rattle.agreement.specs.Messages.Message.{Connect as model_connect, Recover as model_recover}
@@ -52,18 +52,18 @@ begun-joined free Bare base session set = refl
 begun-joined free Direct base session set = refl
 begun-joined free Reliable base session set = refl
 
-accept-taken : (mode : Mode) (session : Accepting) (presentation : PresentationAccept) (values : List Value) (free : Free) (base : Base) (proposed : List Proposal) (body : Body) → OpensAs free mode base proposed body (OfAssociation (Accept session presentation values)) (model_accept (set_seen (set_accepted (at mode base) presentation))) Nothing
+accept-taken : (mode : Mode) (session : Accepting) (presentation : PresentationAccept) (values : List DataValue) (free : Free) (base : Base) (proposed : List Proposal) (body : Body) → OpensAs free mode base proposed body (OfAssociation (Accept session presentation values)) (model_accept (set_seen (set_accepted (at mode base) presentation))) Nothing
 accept-taken mode session presentation values free base proposed body =
     record { after = joined-seen mode base (set_accepted (at mode base) presentation) (selected_with mode session.requirements) (manages_with presentation.requirements (selected_with mode session.requirements)) (agreed_for (at mode base) values) body; means = tt }
 
-opened-taken : (mode : Mode) (session : SessionConnect) (presentation : PresentationConnect) (values : List Value) (free : Free) (base : Base) (body : Body) → is_refused (at mode base) body session presentation values ≡ false → recovers_in (at mode base) values ≡ false → OpensAs free mode base presentation.definitions body (OfAssociation (Connect session presentation values)) model_connect (accepting (set_seen (set_for (at mode base) presentation)))
+opened-taken : (mode : Mode) (session : SessionConnect) (presentation : PresentationConnect) (values : List DataValue) (free : Free) (base : Base) (body : Body) → is_refused (at mode base) body session presentation values ≡ false → recovers_in (at mode base) values ≡ false → OpensAs free mode base presentation.definitions body (OfAssociation (Connect session presentation values)) model_connect (accepting (set_seen (set_for (at mode base) presentation)))
 opened-taken mode session presentation values free base body kept anew =
     record {
       after = rw (kept, anew) (joined-seen mode base (set_for (at mode base) presentation) (selected_with mode session.requirements) (manages_with presentation.requirements (selected_with mode session.requirements)) (agreed_for (at mode base) values) (begun_with (at mode base) session) ∙ begun-joined free mode base session (set_seen (set_for (at mode base) presentation)));
       means = rw kept (refl, tt);
     }
 
-recovered-taken : (mode : Mode) (session : SessionConnect) (presentation : PresentationConnect) (values : List Value) (free : Free) (base : Base) (body : Body) → is_refused (at mode base) body session presentation values ≡ false → recovers_in (at mode base) values ≡ true → OpensAs free mode base presentation.definitions body (OfAssociation (Connect session presentation values)) model_recover (accepting (set_seen (set_for (at mode base) presentation)))
+recovered-taken : (mode : Mode) (session : SessionConnect) (presentation : PresentationConnect) (values : List DataValue) (free : Free) (base : Base) (body : Body) → is_refused (at mode base) body session presentation values ≡ false → recovers_in (at mode base) values ≡ true → OpensAs free mode base presentation.definitions body (OfAssociation (Connect session presentation values)) model_recover (accepting (set_seen (set_for (at mode base) presentation)))
 recovered-taken mode session presentation values free base body kept back =
     record {
       after = rw (kept, back) (joined-seen mode base (set_for (at mode base) presentation) (selected_with mode session.requirements) (manages_with presentation.requirements (selected_with mode session.requirements)) (agreed_for (at mode base) values) body);
@@ -72,7 +72,7 @@ recovered-taken mode session presentation values free base body kept back =
 
 -- ---- refusals
 
-refusal-meant : (proposed : List Proposal) (base : Base) (body : Body) (session : SessionConnect) (presentation : PresentationConnect) (values : List Value) → AreMeant proposed base (refusal_message base body session presentation values ∷ []) (model_refuse ∷ [])
+refusal-meant : (proposed : List Proposal) (base : Base) (body : Body) (session : SessionConnect) (presentation : PresentationConnect) (values : List DataValue) → AreMeant proposed base (refusal_message base body session presentation values ∷ []) (model_refuse ∷ [])
 refusal-meant proposed base body session presentation values =
     go (is_some presentation.default_context || not (has_acse (set_for base presentation)))
   where
@@ -91,21 +91,21 @@ refused-state mode base body phase e h =
     let put : states.Phase → states.State = λ p. record (seen (at mode base) body) { phase = p } in
     ap (λ p. put (phase_seen Carrying (if is_broken p then phases.Broken else phases.Over))) e ∙ ap put h ∙ sym (ap (λ p. put (refusing (phase_seen body.link.stage p))) e)
 
-refused-opening : (mode : Mode) (session : SessionConnect) (presentation : PresentationConnect) (values : List Value) (free : Free) (base : Base) (proposed : List Proposal) (body : Body) → is_refused (at mode base) body session presentation values ≡ true → body.link.phase ≡ phases.Opening → OpensAs free mode base proposed body (OfAssociation (Connect session presentation values)) model_connect Refusing
+refused-opening : (mode : Mode) (session : SessionConnect) (presentation : PresentationConnect) (values : List DataValue) (free : Free) (base : Base) (proposed : List Proposal) (body : Body) → is_refused (at mode base) body session presentation values ≡ true → body.link.phase ≡ phases.Opening → OpensAs free mode base proposed body (OfAssociation (Connect session presentation values)) model_connect Refusing
 refused-opening mode session presentation values free base proposed body refused phase =
     record {
       after = rw refused (refused-state mode base body phases.Opening phase (sym (at-opening body.link.stage)));
       means = rw refused (refusal-meant proposed (at mode base) body session presentation values);
     }
 
-refused-broken : (mode : Mode) (session : SessionConnect) (presentation : PresentationConnect) (values : List Value) (free : Free) (base : Base) (proposed : List Proposal) (body : Body) → is_refused (at mode base) body session presentation values ≡ true → body.link.phase ≡ phases.Broken → OpensAs free mode base proposed body (OfAssociation (Connect session presentation values)) model_connect Refusing
+refused-broken : (mode : Mode) (session : SessionConnect) (presentation : PresentationConnect) (values : List DataValue) (free : Free) (base : Base) (proposed : List Proposal) (body : Body) → is_refused (at mode base) body session presentation values ≡ true → body.link.phase ≡ phases.Broken → OpensAs free mode base proposed body (OfAssociation (Connect session presentation values)) model_connect Refusing
 refused-broken mode session presentation values free base proposed body refused phase =
     record {
       after = rw refused (refused-state mode base body phases.Broken phase refl);
       means = rw refused (refusal-meant proposed (at mode base) body session presentation values);
     }
 
-refused-recovery : (mode : Mode) (session : SessionConnect) (presentation : PresentationConnect) (values : List Value) (free : Free) (base : Base) (proposed : List Proposal) (body : Body) → is_refused (at mode base) body session presentation values ≡ true → body.link.phase ≡ phases.Broken → OpensAs free mode base proposed body (OfAssociation (Connect session presentation values)) model_recover Refusing
+refused-recovery : (mode : Mode) (session : SessionConnect) (presentation : PresentationConnect) (values : List DataValue) (free : Free) (base : Base) (proposed : List Proposal) (body : Body) → is_refused (at mode base) body session presentation values ≡ true → body.link.phase ≡ phases.Broken → OpensAs free mode base proposed body (OfAssociation (Connect session presentation values)) model_recover Refusing
 refused-recovery mode session presentation values free base proposed body refused phase =
     record {
       after = rw refused (refused-state mode base body phases.Broken phase refl);

@@ -20,7 +20,7 @@ use Rattle.end_rules.specs.TakesAssociation.{is_release_request, is_release_resp
 use Rattle.end_rules.specs.TakesData.{alteration, settled, is_associated}
 use Rattle.end_rules.specs.TakesMarks.{priority_in}
 use Rattle.end_rules.specs.Messages.{ValueContent, Remote, Unread, Association, Plea, Part}
-use Rattle.end_rules.specs.Messages.{AbortData, Value, OfAssociation, OfData, OfMarks, OfActivities}
+use Rattle.end_rules.specs.Messages.{AbortData, DataValue, OfAssociation, OfData, OfMarks, OfActivities}
 use Rattle.end_rules.specs.Messages.{Finish, Disconnect, Abort, AlterContext, AlterContextAck, Mark}
 use Rattle.end_rules.specs.Messages.{Restart, RestartAck, Give, Please, GiveConfirm, GiveAck, Start}
 use Rattle.end_rules.specs.Messages.{Interrupt, InterruptAck, Discard}
@@ -102,19 +102,19 @@ please-direct tokens free base proposed body sound joined may =
     record { no_fault = fine (at Direct base) body (OfMarks (Please (Some tokens) [])) (rw (up, joined.selected) refl) refl; chosen = tt; after = refl; means = tt }
 
 -- a plea is no value of association control
-no-plea : (v : Value) (priority : ℕ) (c : ValueContent) → priority_in (record v { content = c } ∷ []) ≡ Some priority → is_associated c ≡ false
+no-plea : (v : DataValue) (priority : ℕ) (c : ValueContent) → priority_in (record v { content = c } ∷ []) ≡ Some priority → is_associated c ≡ false
 no-plea v priority (Remote apdu) h = cc
 no-plea v priority (Unread octets) h = cc
 no-plea v priority (Association apdu user) h = cc
 no-plea v priority (Plea p) h = refl
 no-plea v priority (Part octets) h = refl
 
-plea-alone : (values : List Value) (priority : ℕ) → priority_in values ≡ Some priority → list_any (λ (v : Value). is_associated v.content) values ≡ false
+plea-alone : (values : List DataValue) (priority : ℕ) → priority_in values ≡ Some priority → list_any (λ (v : DataValue). is_associated v.content) values ≡ false
 plea-alone [] priority h = refl
 plea-alone (v ∷ []) priority h = ap (λ b. b || false) (no-plea v priority v.content h)
 plea-alone (v ∷ more ∷ values) priority h = cc
 
-pub please-reliable : (tokens priority : ℕ) (values : List Value) → priority_in values ≡ Some priority → TakenWhere Reliable (OfMarks (Please (Some tokens) values)) (model_please priority) nothing
+pub please-reliable : (tokens priority : ℕ) (values : List DataValue) → priority_in values ≡ Some priority → TakenWhere Reliable (OfMarks (Please (Some tokens) values)) (model_please priority) nothing
 please-reliable tokens priority values plea free base proposed body sound joined may =
     let up : is_up body.link.phase ≡ true = up-now (at Reliable base) body may.is_up in
     record { no_fault = fine (at Reliable base) body (OfMarks (Please (Some tokens) values)) (rw up refl) (rw (plea-alone values priority plea, plea) refl); chosen = tt; after = refl; means = tt }
@@ -225,16 +225,16 @@ interrupt_ack-reliable free base proposed body sound joined may =
 
 -- ---- the end of the association
 
-pub finish-direct : (transport : Option ℕ) (values : List Value) → is_release_request (the_one values) ≡ true → TakenWhere Direct (OfAssociation (Finish transport values)) model_release nothing
+pub finish-direct : (transport : Option ℕ) (values : List DataValue) → is_release_request (the_one values) ≡ true → TakenWhere Direct (OfAssociation (Finish transport values)) model_release nothing
 finish-direct transport values request free base proposed body sound joined may =
     let up : is_up body.link.phase ≡ true = up-now (at Direct base) body may.is_up in
     record { no_fault = fine (at Direct base) body (OfAssociation (Finish transport values)) (rw (is-responder base.initiator may.responds, up) refl) (rw request refl); chosen = tt; after = refl; means = (refl, tt) }
 
-pub disconnect-direct : (values : List Value) → is_release_response (the_one values) ≡ true → TakenWhere Direct (OfAssociation (Disconnect values)) model_release_answer nothing
+pub disconnect-direct : (values : List DataValue) → is_release_response (the_one values) ≡ true → TakenWhere Direct (OfAssociation (Disconnect values)) model_release_answer nothing
 disconnect-direct values response free base proposed body sound joined may =
     record { no_fault = fine (at Direct base) body (OfAssociation (Disconnect values)) (awaits-release body.link.awaits may.asked) (rw response refl); chosen = tt; after = refl; means = tt }
 
-pub disconnect-reliable : (values : List Value) → is_release_response (the_one values) ≡ true → TakenWhere Reliable (OfAssociation (Disconnect values)) model_release_answer nothing
+pub disconnect-reliable : (values : List DataValue) → is_release_response (the_one values) ≡ true → TakenWhere Reliable (OfAssociation (Disconnect values)) model_release_answer nothing
 disconnect-reliable values response free base proposed body sound joined may =
     record { no_fault = fine (at Reliable base) body (OfAssociation (Disconnect values)) (awaits-release body.link.awaits may.asked) (rw response refl); chosen = tt; after = refl; means = tt }
 

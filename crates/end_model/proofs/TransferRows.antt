@@ -19,7 +19,7 @@ use Rattle.end_rules.specs.InPlace.{is_next_confirmed, may_resume_at, awaits_dis
 use Rattle.end_rules.specs.Connecting.{the_one}
 use Rattle.end_rules.specs.TakesAssociation.{is_release_request}
 use Rattle.end_rules.specs.TakesActivities.{invocation_in, cut_invocation}
-use Rattle.end_rules.specs.Messages.{Value, OfAssociation, OfData, OfMarks, OfActivities, Finish}
+use Rattle.end_rules.specs.Messages.{DataValue, OfAssociation, OfData, OfMarks, OfActivities, Finish}
 use Rattle.end_rules.specs.Messages.{Values, Part, MarkAck, Resume, EndAck, DiscardAck}
 use Rattle.agreement.specs.Messages as model
 use Rattle.agreement.specs.Messages.Choice.{Nothing}
@@ -144,7 +144,7 @@ resume-taken activity mark free base proposed body sound joined_ may =
 
 -- ---- release
 
-pub finish-taken : (transport : Option ℕ) (values : List Value) → is_release_request (the_one values) ≡ true → TakenWhere Reliable (OfAssociation (Finish transport values)) model_release nothing
+pub finish-taken : (transport : Option ℕ) (values : List DataValue) → is_release_request (the_one values) ≡ true → TakenWhere Reliable (OfAssociation (Finish transport values)) model_release nothing
 finish-taken transport values request free base proposed body sound joined_ may =
     let up : is_up body.link.phase ≡ true = up-now (at Reliable base) body may.is_up in
     let rests = may.rests refl in

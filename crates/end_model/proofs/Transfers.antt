@@ -5,7 +5,7 @@ use Rattle.osi_base.specs.declared.words.SetItem.{SetItem}
 use Rattle.dialogue.specs.declared.config.Mode.TheVariants.{Reliable}
 use Rattle.end_rules.specs.Base.{Base}
 use Rattle.end_rules.specs.State.{Piece, Octets, Marked, Ending, Suspended, Transfer, Queued, on_current, highest, pieces_of}
-use Rattle.end_rules.specs.Messages.{Session, OfData, OfMarks, OfActivities, Value, Values, Mark, MarkAck, Start, End, Discard, InterruptAck}
+use Rattle.end_rules.specs.Messages.{Session, OfData, OfMarks, OfActivities, DataValue, Values, Mark, MarkAck, Start, End, Discard, InterruptAck}
 use Rattle.end_rules.specs.Requesting.{begun}
 use Rattle.end_rules.specs.TakesData.{parts_in}
 use Rattle.agreement.specs.Messages.Act.{Sends, Marks, EndsActivity, Starts, Discards}
@@ -31,7 +31,7 @@ highest-seen [] = refl
 highest-seen (Octets octets ∷ pieces) = highest-seen pieces
 highest-seen (Marked number set ∷ pieces) = refl
 
-pub part-sent : (values : List Value) → SendsAs Reliable (λ body. Session (OfData (Values values))) (λ body. Sends (parts_in values))
+pub part-sent : (values : List DataValue) → SendsAs Reliable (λ body. Session (OfData (Values values))) (λ body. Sends (parts_in values))
 part-sent values free base body =
     ap (λ o. record (seen (at Reliable base) body) { outgoing = o })
     (on-current (at Reliable base) (λ t. record t { pieces = Octets (parts_in values) ∷ t.pieces }) (λ t. record t { pieces = model_octets (parts_in values) ∷ t.pieces }) (λ t. refl) body.sending.started body.sending.queue body.sending.current)

@@ -11,7 +11,7 @@ use Rattle.end_rules.specs.Base.{Base}
 use Rattle.end_rules.specs.State.{Body}
 use Rattle.end_rules.specs.Sets.{Alteration}
 use Rattle.end_rules.specs.TakesData.{alteration}
-use Rattle.end_rules.specs.Messages.{Word, Value, OfAssociation, OfData, OfMarks, OfActivities}
+use Rattle.end_rules.specs.Messages.{Word, DataValue, OfAssociation, OfData, OfMarks, OfActivities}
 use Rattle.end_rules.specs.Messages.{Finish, AlterContext, AlterContextAck, Values, Part, Mark}
 use Rattle.end_rules.specs.Messages.{MarkAck, Restart, RestartAck, Give, Please, GiveConfirm}
 use Rattle.end_rules.specs.Messages.{GiveAck, Start, Interrupt, Discard}
@@ -39,7 +39,7 @@ Faultless mode word message =
 pub record DirectMayBeTaken : Type 0 where
   pub mark : (number : ℕ) → Faultless Direct (OfMarks (Mark number)) (model_mark number)
   pub give : (tokens : ℕ) → Faultless Direct (OfMarks (Give (Some tokens))) model_give
-  pub please : (tokens priority : ℕ) (values : List Value) → Faultless Direct (OfMarks (Please (Some tokens) values)) (model_please priority)
+  pub please : (tokens priority : ℕ) (values : List DataValue) → Faultless Direct (OfMarks (Please (Some tokens) values)) (model_please priority)
   pub restart : (number : ℕ) (list : List RestoredItem) →
       Faultless Direct (OfMarks (Restart number (Some list))) (model_restart number (listed_seen list))
   -- only an end that is up waits for the answer to its restart
@@ -47,21 +47,21 @@ pub record DirectMayBeTaken : Type 0 where
       word_fault (at Direct base) body (OfMarks (RestartAck number (Some list))) ≡ None →
       MayTake (setup_seen free Direct base) (role_seen base.initiator) (seen (at Direct base) body) (model_restart_answer number (listed_seen list))
   pub alter : (add : List Proposal) (delete : List ℕ) → Faultless Direct (OfData (AlterContext add delete)) (model_alter (items_seen (alteration add delete)))
-  pub finish : (transport : Option ℕ) (values : List Value) → Faultless Direct (OfAssociation (Finish transport values)) model_release
+  pub finish : (transport : Option ℕ) (values : List DataValue) → Faultless Direct (OfAssociation (Finish transport values)) model_release
 
 pub record ReliableMayBeTaken : Type 0 where
   pub mark : (number : ℕ) → Faultless Reliable (OfMarks (Mark number)) (model_mark number)
   pub mark_ack : (number : ℕ) → Faultless Reliable (OfMarks (MarkAck number)) (model_mark_answer number)
   pub give_all : Faultless Reliable (OfMarks GiveConfirm) model_give
   pub give_ack : Faultless Reliable (OfMarks GiveAck) model_give_answer
-  pub please : (tokens priority : ℕ) (values : List Value) → Faultless Reliable (OfMarks (Please (Some tokens) values)) (model_please priority)
+  pub please : (tokens priority : ℕ) (values : List DataValue) → Faultless Reliable (OfMarks (Please (Some tokens) values)) (model_please priority)
   pub alter : (add : List Proposal) (delete : List ℕ) → Faultless Reliable (OfData (AlterContext add delete)) (model_alter (items_seen (alteration add delete)))
   pub part : (id : ℕ) (pair : Option Pair) (octets : List ℕ) →
       Faultless Reliable (OfData (Values (record { id = id; pair = pair; content = Part octets } ∷ []))) (model_chunk octets)
   pub start : (activity : ℕ) → Faultless Reliable (OfActivities (Start activity)) (model_start activity)
   pub interrupt : (reason : Option ℕ) → Faultless Reliable (OfActivities (Interrupt reason)) model_interrupt
   pub discard : (reason : Option ℕ) → Faultless Reliable (OfActivities (Discard reason)) model_discard
-  pub finish : (transport : Option ℕ) (values : List Value) → Faultless Reliable (OfAssociation (Finish transport values)) model_release
+  pub finish : (transport : Option ℕ) (values : List DataValue) → Faultless Reliable (OfAssociation (Finish transport values)) model_release
 
 -- the answer to the oldest own alteration
 pub record AnswersMayBeTaken : Type 0 where

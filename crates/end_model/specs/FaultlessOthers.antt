@@ -12,7 +12,7 @@ use Rattle.end_rules.specs.Base.{Base, Item, Arrived}
 use Rattle.end_rules.specs.Sets.{pair_of}
 use Rattle.end_rules.specs.State.{Body, joined}
 use Rattle.end_rules.specs.Connecting.{set_accepted}
-use Rattle.end_rules.specs.Messages.{Value, Accepting, Word, OfAssociation, OfActivities, Connect, Accept, Refuse}
+use Rattle.end_rules.specs.Messages.{DataValue, Accepting, Word, OfAssociation, OfActivities, Connect, Accept, Refuse}
 use Rattle.end_rules.specs.Messages.{Disconnect, Resume, End, EndAck, InterruptAck, DiscardAck}
 use Rattle.end_rules.specs.Reacting.{word_fault}
 use Rattle.agreement.specs.Messages.{Message as ModelMessage}
@@ -62,16 +62,16 @@ pub record BringsValue (free : Free) (base : Base) (body : Body) : Type 0 where
 -- ---- rows
 
 pub record OpeningsMayBeTaken : Type 0 where
-  pub connect : (mode : Mode) (session : SessionConnect) (presentation : PresentationConnect) (values : List Value) →
+  pub connect : (mode : Mode) (session : SessionConnect) (presentation : PresentationConnect) (values : List DataValue) →
       FaultlessWhere IsAsked mode (OfAssociation (Connect session presentation values)) model_connect
-  pub recover : (mode : Mode) (session : SessionConnect) (presentation : PresentationConnect) (values : List Value) →
+  pub recover : (mode : Mode) (session : SessionConnect) (presentation : PresentationConnect) (values : List DataValue) →
       FaultlessWhere IsAsked mode (OfAssociation (Connect session presentation values)) model_recover
-  pub accept : (mode : Mode) (session : Accepting) (presentation : PresentationAccept) (values : List Value) (free : Free) (base : Base) (body : Body) →
+  pub accept : (mode : Mode) (session : Accepting) (presentation : PresentationAccept) (values : List DataValue) (free : Free) (base : Base) (body : Body) →
       word_fault (at mode base) body (OfAssociation (Accept session presentation values)) ≡ None →
       MayTake (setup_seen free mode base) (role_seen base.initiator) (seen (at mode base) body) (model_accept (set_seen (set_accepted (at mode base) presentation)))
-  pub refuse : (mode : Mode) (transport reason : Option ℕ) (presentation : Option PresentationReject) (values : List Value) →
+  pub refuse : (mode : Mode) (transport reason : Option ℕ) (presentation : Option PresentationReject) (values : List DataValue) →
       Faultless mode (OfAssociation (Refuse transport reason presentation values)) model_refuse
-  pub disconnect : (mode : Mode) (values : List Value) →
+  pub disconnect : (mode : Mode) (values : List DataValue) →
       FaultlessWhere IsReleasing mode (OfAssociation (Disconnect values)) model_release_answer
 
 pub record DataMayBeTaken : Type 0 where

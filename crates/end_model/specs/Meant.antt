@@ -6,7 +6,7 @@ use Rattle.dialogue.specs.declared.config.Mode.TheVariants.{Direct, Reliable}
 use Rattle.end_rules.specs.Base.{Base}
 use Rattle.end_rules.specs.State.{Body, highest, pieces_of, confirmed_of}
 use Rattle.end_rules.specs.Sets.{next_number, listed}
-use Rattle.end_rules.specs.Messages.{AssociationWord, MarkWord, ActivityWord, Message, Word, Session, Value, OfAssociation, OfMarks, OfActivities, Refuse, Finish, Disconnect, Abort, Mark, MarkAck, Restart, RestartAck, Give, Please, GiveConfirm, GiveAck, Start, Resume, End, EndAck, Interrupt, InterruptAck, Discard, DiscardAck}
+use Rattle.end_rules.specs.Messages.{AssociationWord, MarkWord, ActivityWord, Message, Word, Session, DataValue, OfAssociation, OfMarks, OfActivities, Refuse, Finish, Disconnect, Abort, Mark, MarkAck, Restart, RestartAck, Give, Please, GiveConfirm, GiveAck, Start, Resume, End, EndAck, Interrupt, InterruptAck, Discard, DiscardAck}
 use Rattle.end_rules.specs.TakesMarks.{priority_in, restored_set}
 use Rattle.end_rules.specs.Reacting.{answers_to_word}
 use Rattle.agreement.specs.Sets.{Listed}
@@ -71,7 +71,7 @@ pub record Answered : Type 0 where
   pub give : (tokens : Option ℕ) → AnswersAs Direct (OfMarks (Give tokens)) model_give
   pub give_all : AnswersAs Reliable (OfMarks GiveConfirm) model_give
   pub give_ack : AnswersAs Reliable (OfMarks GiveAck) model_give_answer
-  pub please : (mode : Mode) (tokens : Option ℕ) (values : List Value) (priority : ℕ) →
+  pub please : (mode : Mode) (tokens : Option ℕ) (values : List DataValue) (priority : ℕ) →
       AnswersAs mode (OfMarks (Please tokens values)) (model_please priority)
   pub mark_ack : (mode : Mode) (number : ℕ) → AnswersAs mode (OfMarks (MarkAck number)) (model_mark_answer number)
   pub start : (activity : ℕ) → AnswersAs Reliable (OfActivities (Start activity)) (model_start activity)
@@ -82,7 +82,7 @@ pub record Answered : Type 0 where
   pub interrupt_ack : AnswersAs Reliable (OfActivities InterruptAck) model_interrupt_answer
   pub discard : (reason : Option ℕ) → AnswersAs Reliable (OfActivities (Discard reason)) model_discard
   pub discard_ack : AnswersAs Reliable (OfActivities DiscardAck) model_discard_answer
-  pub finish : (mode : Mode) (transport : Option ℕ) (values : List Value) →
+  pub finish : (mode : Mode) (transport : Option ℕ) (values : List DataValue) →
       AnswersAs mode (OfAssociation (Finish transport values)) model_release
 
 -- What is sent is what the model sends by the act.
@@ -102,7 +102,7 @@ pub record Sent : Type 0 where
   pub interrupt : (reason : Option ℕ) → MeansWhat Reliable (λ body. Session (OfActivities (Interrupt reason))) (λ body. Interrupts)
   pub discard : (reason : Option ℕ) → MeansWhat Reliable (λ body. Session (OfActivities (Discard reason))) (λ body. Discards)
   pub resume : MeansWhat Reliable (λ body. Session (OfActivities (Resume body.sending.started (confirmed_of body.sending.current)))) (λ body. Resumes)
-  pub release : (mode : Mode) (transport : Option ℕ) (values : List Value) →
+  pub release : (mode : Mode) (transport : Option ℕ) (values : List DataValue) →
       MeansWhat mode (λ body. Session (OfAssociation (Finish transport values))) (λ body. Releases)
 
 -- The answer to a restart is the model's.

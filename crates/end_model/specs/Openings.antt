@@ -9,7 +9,7 @@ use Rattle.dialogue.specs.declared.config.Phase.TheVariants.{Opening, Broken}
 use Rattle.end_rules.specs.Base.{Base}
 use Rattle.end_rules.specs.State.{Body}
 use Rattle.end_rules.specs.Connecting.{set_for, set_accepted, is_refused, recovers_in}
-use Rattle.end_rules.specs.Messages.{Accepting, Value, Word, OfAssociation, Connect, Accept}
+use Rattle.end_rules.specs.Messages.{Accepting, DataValue, Word, OfAssociation, Connect, Accept}
 use Rattle.end_rules.specs.Reacting.{after_word, answers_to_word}
 use Rattle.agreement.specs.Messages.{Choice, Message as ModelMessage}
 use Rattle.agreement.specs.Messages.Choice.{Nothing, Accepting as accepting, Refusing}
@@ -27,21 +27,21 @@ pub record OpensAs (free : Free) (mode : Mode) (base : Base) (proposed : List Pr
   pub means : AreMeant proposed (at mode base) (answers_to_word (at mode base) body word) (answer_to (setup_seen free mode base) (seen (at mode base) body) message choice)
 
 pub record OpeningsTaken : Type 0 where
-  pub accept : (mode : Mode) (session : Accepting) (presentation : PresentationAccept) (values : List Value) (free : Free) (base : Base) (proposed : List Proposal) (body : Body) →
+  pub accept : (mode : Mode) (session : Accepting) (presentation : PresentationAccept) (values : List DataValue) (free : Free) (base : Base) (proposed : List Proposal) (body : Body) →
       OpensAs free mode base proposed body (OfAssociation (Accept session presentation values)) (model_accept (set_seen (set_accepted (at mode base) presentation))) Nothing
-  pub opened : (mode : Mode) (session : SessionConnect) (presentation : PresentationConnect) (values : List Value) (free : Free) (base : Base) (body : Body) →
+  pub opened : (mode : Mode) (session : SessionConnect) (presentation : PresentationConnect) (values : List DataValue) (free : Free) (base : Base) (body : Body) →
       is_refused (at mode base) body session presentation values ≡ false → recovers_in (at mode base) values ≡ false →
       OpensAs free mode base presentation.definitions body (OfAssociation (Connect session presentation values)) model_connect (accepting (set_seen (set_for (at mode base) presentation)))
-  pub recovered : (mode : Mode) (session : SessionConnect) (presentation : PresentationConnect) (values : List Value) (free : Free) (base : Base) (body : Body) →
+  pub recovered : (mode : Mode) (session : SessionConnect) (presentation : PresentationConnect) (values : List DataValue) (free : Free) (base : Base) (body : Body) →
       is_refused (at mode base) body session presentation values ≡ false → recovers_in (at mode base) values ≡ true →
       OpensAs free mode base presentation.definitions body (OfAssociation (Connect session presentation values)) model_recover (accepting (set_seen (set_for (at mode base) presentation)))
   -- who is broken stays so, who is opening is over
-  pub refused_opening : (mode : Mode) (session : SessionConnect) (presentation : PresentationConnect) (values : List Value) (free : Free) (base : Base) (proposed : List Proposal) (body : Body) →
+  pub refused_opening : (mode : Mode) (session : SessionConnect) (presentation : PresentationConnect) (values : List DataValue) (free : Free) (base : Base) (proposed : List Proposal) (body : Body) →
       is_refused (at mode base) body session presentation values ≡ true → body.link.phase ≡ Opening →
       OpensAs free mode base proposed body (OfAssociation (Connect session presentation values)) model_connect Refusing
-  pub refused_broken : (mode : Mode) (session : SessionConnect) (presentation : PresentationConnect) (values : List Value) (free : Free) (base : Base) (proposed : List Proposal) (body : Body) →
+  pub refused_broken : (mode : Mode) (session : SessionConnect) (presentation : PresentationConnect) (values : List DataValue) (free : Free) (base : Base) (proposed : List Proposal) (body : Body) →
       is_refused (at mode base) body session presentation values ≡ true → body.link.phase ≡ Broken →
       OpensAs free mode base proposed body (OfAssociation (Connect session presentation values)) model_connect Refusing
-  pub refused_recovery : (mode : Mode) (session : SessionConnect) (presentation : PresentationConnect) (values : List Value) (free : Free) (base : Base) (proposed : List Proposal) (body : Body) →
+  pub refused_recovery : (mode : Mode) (session : SessionConnect) (presentation : PresentationConnect) (values : List DataValue) (free : Free) (base : Base) (proposed : List Proposal) (body : Body) →
       is_refused (at mode base) body session presentation values ≡ true → body.link.phase ≡ Broken →
       OpensAs free mode base proposed body (OfAssociation (Connect session presentation values)) model_recover Refusing

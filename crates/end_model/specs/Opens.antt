@@ -12,10 +12,11 @@ use Rattle.stub_tables.specs.declared.apdu.Apdu.TheVariants as apdus
 use Rattle.stub_tables.specs.declared.apdu.Returned.{Returned}
 use Rattle.stub_tables.specs.Lookup.{operation_at, error_at, operation_with, error_with}
 use Rattle.stub_tables.specs.Uses.{is_carried}
-use Rattle.end_rules.specs.Base.{Base, last_invocation}
+use Rattle.end_rules.specs.Base.{Base}
 use Rattle.end_rules.specs.State.{OpenCall, Calls, opened_with}
 use Rattle.end_rules.specs.Hearing.{head_of_apdu}
 use Rattle.osi_base.specs.declared.syntax.Syntax.TheVariants.{Der}
+use Rattle.osi_base.specs.Limits.{last_invocation}
 use Rattle.end_model.specs.Seen.{number_seen}
 
 abbrev pub IsNumber : ℤ → Type 0

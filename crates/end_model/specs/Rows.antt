@@ -29,7 +29,7 @@ use Rattle.end_model.specs.Seen.{mode_seen, phase_seen}
 use Rattle.end_rules.specs.Base.{Base}
 use Rattle.end_rules.specs.State.{Body}
 use Rattle.end_rules.specs.Messages.{Message, Session, Word, OfAssociation, OfData, OfMarks}
-use Rattle.end_rules.specs.Messages.{OfActivities, Value, Values, AlterContext, AlterContextAck}
+use Rattle.end_rules.specs.Messages.{OfActivities, DataValue, Values, AlterContext, AlterContextAck}
 use Rattle.end_rules.specs.Messages.{Accepting, Connect, Accept, MarkAck, RestartAck, End}
 use Rattle.end_rules.specs.Messages.{InterruptAck, DiscardAck, unit_of, AbortData, Refuse, Finish}
 use Rattle.end_rules.specs.Messages.{Disconnect, Abort, Mark, Restart, Give, Please, GiveConfirm}
@@ -86,7 +86,7 @@ pub record MarksSent : Type 0 where
   pub mark : SendsAs Direct (λ body. Session (OfMarks (Mark (next_number body.saved)))) (λ body. Marks)
   pub give : SendsAs Direct (λ body. Session (OfMarks (Give (Some 4)))) (λ body. GivesTurn)
   pub give_all : SendsAs Reliable (λ body. Session (OfMarks GiveConfirm)) (λ body. GivesTurn)
-  pub please : (mode : Mode) (tokens : Option ℕ) (values : List Value) (priority : ℕ) →
+  pub please : (mode : Mode) (tokens : Option ℕ) (values : List DataValue) (priority : ℕ) →
       SendsAs mode (λ body. Session (OfMarks (Please tokens values))) (λ body. Pleads priority)
   pub restart : (number : ℕ) (list : Option (List RestoredItem)) →
       SendsAs Direct (λ body. Session (OfMarks (Restart number list))) (λ body. Restarts number)
@@ -96,12 +96,12 @@ pub record MarksTaken : Type 0 where
   pub mark_in_activity : (number : ℕ) → TakesAs Reliable (OfMarks (Mark number)) (model_mark number) Nothing
   pub give_all : TakesAs Reliable (OfMarks GiveConfirm) model_give Nothing
   pub give_ack : TakesAs Reliable (OfMarks GiveAck) model_give_answer Nothing
-  pub please : (mode : Mode) (tokens : Option ℕ) (values : List Value) (priority : ℕ) →
+  pub please : (mode : Mode) (tokens : Option ℕ) (values : List DataValue) (priority : ℕ) →
       TakesAs mode (OfMarks (Please tokens values)) (model_please priority) Nothing
 
 pub record ActivitiesSent : Type 0 where
   pub interrupt : SendsAs Reliable (λ body. Session (OfActivities (Interrupt (Some 0)))) (λ body. Interrupts)
-  pub release : (mode : Mode) (transport : Option ℕ) (values : List Value) →
+  pub release : (mode : Mode) (transport : Option ℕ) (values : List DataValue) →
       SendsAs mode (λ body. Session (OfAssociation (Finish transport values))) (λ body. Releases)
 
 pub record ActivitiesTaken : Type 0 where
@@ -111,18 +111,18 @@ pub record ActivitiesTaken : Type 0 where
   pub discard : (reason : Option ℕ) → TakesAs Reliable (OfActivities (Discard reason)) model_discard Nothing
 
 pub record AssociationTaken : Type 0 where
-  pub refuse : (mode : Mode) (transport : Option ℕ) (reason : Option ℕ) (presentation : Option PresentationReject) (values : List Value) →
+  pub refuse : (mode : Mode) (transport : Option ℕ) (reason : Option ℕ) (presentation : Option PresentationReject) (values : List DataValue) →
       TakesAs mode (OfAssociation (Refuse transport reason presentation values)) model_refuse Nothing
-  pub finish : (mode : Mode) (transport : Option ℕ) (values : List Value) →
+  pub finish : (mode : Mode) (transport : Option ℕ) (values : List DataValue) →
       TakesAs mode (OfAssociation (Finish transport values)) model_release Nothing
   pub abort : (mode : Mode) (transport : Option ℕ) (user : AbortData) →
       TakesAs mode (OfAssociation (Abort transport user)) model_abort Nothing
-  pub disconnect : (mode : Mode) (values : List Value) →
+  pub disconnect : (mode : Mode) (values : List DataValue) →
       TakesAs mode (OfAssociation (Disconnect values)) model_release_answer Nothing
 
 -- parts, marks and the end of the own transfer, the start of the next, its discard
 pub record TransfersSent : Type 0 where
-  pub part : (values : List Value) → SendsAs Reliable (λ body. Session (OfData (Values values))) (λ body. Sends (parts_in values))
+  pub part : (values : List DataValue) → SendsAs Reliable (λ body. Session (OfData (Values values))) (λ body. Sends (parts_in values))
   pub mark : SendsAs Reliable (λ body. Session (OfMarks (Mark (suc (highest (pieces_of body.sending.current)))))) (λ body. Marks)
   pub end : SendsAs Reliable (λ body. Session (OfActivities (End (suc (highest (pieces_of body.sending.current)))))) (λ body. EndsActivity)
   pub start : SendsAs Reliable (λ body. Session (OfActivities (Start (suc body.sending.started)))) (λ body. Starts)
@@ -145,41 +145,41 @@ PurgedAs word message =
     is_purged initiator awaited (unit_of word) ≡ model_purged (role_seen initiator) (awaited_seen awaited) message
 
 pub record Purged : Type 0 where
-  pub values : (values : List Value) (value : ModelValue) → PurgedAs (OfData (Values values)) (model_data value)
+  pub values : (values : List DataValue) (value : ModelValue) → PurgedAs (OfData (Values values)) (model_data value)
   pub alter : (add : List Proposal) (delete : List ℕ) (items : List Item) → PurgedAs (OfData (AlterContext add delete)) (model_alter items)
   pub mark : (number : ℕ) → PurgedAs (OfMarks (Mark number)) (model_mark number)
   pub restart : (number : ℕ) (list : Option (List RestoredItem)) (listed : List Listed) →
       PurgedAs (OfMarks (Restart number list)) (model_restart number listed)
   pub restart_ack : (number : ℕ) (list : Option (List RestoredItem)) (listed : List Listed) →
       PurgedAs (OfMarks (RestartAck number list)) (model_restart_answer number listed)
-  pub finish : (transport : Option ℕ) (values : List Value) → PurgedAs (OfAssociation (Finish transport values)) model_release
-  pub disconnect : (values : List Value) → PurgedAs (OfAssociation (Disconnect values)) model_release_answer
+  pub finish : (transport : Option ℕ) (values : List DataValue) → PurgedAs (OfAssociation (Finish transport values)) model_release
+  pub disconnect : (values : List DataValue) → PurgedAs (OfAssociation (Disconnect values)) model_release_answer
   pub abort : (transport : Option ℕ) (user : AbortData) → PurgedAs (OfAssociation (Abort transport user)) model_abort
   pub interrupt_ack : PurgedAs (OfActivities InterruptAck) model_interrupt_answer
   pub discard_ack : PurgedAs (OfActivities DiscardAck) model_discard_answer
 
 -- the other words, which settle nothing
 pub record PurgedOthers : Type 0 where
-  pub part : (values : List Value) (octets : List ℕ) → PurgedAs (OfData (Values values)) (model_chunk octets)
+  pub part : (values : List DataValue) (octets : List ℕ) → PurgedAs (OfData (Values values)) (model_chunk octets)
   pub alter_ack : (answers : Answers) (results : List Result) → PurgedAs (OfData (AlterContextAck answers)) (model_alter_answer results)
   pub mark_ack : (number : ℕ) → PurgedAs (OfMarks (MarkAck number)) (model_mark_answer number)
   pub give : (tokens : Option ℕ) → PurgedAs (OfMarks (Give tokens)) model_give
   pub give_all : PurgedAs (OfMarks GiveConfirm) model_give
   pub give_ack : PurgedAs (OfMarks GiveAck) model_give_answer
-  pub please : (tokens : Option ℕ) (values : List Value) (priority : ℕ) → PurgedAs (OfMarks (Please tokens values)) (model_please priority)
+  pub please : (tokens : Option ℕ) (values : List DataValue) (priority : ℕ) → PurgedAs (OfMarks (Please tokens values)) (model_please priority)
   pub start : (activity : ℕ) → PurgedAs (OfActivities (Start activity)) (model_start activity)
   pub resume : (activity : ℕ) (mark : ℕ) → PurgedAs (OfActivities (Resume activity mark)) (model_resume activity mark)
   pub end : (number : ℕ) → PurgedAs (OfActivities (End number)) (model_end number)
   pub end_ack : (number : ℕ) → PurgedAs (OfActivities (EndAck number)) (model_end_answer number)
   pub interrupt : (reason : Option ℕ) → PurgedAs (OfActivities (Interrupt reason)) model_interrupt
   pub discard : (reason : Option ℕ) → PurgedAs (OfActivities (Discard reason)) model_discard
-  pub connect : (session : SessionConnect) (presentation : PresentationConnect) (values : List Value) →
+  pub connect : (session : SessionConnect) (presentation : PresentationConnect) (values : List DataValue) →
       PurgedAs (OfAssociation (Connect session presentation values)) model_connect
-  pub recover : (session : SessionConnect) (presentation : PresentationConnect) (values : List Value) →
+  pub recover : (session : SessionConnect) (presentation : PresentationConnect) (values : List DataValue) →
       PurgedAs (OfAssociation (Connect session presentation values)) model_recover
-  pub accept : (session : Accepting) (presentation : PresentationAccept) (values : List Value) (set : ContextSet) →
+  pub accept : (session : Accepting) (presentation : PresentationAccept) (values : List DataValue) (set : ContextSet) →
       PurgedAs (OfAssociation (Accept session presentation values)) (model_accept set)
-  pub refuse : (transport : Option ℕ) (reason : Option ℕ) (presentation : Option PresentationReject) (values : List Value) →
+  pub refuse : (transport : Option ℕ) (reason : Option ℕ) (presentation : Option PresentationReject) (values : List DataValue) →
       PurgedAs (OfAssociation (Refuse transport reason presentation values)) model_refuse
 
 -- A giving in direct mode (only a GTC is confirmed, X.225 8.3.18).
@@ -212,7 +212,7 @@ pub record Connections : Type 0 where
 pub record Resumptions : Type 0 where
   pub sent : SendsAs Reliable (λ body. Session (OfActivities (Resume body.sending.started (confirmed_of body.sending.current)))) (λ body. Resumes)
   pub resumed : (activity : ℕ) (mark : ℕ) → TakesAs Reliable (OfActivities (Resume activity mark)) (model_resume activity mark) Nothing
-  pub part : (value : Value) → TakesAs Reliable (OfData (Values (value ∷ []))) (model_chunk (part_in value.content)) Nothing
+  pub part : (value : DataValue) → TakesAs Reliable (OfData (Values (value ∷ []))) (model_chunk (part_in value.content)) Nothing
 
 -- A break of the connection, where the phase after it is the model's: of an opening that breaks before its CN the model
 -- knows nothing, and it is over here.

@@ -10,7 +10,7 @@ use Rattle.dialogue.specs.declared.call.Call.{Call}
 use Rattle.dialogue.specs.declared.indication.Indication.{Indication}
 use Rattle.stub_tables.specs.declared.tables.Tables.{Tables}
 use Rattle.end_rules.specs.Base.{Base, Spellings, Fault}
-use Rattle.end_rules.specs.Messages.{Message, Session, OfData, Values, Value}
+use Rattle.end_rules.specs.Messages.{Message, Session, OfData, Values, DataValue}
 use Rattle.end_rules.specs.State.{Body}
 use Rattle.end_rules.specs.Sets.{pair_of}
 use Rattle.end_rules.specs.Calling.{can_call}
@@ -82,7 +82,7 @@ abbrev pub DirectAsSent : Type 0
 DirectAsSent =
     (free : Free) (tables : Tables) (spellings : Spellings) (a b : Config) → WritesAll free →
     ReadsBack (base_at Initiator (direct_pair tables spellings a b)) → ProposesRightly (direct_pair tables spellings a b) →
-    (two : Two) (shared : Shared) (sets : SetsSent) (role : Role) (value : Value) (left : List Message) (set : List SetItem) (sets_left : List (List SetItem)) (body : Body) (answers : List Message) (shown : List Indication) →
+    (two : Two) (shared : Shared) (sets : SetsSent) (role : Role) (value : DataValue) (left : List Message) (set : List SetItem) (sets_left : List (List SetItem)) (body : Body) (answers : List Message) (shown : List Indication) →
     Shares (direct_pair tables spellings a b) two shared sets →
     coming_to role two ≡ Session (OfData (Values (value ∷ []))) ∷ left → sets_to role sets ≡ set ∷ sets_left →
     react (base_at role (direct_pair tables spellings a b)) (body_at role two) (Session (OfData (Values (value ∷ [])))) ≡ Takes body answers shown →

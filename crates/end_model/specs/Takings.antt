@@ -15,7 +15,7 @@ use Rattle.end_rules.specs.Connecting.{the_one}
 use Rattle.end_rules.specs.TakesAssociation.{is_release_request, is_release_response}
 use Rattle.end_rules.specs.TakesData.{alteration}
 use Rattle.end_rules.specs.TakesMarks.{priority_in}
-use Rattle.end_rules.specs.Messages.{AbortData, Word, Value, OfAssociation, OfData, OfMarks}
+use Rattle.end_rules.specs.Messages.{AbortData, Word, DataValue, OfAssociation, OfData, OfMarks}
 use Rattle.end_rules.specs.Messages.{OfActivities, Finish, Disconnect, Abort, Values, AlterContext}
 use Rattle.end_rules.specs.Messages.{AlterContextAck, Part, Mark, MarkAck, Restart, RestartAck}
 use Rattle.end_rules.specs.Messages.{Give, Please, GiveConfirm, GiveAck, Start, Resume, End, EndAck}
@@ -78,9 +78,9 @@ pub record DirectTaken : Type 0 where
       TakenWhere Direct (OfMarks (RestartAck number list)) (model_restart_answer number (list_meant list)) nothing
   pub alter : (add : List Proposal) (delete : List ℕ) →
       TakenWhere Direct (OfData (AlterContext add delete)) (model_alter (items_seen (alteration add delete))) (by_policy Direct (alteration add delete))
-  pub finish : (transport : Option ℕ) (values : List Value) → is_release_request (the_one values) ≡ true →
+  pub finish : (transport : Option ℕ) (values : List DataValue) → is_release_request (the_one values) ≡ true →
       TakenWhere Direct (OfAssociation (Finish transport values)) model_release nothing
-  pub disconnect : (values : List Value) → is_release_response (the_one values) ≡ true →
+  pub disconnect : (values : List DataValue) → is_release_response (the_one values) ≡ true →
       TakenWhere Direct (OfAssociation (Disconnect values)) model_release_answer nothing
   pub abort : (transport : Option ℕ) (user : AbortData) → TakenWhere Direct (OfAssociation (Abort transport user)) model_abort nothing
 
@@ -89,7 +89,7 @@ pub record ReliableTaken : Type 0 where
   pub mark : (number : ℕ) → TakenWhere Reliable (OfMarks (Mark number)) (model_mark number) nothing
   pub give_all : TakenWhere Reliable (OfMarks GiveConfirm) model_give nothing
   pub give_ack : TakenWhere Reliable (OfMarks GiveAck) model_give_answer nothing
-  pub please : (tokens priority : ℕ) (values : List Value) → priority_in values ≡ Some priority →
+  pub please : (tokens priority : ℕ) (values : List DataValue) → priority_in values ≡ Some priority →
       TakenWhere Reliable (OfMarks (Please (Some tokens) values)) (model_please priority) nothing
   pub alter : (add : List Proposal) (delete : List ℕ) →
       TakenWhere Reliable (OfData (AlterContext add delete)) (model_alter (items_seen (alteration add delete))) (by_policy Reliable (alteration add delete))
@@ -97,7 +97,7 @@ pub record ReliableTaken : Type 0 where
   pub interrupt : (reason : Option ℕ) → TakenWhere Reliable (OfActivities (Interrupt reason)) model_interrupt nothing
   pub discard : (reason : Option ℕ) → TakenWhere Reliable (OfActivities (Discard reason)) model_discard nothing
   pub interrupt_ack : TakenWhere Reliable (OfActivities InterruptAck) model_interrupt_answer nothing
-  pub disconnect : (values : List Value) → is_release_response (the_one values) ≡ true →
+  pub disconnect : (values : List DataValue) → is_release_response (the_one values) ≡ true →
       TakenWhere Reliable (OfAssociation (Disconnect values)) model_release_answer nothing
   pub abort : (transport : Option ℕ) (user : AbortData) → TakenWhere Reliable (OfAssociation (Abort transport user)) model_abort nothing
 
@@ -108,7 +108,7 @@ pub record TransferWordsTaken : Type 0 where
   pub mark_ack : (number : ℕ) → TakenWhere Reliable (OfMarks (MarkAck number)) (model_mark_answer number) nothing
   pub resume : (activity mark : ℕ) → TakenWhere Reliable (OfActivities (Resume activity mark)) (model_resume activity mark) nothing
   pub end_ack : (number : ℕ) → TakenWhere Reliable (OfActivities (EndAck number)) (model_end_answer number) nothing
-  pub finish : (transport : Option ℕ) (values : List Value) → is_release_request (the_one values) ≡ true →
+  pub finish : (transport : Option ℕ) (values : List DataValue) → is_release_request (the_one values) ≡ true →
       TakenWhere Reliable (OfAssociation (Finish transport values)) model_release nothing
 
 -- an invocation that is being transferred has a number

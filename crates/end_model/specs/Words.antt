@@ -11,7 +11,7 @@ use Rattle.end_rules.specs.Base.{Base, Item}
 use Rattle.end_rules.specs.Sets.{Alteration, pair_accepted, accepted_set, fit_alteration}
 use Rattle.end_rules.specs.Connecting.{recovers_in}
 use Rattle.end_rules.specs.TakesData.{alteration}
-use Rattle.end_rules.specs.Messages.{AssociationWord, DataWord, Message, Word, Value, Transport}
+use Rattle.end_rules.specs.Messages.{AssociationWord, DataWord, Message, Word, DataValue, Transport}
 use Rattle.end_rules.specs.Messages.{Session, OfAssociation, OfData, OfMarks, OfActivities, Connect}
 use Rattle.end_rules.specs.Messages.{Accept, Refuse, Finish, Disconnect, Abort, AbortAccept, Values}
 use Rattle.end_rules.specs.Messages.{AlterContext, AlterContextAck, Remote, Part}
@@ -50,19 +50,19 @@ results_seen a answers = added_seen a.add answers.added ++ map deleted_seen answ
 -- ---- values
 
 -- one APDU on a context; in reliable mode one part of a transfer
-pub record IsData (base : Base) (values : List Value) (message : ModelMessage) : Type 0 where
+pub record IsData (base : Base) (values : List DataValue) (message : ModelMessage) : Type 0 where
   pub item : Item
   pub is_one : values ≡ record { id = item.id; pair = Some item.pair; content = Remote item.apdu } ∷ []
   pub is_its : message ≡ model_data (item_seen base item)
 
-pub record IsChunk (values : List Value) (message : ModelMessage) : Type 0 where
+pub record IsChunk (values : List DataValue) (message : ModelMessage) : Type 0 where
   pub id : ℕ
   pub pair : Option Pair
   pub octets : List ℕ
   pub is_one : values ≡ record { id = id; pair = pair; content = Part octets } ∷ []
   pub is_its : message ≡ model_chunk octets
 
-abbrev pub ValuesMean : Mode → Base → List Value → ModelMessage → Type 0
+abbrev pub ValuesMean : Mode → Base → List DataValue → ModelMessage → Type 0
 ValuesMean Bare base values message = IsData base values message
 ValuesMean Direct base values message = IsData base values message
 ValuesMean Reliable base values message = IsChunk values message
@@ -103,7 +103,7 @@ AreMeant proposed base (Session word ∷ messages) (m ∷ ms) = Means proposed b
 -- ---- data outside reliable mode
 
 -- data with one APDU under its pair
-abbrev pub value_of_item : Item → Value
+abbrev pub value_of_item : Item → DataValue
 value_of_item item = record { id = item.id; pair = Some item.pair; content = Remote item.apdu }
 
 abbrev pub data_word : Item → Word

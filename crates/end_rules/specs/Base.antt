@@ -121,17 +121,9 @@ most_alterations = 4
 abbrev pub most_transfers : ℕ
 most_transfers = 8
 
--- the highest identifier of a context (X.226 8.1.1.1 asks for no limit)
-abbrev pub highest_context : ℕ
-highest_context = 32767
-
 -- open invocations of one end
 abbrev pub most_open : ℕ
 most_open = 4096
-
--- the last identifier of an invocation
-abbrev pub last_invocation : ℕ
-last_invocation = 2147483647
 
 -- items that wait for their transfer
 abbrev pub most_queued : ℕ

@@ -2,7 +2,7 @@
 -- start of the next item (X.228 7.2, 7.3).
 use Rattle.std.specs.Prelude.{ℕ, zero, suc, ◌-◌, ◌*◌, List, [], ◌∷◌, length, take, drop, Bool, true, false, not, ◌&&◌, nat_lt, nat_le, if◌then◌else◌, Option, Some, None, is_some}
 use Rattle.osi_base.specs.declared.syntax.Pair.{Pair}
-use Rattle.osi_base.specs.Limits.{last_activity}
+use Rattle.osi_base.specs.Limits.{last_activity, checkpoint_unit}
 use Rattle.end_rules.specs.Base.{Base, Item, is_reliable}
 use Rattle.end_rules.specs.Sets.{pair_of}
 use Rattle.end_rules.specs.Messages.{Message, Session, OfMarks, OfActivities, Mark, Start, End}
@@ -25,7 +25,7 @@ pub data OwnAct : Type 0 where
 -- 1,024 octets for each unit of the checkpoint; without checkpoints all at once (X.228 8.1)
 abbrev pub part_size : ℕ → ℕ → ℕ
 part_size zero left = left
-part_size (suc n) left = suc n * 1024
+part_size (suc n) left = suc n * checkpoint_unit
 
 -- the newest piece is octets, behind which a mark stands unless they are the last
 abbrev pub ends_in_octets : List Piece → Bool

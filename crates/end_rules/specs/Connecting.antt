@@ -20,7 +20,7 @@ use Rattle.dialogue.specs.declared.indication.Indication.{Indication}
 use Rattle.dialogue.specs.declared.indication.Indication.TheVariants as indications
 use Rattle.end_rules.specs.Base.{Base, Fault, is_reliable, acse_name, rtse_name}
 use Rattle.end_rules.specs.Sets.{same_name, has_abstract, pair_of, lowest_with, accepted_set, fit_proposals, Saved}
-use Rattle.end_rules.specs.Messages.{Information, Transferring, Other, ValueContent, Association, Value, Accepting, Message}
+use Rattle.end_rules.specs.Messages.{Information, Transferring, Other, ValueContent, Association, DataValue, Accepting, Message}
 use Rattle.end_rules.specs.State.{Body, Carrying, NoAnswer, new_body, is_broken, is_none}
 use Rattle.end_rules.specs.Units.{has_units, needed_units, selected_with, has_version_two, manages_with}
 use Rattle.end_rules.specs.Policy.{opening_policy, is_faulty_proposal}
@@ -38,7 +38,7 @@ abbrev pub associated_in : ValueContent → Option Associated
 associated_in (Association apdu user) = Some (record { apdu = apdu; user = user })
 associated_in _ = None
 
-abbrev pub the_one : List Value → Option Associated
+abbrev pub the_one : List DataValue → Option Associated
 the_one [] = None
 the_one (value ∷ []) = associated_in value.content
 the_one (value ∷ more ∷ values) = None
@@ -112,7 +112,7 @@ is_open_request _ = false
 
 -- Its list is faulty; or, where association control is accepted, it carries no AARQ; or, where reliable transfer
 -- is, the AARQ carries what is no RTORQ.
-abbrev pub connect_fault : Base → PresentationConnect → List Value → Option Fault
+abbrev pub connect_fault : Base → PresentationConnect → List DataValue → Option Fault
 connect_fault base presentation values =
     or_fault (fault_if (is_faulty_proposal true [] presentation.definitions) invalid_ppdu)
     (or_fault (fault_if (has_acse (set_for base presentation) && not (is_request (the_one values))) acse_fault)
@@ -138,10 +138,10 @@ session_refuses base session =
 
 -- The presentation or association control refuses: a default context stands; association control isn't
 -- accepted, or in reliable mode reliable transfer; or there is no RTORQ.
-abbrev pub lacks_request : Base → List SetItem → List Value → Bool
+abbrev pub lacks_request : Base → List SetItem → List DataValue → Bool
 lacks_request base accepted values = is_reliable base.mode && (not (has_rtse accepted) || is_none (rtse_in (user_of (the_one values))))
 
-abbrev pub presentation_refuses : Base → PresentationConnect → List Value → Bool
+abbrev pub presentation_refuses : Base → PresentationConnect → List DataValue → Bool
 presentation_refuses base presentation values =
     is_some presentation.default_context || not (has_acse (set_for base presentation)) ||
     lacks_request base (set_for base presentation) values
@@ -165,10 +165,10 @@ rejection_of body (Some (rtse.OpenRequest checkpoint window mode connection)) =
     else None))
 rejection_of body _ = None
 
-abbrev pub transfer_rejection : Base → Body → List Value → Option ℕ
+abbrev pub transfer_rejection : Base → Body → List DataValue → Option ℕ
 transfer_rejection base body values = if is_reliable base.mode then rejection_of body (rtse_in (user_of (the_one values))) else None
 
-abbrev pub is_refused : Base → Body → SessionConnect → PresentationConnect → List Value → Bool
+abbrev pub is_refused : Base → Body → SessionConnect → PresentationConnect → List DataValue → Bool
 is_refused base body session presentation values =
     session_refuses base session || presentation_refuses base presentation values || is_some (transfer_rejection base body values)
 
@@ -180,7 +180,7 @@ rejecting_information base session accepted None = []
 rejecting_information base session accepted (Some reason) =
     if session_refuses base session then [] else Transferring (rtse_context accepted) (rtse.OpenReject (pos reason)) ∷ []
 
-abbrev pub refusal_message : Base → Body → SessionConnect → PresentationConnect → List Value → Message
+abbrev pub refusal_message : Base → Body → SessionConnect → PresentationConnect → List DataValue → Message
 refusal_message base body session presentation values =
     if is_some presentation.default_context || not (has_acse (set_for base presentation)) then provider_refusal
     else refuse_message (set_for base presentation) (results_for base presentation) (context_named (the_one values))
@@ -201,7 +201,7 @@ agreed_with base (Some (rtse.OpenRequest checkpoint window mode connection)) =
 agreed_with base (Some (rtse.OpenAccept checkpoint window connection)) = record { checkpoint = checkpoint; window = window }
 agreed_with base _ = record { checkpoint = 0; window = 1 }
 
-abbrev pub agreed_for : Base → List Value → Agreed
+abbrev pub agreed_for : Base → List DataValue → Agreed
 agreed_for base values = agreed_with base (rtse_in (user_of (the_one values)))
 
 abbrev pub data_named : Base → Option Rtse → ConnectionData
@@ -213,13 +213,13 @@ abbrev pub answering_data : Base → ConnectionData → ConnectionData
 answering_data base (data_of.Open value) = connection_data base false
 answering_data base (data_of.Recover reference common) = data_of.Recover reference common
 
-abbrev pub accepting_information : Base → List SetItem → List Value → List Information
+abbrev pub accepting_information : Base → List SetItem → List DataValue → List Information
 accepting_information base accepted values =
     information base.mode accepted
     (rtse.OpenAccept (agreed_for base values).checkpoint (agreed_for base values).window
     (answering_data base (data_named base (rtse_in (user_of (the_one values))))))
 
-abbrev pub acceptance_message : Base → SessionConnect → PresentationConnect → List Value → Message
+abbrev pub acceptance_message : Base → SessionConnect → PresentationConnect → List DataValue → Message
 acceptance_message base session presentation values =
     accept_message base (set_for base presentation) (results_for base presentation)
     (selected_with base.mode session.requirements)
@@ -260,7 +260,7 @@ joined_with base accepted selected manages agreed body =
     saved_in Bare = body.saved
 
 -- it names the association that is broken
-abbrev pub recovers_in : Base → List Value → Bool
+abbrev pub recovers_in : Base → List DataValue → Bool
 recovers_in base values = is_reliable base.mode && is_recovery (data_named base (rtse_in (user_of (the_one values))))
   where
     is_recovery : ConnectionData → Bool
@@ -273,7 +273,7 @@ begun_with base session =
     let body = new_body base in
     record body { link = record body.link { reference = session.calling_reference; common = session.common_reference } }
 
-abbrev pub accepted_connect : Base → Body → SessionConnect → PresentationConnect → List Value → Body
+abbrev pub accepted_connect : Base → Body → SessionConnect → PresentationConnect → List DataValue → Body
 accepted_connect base body session presentation values =
     joined_with base (set_for base presentation) (selected_with base.mode session.requirements)
     (manages_with presentation.requirements (selected_with base.mode session.requirements)) (agreed_for base values)
@@ -284,12 +284,12 @@ abbrev pub refused_connect : Body → Body
 refused_connect body =
     record body { link = record body.link { phase = if is_broken body.link.phase then Broken else Over; stage = Carrying } }
 
-abbrev pub after_connect : Base → Body → SessionConnect → PresentationConnect → List Value → Body
+abbrev pub after_connect : Base → Body → SessionConnect → PresentationConnect → List DataValue → Body
 after_connect base body session presentation values =
     if is_refused base body session presentation values then refused_connect body
     else accepted_connect base body session presentation values
 
-abbrev pub answer_to_connect : Base → Body → SessionConnect → PresentationConnect → List Value → List Message
+abbrev pub answer_to_connect : Base → Body → SessionConnect → PresentationConnect → List DataValue → List Message
 answer_to_connect base body session presentation values =
     if is_refused base body session presentation values then refusal_message base body session presentation values ∷ []
     else acceptance_message base session presentation values ∷ []
@@ -301,7 +301,7 @@ shown_opening body recovers =
     else (if is_broken body.link.phase then cuts body ++ indications.GivenUp ∷ indications.Opened ∷ []
     else indications.Opened ∷ [])
 
-abbrev pub shown_at_connect : Base → Body → SessionConnect → PresentationConnect → List Value → List Indication
+abbrev pub shown_at_connect : Base → Body → SessionConnect → PresentationConnect → List DataValue → List Indication
 shown_at_connect base body session presentation values =
     if is_refused base body session presentation values then [] else shown_opening body (recovers_in base values)
 
@@ -321,7 +321,7 @@ set_accepted base presentation = accepted_set (proposals base) presentation.resu
 
 -- its results don't fit the proposals or refuse the contexts of the association; it has no AARE that accepts; in
 -- reliable mode no RTOAC
-abbrev pub accept_fault : Base → PresentationAccept → List Value → Option Fault
+abbrev pub accept_fault : Base → PresentationAccept → List DataValue → Option Fault
 accept_fault base presentation values =
     or_fault (fault_if (not (fit_proposals (proposals base) presentation.results)) invalid_ppdu)
     (or_fault (fault_if (not (has_acse (set_accepted base presentation)) || is_reliable base.mode && not (has_rtse (set_accepted base presentation))) invalid_ppdu)
@@ -331,7 +331,7 @@ accept_fault base presentation values =
     (fault_if (lacks_accept (rtse_in (user_of (the_one values)))) rtse_fault)
     else None)))
 
-abbrev pub after_accept : Base → Body → Accepting → PresentationAccept → List Value → Body
+abbrev pub after_accept : Base → Body → Accepting → PresentationAccept → List DataValue → Body
 after_accept base body session presentation values =
     joined_with base (set_accepted base presentation) (selected_with base.mode session.requirements)
     (manages_with presentation.requirements (selected_with base.mode session.requirements)) (agreed_for base values) body

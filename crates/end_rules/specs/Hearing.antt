@@ -22,7 +22,7 @@ use Rattle.dialogue.specs.declared.indication.Indication.{Indication}
 use Rattle.dialogue.specs.declared.indication.Indication.TheVariants as indications
 use Rattle.end_rules.specs.Base.{Base, Carried, Absent, Spelled, Unspelled, Head, General, BadReject, InvokeHead, ResultHead, ErrorHead, RejectHead, is_reliable, most_open}
 use Rattle.end_rules.specs.Sets.{pair_of}
-use Rattle.end_rules.specs.Messages.{ValueContent, Remote, Unread, Value, Values, OfData, Message, Session}
+use Rattle.end_rules.specs.Messages.{ValueContent, Remote, Unread, DataValue, Values, OfData, Message, Session}
 use Rattle.end_rules.specs.State.{Body, Calls, OpenCall, is_empty, opened_with, opens_of, close}
 use Rattle.end_rules.specs.Invoking.{is_linked_to, operation_of, carrier_in}
 
@@ -230,7 +230,7 @@ hear base calls context (RejectHead id problem) = hear_reject calls id problem
 -- ---- what the end does with it
 
 -- a value on a context of the set
-abbrev pub value_on : Body → ℕ → ValueContent → Value
+abbrev pub value_on : Body → ℕ → ValueContent → DataValue
 value_on body id content = record { id = id; pair = pair_of body.sets.held id; content = content }
 
 -- APDUs outside reliable mode go as data at once
@@ -281,7 +281,7 @@ syntax_of None = Ber
 syntax_of (Some pair) = pair.transfer
 
 -- what a value of the module's abstract syntax says
-abbrev pub head_of : Base → Value → Head
+abbrev pub head_of : Base → DataValue → Head
 head_of base value = head_in value.content
   where
     head_in : ValueContent → Head
@@ -293,7 +293,7 @@ head_of base value = head_in value.content
 abbrev pub then_taken : Taken → Taken → Taken
 then_taken first second = record { body = second.body; answers = first.answers ++ second.answers; shown = first.shown ++ second.shown }
 
-abbrev pub take_values : Base → Body → List Value → Taken
+abbrev pub take_values : Base → Body → List DataValue → Taken
 take_values base body [] = record { body = body; answers = []; shown = [] }
 take_values base body (value ∷ values) =
     let taken = take_head base body value.id (head_of base value) in

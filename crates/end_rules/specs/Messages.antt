@@ -34,7 +34,7 @@ pub data ValueContent : Type 0 where
 
 -- a presentation data value: its context's identifier, the pair that the identifier stands for, and what
 -- it is (X.226 8.4.2); a value on a context that isn't there has no pair
-pub record Value : Type 0 where
+pub record DataValue : Type 0 where
   pub id : ℕ
   pub pair : Option Pair
   pub content : ValueContent
@@ -60,21 +60,21 @@ pub record Accepting : Type 0 where
 pub data AbortData : Type 0 where
   NoData : AbortData
   ProviderReason : (reason : Option ℕ) → AbortData
-  UserValues : (values : List Value) → AbortData
+  UserValues : (values : List DataValue) → AbortData
 
 -- the association (X.225 8.3.1, 8.3.4 to 8.3.10)
 pub data AssociationWord : Type 0 where
-  Connect : (session : SessionConnect) → (presentation : PresentationConnect) → (values : List Value) → AssociationWord  -- CN with CP
-  Accept : (session : Accepting) → (presentation : PresentationAccept) → (values : List Value) → AssociationWord  -- AC with CPA
-  Refuse : (transport : Option ℕ) → (reason : Option ℕ) → (presentation : Option PresentationReject) → (values : List Value) → AssociationWord  -- RF with CPR
-  Finish : (transport : Option ℕ) → (values : List Value) → AssociationWord  -- FN
-  Disconnect : (values : List Value) → AssociationWord  -- DN
+  Connect : (session : SessionConnect) → (presentation : PresentationConnect) → (values : List DataValue) → AssociationWord  -- CN with CP
+  Accept : (session : Accepting) → (presentation : PresentationAccept) → (values : List DataValue) → AssociationWord  -- AC with CPA
+  Refuse : (transport : Option ℕ) → (reason : Option ℕ) → (presentation : Option PresentationReject) → (values : List DataValue) → AssociationWord  -- RF with CPR
+  Finish : (transport : Option ℕ) → (values : List DataValue) → AssociationWord  -- FN
+  Disconnect : (values : List DataValue) → AssociationWord  -- DN
   Abort : (transport : Option ℕ) → (user : AbortData) → AssociationWord  -- AB with ARU, ARP or nothing
   AbortAccept : AssociationWord  -- AA
 
 -- values, and alterations in typed data (X.225 8.3.11, 8.3.13; X.226 8.4.1 to 8.4.3)
 pub data DataWord : Type 0 where
-  Values : (values : List Value) → DataWord  -- DT
+  Values : (values : List DataValue) → DataWord  -- DT
   AlterContext : (add : List Proposal) → (delete : List ℕ) → DataWord  -- TD with AC
   AlterContextAck : (answers : Answers) → DataWord  -- TD with ACA
 
@@ -85,7 +85,7 @@ pub data MarkWord : Type 0 where
   Restart : (number : ℕ) → (list : Option (List RestoredItem)) → MarkWord  -- RS
   RestartAck : (number : ℕ) → (list : Option (List RestoredItem)) → MarkWord  -- RA
   Give : (tokens : Option ℕ) → MarkWord  -- GT
-  Please : (tokens : Option ℕ) → (values : List Value) → MarkWord  -- PT
+  Please : (tokens : Option ℕ) → (values : List DataValue) → MarkWord  -- PT
   GiveConfirm : MarkWord  -- GTC
   GiveAck : MarkWord  -- GTA
 

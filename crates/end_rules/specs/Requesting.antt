@@ -14,7 +14,7 @@ use Rattle.dialogue.specs.declared.call.CallRefusal.{CallRefusal}
 use Rattle.dialogue.specs.declared.call.CallRefusal.TheVariants.{NoMemory}
 use Rattle.end_rules.specs.Base.{Base}
 use Rattle.end_rules.specs.Sets.{listed, next_number}
-use Rattle.end_rules.specs.Messages.{Message, Transport, Session, Word, OfAssociation, OfData, OfMarks, OfActivities, AssociationWord, Finish, DataWord, Values, AlterContext, MarkWord, Mark, Restart, Give, GiveConfirm, ActivityWord, Start, Resume, End, Interrupt, Discard, TransportUnit, ConnectionRequest, Value}
+use Rattle.end_rules.specs.Messages.{Message, Transport, Session, Word, OfAssociation, OfData, OfMarks, OfActivities, AssociationWord, Finish, DataWord, Values, AlterContext, MarkWord, Mark, Restart, Give, GiveConfirm, ActivityWord, Start, Resume, End, Interrupt, Discard, TransportUnit, ConnectionRequest, DataValue}
 use Rattle.end_rules.specs.State.{Body, Asked, RestartOf, InterruptOf, DiscardOf, ReleaseOf, OpenCall, Queued, Octets, Marked, Running, Ending, Encoded, Transfer, Sending, on_transfer, in_phase, awaiting, opened_with, close, up_to, resumed_set, pieces_of, confirmed_of, is_carrying}
 use Rattle.end_rules.specs.Invoking.{Reply, invoke_apdu, result_apdu, error_apdu, carrier_in}
 use Rattle.end_rules.specs.Hearing.{opening, data_on}
@@ -177,7 +177,7 @@ abbrev pub after_sent_association : Body → AssociationWord → Body
 after_sent_association body (Finish transport values) = awaiting ReleaseOf (in_phase Releasing body)
 after_sent_association body _ = body
 
-abbrev pub values_sent : Mode → List Value → Body → Body
+abbrev pub values_sent : Mode → List DataValue → Body → Body
 values_sent Reliable values body = on_transfer (λ (t : Transfer). record t { pieces = Octets (parts_in values) ∷ t.pieces }) body
 values_sent Direct values body = body
 values_sent Bare values body = body

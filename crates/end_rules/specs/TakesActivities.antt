@@ -5,7 +5,7 @@ use Rattle.stub_tables.specs.declared.apdu.Apdu.TheVariants as apdus
 use Rattle.dialogue.specs.declared.indication.Indication.{Indication}
 use Rattle.dialogue.specs.declared.indication.Indication.TheVariants as indications
 use Rattle.end_rules.specs.Base.{Base, Fault, Arrived, Whole, Raw}
-use Rattle.end_rules.specs.Messages.{Value, Remote, Unread, ActivityWord, Start, Resume, End, EndAck, Interrupt, InterruptAck, Discard, DiscardAck, OfActivities, Message, Session}
+use Rattle.end_rules.specs.Messages.{DataValue, Remote, Unread, ActivityWord, Start, Resume, End, EndAck, Interrupt, InterruptAck, Discard, DiscardAck, OfActivities, Message, Session}
 use Rattle.end_rules.specs.State.{Body, NoAnswer, Receiving, Transfer, Suspended, Calls, joined, up_to, resumed_set, between, on_transfer, opened_with, close}
 use Rattle.end_rules.specs.Hearing.{Taken, take_values}
 use Rattle.end_rules.specs.Faults.{losses}
@@ -15,15 +15,15 @@ use Rattle.end_rules.specs.Faults.{losses}
 abbrev pub arrived_now : Base → Body → Result Arrived Fault
 arrived_now base body = base.spellings.arrived body.sets.held (joined body.receiving.pieces)
 
-abbrev pub arrived_value : Arrived → Value
+abbrev pub arrived_value : Arrived → DataValue
 arrived_value (Whole item) = record { id = item.id; pair = Some item.pair; content = Remote item.apdu }
 arrived_value (Raw id pair octets) = record { id = id; pair = Some pair; content = Unread octets }
 
-abbrev pub values_arrived : Result Arrived Fault → List Value
+abbrev pub values_arrived : Result Arrived Fault → List DataValue
 values_arrived (Ok arrived) = arrived_value arrived ∷ []
 values_arrived (Err fault) = []
 
-abbrev pub handed_up : Base → Body → List Value
+abbrev pub handed_up : Base → Body → List DataValue
 handed_up base body = if body.receiving.was_handed then [] else values_arrived (arrived_now base body)
 
 abbrev pub fault_in : Result Arrived Fault → Option Fault

@@ -8,7 +8,7 @@ use Rattle.dialogue.specs.declared.indication.Indication.{Indication}
 use Rattle.dialogue.specs.declared.indication.Indication.TheVariants as indications
 use Rattle.end_rules.specs.Base.{Base, Fault, is_reliable}
 use Rattle.end_rules.specs.Sets.{Alteration, proposed_ids, altered, fit_alteration}
-use Rattle.end_rules.specs.Messages.{ValueContent, Remote, Unread, Association, Part, Value, DataWord, Values, AlterContext, AlterContextAck, OfData, Message, Session}
+use Rattle.end_rules.specs.Messages.{ValueContent, Remote, Unread, Association, Part, DataValue, DataWord, Values, AlterContext, AlterContextAck, OfData, Message, Session}
 use Rattle.end_rules.specs.State.{Body, Octets, joined}
 use Rattle.end_rules.specs.Policy.{policy, is_faulty_proposal}
 use Rattle.end_rules.specs.Hearing.{Taken, take_values}
@@ -20,7 +20,7 @@ abbrev pub part_in : ValueContent → List ℕ
 part_in (Part octets) = octets
 part_in _ = []
 
-abbrev pub parts_in : List Value → List ℕ
+abbrev pub parts_in : List DataValue → List ℕ
 parts_in [] = []
 parts_in (value ∷ values) = part_in value.content ++ parts_in values
 
@@ -39,21 +39,21 @@ is_remote _ = false
 
 -- what data may not carry: values of association control anywhere; in reliable mode what is no part of a transfer;
 -- else what is none of remote operations
-abbrev pub values_fault : Base → Body → List Value → Option Fault
+abbrev pub values_fault : Base → Body → List DataValue → Option Fault
 values_fault base body values =
-    or_fault (fault_if (list_any (λ (v : Value). is_associated v.content) values) acse_fault)
+    or_fault (fault_if (list_any (λ (v : DataValue). is_associated v.content) values) acse_fault)
     (if is_reliable base.mode
-    then or_fault (fault_if (list_any (λ (v : Value). not (is_part v.content)) values) rtse_fault)
+    then or_fault (fault_if (list_any (λ (v : DataValue). not (is_part v.content)) values) rtse_fault)
     (fault_if (nat_lt most_transferred (length (joined body.receiving.pieces ++ parts_in values))) rtse_fault)
-    else fault_if (list_any (λ (v : Value). not (is_remote v.content)) values) invalid_ppdu)
+    else fault_if (list_any (λ (v : DataValue). not (is_remote v.content)) values) invalid_ppdu)
 
 -- one piece for each part
-abbrev pub with_parts : List Value → Body → Body
+abbrev pub with_parts : List DataValue → Body → Body
 with_parts [] body = body
 with_parts (value ∷ values) body =
     with_parts values (record body { receiving = record body.receiving { pieces = Octets (part_in value.content) ∷ body.receiving.pieces } })
 
-abbrev pub values_taken : Base → Body → List Value → Taken
+abbrev pub values_taken : Base → Body → List DataValue → Taken
 values_taken base body values =
     if is_reliable base.mode then record { body = with_parts values body; answers = []; shown = [] } else take_values base body values
 

@@ -10,7 +10,7 @@ use Rattle.dialogue.specs.declared.indication.Indication.{Indication}
 use Rattle.dialogue.specs.declared.indication.Indication.TheVariants as indications
 use Rattle.end_rules.specs.Base.{Base, Fault}
 use Rattle.end_rules.specs.Sets.{listed, same_lists, below, newest}
-use Rattle.end_rules.specs.Messages.{ValueContent, Plea, Value, MarkWord, Mark, MarkAck, Restart, RestartAck, Give, Please, GiveConfirm, GiveAck, OfMarks, Message, Session}
+use Rattle.end_rules.specs.Messages.{ValueContent, Plea, DataValue, MarkWord, Mark, MarkAck, Restart, RestartAck, Give, Please, GiveConfirm, GiveAck, OfMarks, Message, Session}
 use Rattle.end_rules.specs.State.{Body, NoAnswer, Marked, Transfer, on_transfer}
 use Rattle.end_rules.specs.TakesData.{is_associated}
 use Rattle.end_rules.specs.Faults.{acse_fault, rtse_fault, fault_if, or_fault, cuts, losses}
@@ -77,7 +77,7 @@ shown_turn None = []
 shown_turn (Some tokens) = indications.Turn ∷ []
 
 -- a plea has a priority in reliable mode, where it carries none 0
-abbrev pub priority_in : List Value → Option ℕ
+abbrev pub priority_in : List DataValue → Option ℕ
 priority_in [] = Some 0
 priority_in (value ∷ []) = plea_in value.content
   where
@@ -91,17 +91,17 @@ is_plea None = false
 is_plea (Some priority) = true
 
 -- values of association control are its fault, and what else is no plea one of reliable transfer
-abbrev pub please_fault : Option ℕ → List Value → Option Fault
+abbrev pub please_fault : Option ℕ → List DataValue → Option Fault
 please_fault None values = None
 please_fault (Some tokens) values =
-    or_fault (fault_if (list_any (λ (v : Value). is_associated v.content) values) acse_fault)
+    or_fault (fault_if (list_any (λ (v : DataValue). is_associated v.content) values) acse_fault)
     (fault_if (not (is_plea (priority_in values))) rtse_fault)
 
 abbrev pub shown_plea : Option ℕ → List Indication
 shown_plea None = []
 shown_plea (Some priority) = indications.Asked priority ∷ []
 
-abbrev pub shown_please : Option ℕ → List Value → List Indication
+abbrev pub shown_please : Option ℕ → List DataValue → List Indication
 shown_please None values = []
 shown_please (Some tokens) values = shown_plea (priority_in values)
 

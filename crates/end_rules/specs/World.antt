@@ -10,7 +10,7 @@ use Rattle.dialogue.specs.declared.config.Mode.{Mode}
 use Rattle.dialogue.specs.declared.config.Mode.TheVariants.{Bare, Direct, Reliable}
 use Rattle.end_rules.specs.Base.{Base}
 use Rattle.end_rules.specs.Sets.{Saved, pair_of, altered, accepted_set, below, newest}
-use Rattle.end_rules.specs.Messages.{Message, Transport, Session, Word, OfAssociation, OfData, OfMarks, OfActivities, Value, AssociationWord, Connect, Accept, DataWord, AlterContext, AlterContextAck, MarkWord, Mark, Restart, RestartAck, ActivityWord, Start, Resume, EndAck, InterruptAck, DiscardAck}
+use Rattle.end_rules.specs.Messages.{Message, Transport, Session, Word, OfAssociation, OfData, OfMarks, OfActivities, AssociationWord, Connect, Accept, DataWord, AlterContext, AlterContextAck, MarkWord, Mark, Restart, RestartAck, ActivityWord, Start, Resume, EndAck, InterruptAck, DiscardAck}
 use Rattle.end_rules.specs.State.{Body, first_set, holds_turn}
 use Rattle.end_rules.specs.Connecting.{recovers_in}
 use Rattle.end_rules.specs.TakesData.{alteration}

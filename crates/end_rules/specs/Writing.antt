@@ -22,7 +22,7 @@ use Rattle.dialogue.specs.declared.config.Phase.{Phase}
 use Rattle.dialogue.specs.declared.config.Phase.TheVariants.{Recovering}
 use Rattle.end_rules.specs.Base.{Base, acse_name, rtse_name, ber_name, application_context}
 use Rattle.end_rules.specs.Sets.{lowest_with, pair_of}
-use Rattle.end_rules.specs.Messages.{Information, Transferring, ValueContent, Association, Plea, Part, Value, ConnectionRequest, NoData, ProviderReason, UserValues, Connect, Accept, Refuse, Finish, Disconnect, Abort, Values, Give, GiveConfirm, Please, OfAssociation, OfData, OfMarks, Message, Transport, Session}
+use Rattle.end_rules.specs.Messages.{Information, Transferring, ValueContent, Association, Plea, Part, DataValue, ConnectionRequest, NoData, ProviderReason, UserValues, Connect, Accept, Refuse, Finish, Disconnect, Abort, Values, Give, GiveConfirm, Please, OfAssociation, OfData, OfMarks, Message, Transport, Session}
 use Rattle.end_rules.specs.State.{Body}
 use Rattle.end_rules.specs.Units.{proposed_units}
 
@@ -42,7 +42,7 @@ abbrev pub acse_pair : Pair
 acse_pair = record { abstract_name = acse_name; transfer = Ber }
 
 -- an APDU of association control with its user information
-abbrev pub acse_value : List SetItem → Acse → List Information → Value
+abbrev pub acse_value : List SetItem → Acse → List Information → DataValue
 acse_value accepted apdu user = record { id = acse_context accepted; pair = Some acse_pair; content = Association apdu user }
 
 -- in reliable mode user information is one APDU of reliable transfer
@@ -115,7 +115,7 @@ abbrev pub connection_data : Base → Bool → ConnectionData
 connection_data base true = data_of.Recover base.config.reference base.config.common
 connection_data base false = data_of.Open (5 ∷ 0 ∷ [])
 
-abbrev pub connect_values : Base → Bool → List Value
+abbrev pub connect_values : Base → Bool → List DataValue
 connect_values base recovers =
     acse_value [] (acse.AssociateRequest None (application_context base.mode) [])
     (information base.mode [] (rtse.OpenRequest base.config.checkpoint base.config.window (pos 1) (connection_data base recovers))) ∷ []
@@ -176,7 +176,7 @@ give_message Reliable = Session (OfMarks GiveConfirm)
 give_message Direct = Session (OfMarks (Give (Some 4)))
 give_message Bare = Session (OfMarks (Give (Some 4)))
 
-abbrev pub rtse_value : Body → ValueContent → Value
+abbrev pub rtse_value : Body → ValueContent → DataValue
 rtse_value body content =
     record { id = rtse_context body.link.accepted; pair = pair_of body.sets.held (rtse_context body.link.accepted); content = content }
 

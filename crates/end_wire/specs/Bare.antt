@@ -16,7 +16,7 @@ use Rattle.dialogue.specs.declared.config.Config.{Config}
 use Rattle.dialogue.specs.declared.config.Mode.TheVariants.{Bare}
 use Rattle.end_rules.specs.Base.{Base}
 use Rattle.end_rules.specs.Sets.{pair_of}
-use Rattle.end_rules.specs.Messages.{ValueContent, Value as PresentationValue, Values, OfData, Message, Session, Transport, Word, DataWord, AlterContext, AlterContextAck, OfAssociation, OfMarks, OfActivities}
+use Rattle.end_rules.specs.Messages.{ValueContent, DataValue, Values, OfData, Message, Session, Transport, Word, DataWord, AlterContext, AlterContextAck, OfAssociation, OfMarks, OfActivities}
 use Rattle.end_rules.specs.Hearing.{syntax_of}
 use Rattle.end_wire.specs.Values.{IsContent, content_at, written_content, bare_spellings}
 
@@ -28,7 +28,7 @@ bare_base tables config =
 -- ---- messages
 
 -- a value on context 0, under the pair that the set gives it
-abbrev pub bare_value : List SetItem → ValueContent → PresentationValue
+abbrev pub bare_value : List SetItem → ValueContent → DataValue
 bare_value held content = record { id = 0; pair = pair_of held 0; content = content }
 
 abbrev pub bare_message : List SetItem → ValueContent → Message
@@ -44,7 +44,7 @@ pub record IsWire (tables : Tables) (held : List SetItem) (message : Message) (o
 
 -- ---- the one spelling in which a message is written
 
-abbrev pub written_values : Tables → List PresentationValue → List ℕ
+abbrev pub written_values : Tables → List DataValue → List ℕ
 written_values tables [] = []
 written_values tables (value ∷ values) = written_content tables (syntax_of value.pair) value.content ++ written_values tables values
 

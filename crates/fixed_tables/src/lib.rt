@@ -1,5 +1,5 @@
-//! What the protocol data units of the upper layers share: fixed tables of types, and the fields of
-//! values read from them.
+//! What the protocol data units of the upper layers share: fixed tables of types, whole values of
+//! them, the fields of values read and made, presentation data values, and reasons.
 #![tactic(auto)]
 
 mod building;

@@ -14,7 +14,7 @@ use Rattle.stub_tables.specs.declared.operation.Code.TheVariants.{Local, Global}
 use Rattle.module_faults.specs.declared.kind.TableKind.TheVariants as kinds
 use Rattle.module_faults.specs.declared.least.Found.{Found}
 use Rattle.module_faults.specs.Least.{fault, if_so}
-use Rattle.module_faults.specs.Seen.{has_list, with_list, has_number, with_number, Codes, has_by, has_code, with_by, with_code, no_codes}
+use Rattle.module_faults.specs.Met.{has_list, with_list, has_number, with_number, Codes, has_by, has_code, with_by, with_code, no_codes}
 use Rattle.module_faults.specs.Locals.{own_code, code_faults, and_code, double_codes}
 use Rattle.module_compiler.specs.Tabling.{code_by}
 use Rattle.module_compiler.proofs.OwnCodes.{any_end, either_false}

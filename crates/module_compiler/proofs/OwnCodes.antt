@@ -11,7 +11,7 @@ use Rattle.stub_tables.specs.declared.operation.Code.{Code}
 use Rattle.stub_tables.specs.declared.operation.Code.TheVariants.{Local, Global}
 use Rattle.stub_tables.specs.Codes.{same_code, have_own_codes}
 use Rattle.module_compiler.specs.declared.own_codes.Seen.{Seen}
-use Rattle.module_compiler.specs.Seen.{has}
+use Rattle.module_compiler.specs.Kept.{has}
 
 or_cond : (b c : Bool) → cond b true c ≡ (b || c)
 or_cond true c = refl

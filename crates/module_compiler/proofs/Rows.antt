@@ -1,8 +1,8 @@
 -- In a module without a fault each type has a row: walking it ends with one, at most 65 types deep.
-use Rattle.std.proofs.Common.{◌≡◌, ℕ, zero, suc, pos, ◌+◌, ◌*◌, ◌≤◌, Bool, true, false, List, [], ◌∷◌, ◌++◌, length, Option, None, Some, refl, sym, ap, subst, ◌∙◌, arith, ℤ}
-use Rattle.std.specs.Prelude.{◌||◌, not, nat_lt, max, map, slice_get, option_map, if◌then◌else◌}
+use Rattle.std.proofs.Common.{◌≡◌, ℕ, zero, suc, pos, ◌+◌, ◌*◌, ◌≤◌, ◌<◌, Bool, true, false, List, [], ◌∷◌, ◌++◌, length, Option, None, Some, refl, sym, ap, subst, ◌∙◌, arith, ℤ}
+use Rattle.std.specs.Prelude.{◌||◌, not, nat_le, max, map, slice_get, option_map, if◌then◌else◌}
 use Rattle.std.specs.Str.{bytes_eq}
-use Rattle.std.proofs.lemmas.Bool.{ltb-false}
+use Rattle.std.proofs.lemmas.Bool.{leb-false}
 use Rattle.std.proofs.lemmas.Bool.Decides.{nat_tests}
 use Rattle.notation_tokens.specs.declared.token.Located.{Located}
 use Rattle.asn1_types.specs.declared.row.Class.{Class}
@@ -19,7 +19,7 @@ use Rattle.operation_notation.specs.declared.module.ItemText.{ItemText}
 use Rattle.module_faults.specs.declared.kind.TableKind.TheVariants as kinds
 use Rattle.module_faults.specs.Least.{fault, if_so}
 use Rattle.module_faults.specs.Names.{or_none}
-use Rattle.module_faults.specs.Facts.{Base, truth, numbers, items, other, unknown, Facts, deeper, has_item, takes, default_faults, parts_nesting, plain_facts, type_facts}
+use Rattle.module_faults.specs.Facts.{DefaultKind, truth, numbers, items, other, unknown, Facts, deeper, has_item, takes, default_faults, parts_nesting, plain_facts, type_facts}
 use Rattle.asn1_types.specs.Numbered.{kind_numbered, class_numbered}
 use Rattle.module_compiler.specs.Numbering.{Numbered, item_of, under, base_in, base, truth_number, item_number, number_in, default_number, with_default, part_of}
 use Rattle.module_compiler.proofs.Faultless.{alias_slack}
@@ -76,7 +76,7 @@ base_deeper all (suc turns) (suc deep) n row le e =
 
 -- ---- what a row is under its tags, as a type's facts say
 
-abbrev pub Fits : TypeRow → Base → Type 0
+abbrev pub Fits : TypeRow → DefaultKind → Type 0
 Fits row truth = row ≡ rows.Boolean
 Fits row (numbers low high) = (l : ℤ) × ((h : ℤ) × (row ≡ rows.Integer l h))
 Fits row (items all) = row ≡ rows.Enumerated (map item_of all)
@@ -116,7 +116,7 @@ pub tag_has : (all : List TypeRow) (class : Class) (number : ℕ) (explicit : Bo
 tag_has all class number explicit inner below facts h deep same =
     let row : TypeRow = rows.Tagged class number explicit inner in
     let small : h.turns ≤ below.nesting = h.small in
-    record { turns = suc h.turns; small = omega arith; row = h.row; at = tag_found h.turns all class number explicit inner h.row h.at; fits = subst (λ (b : Base). Fits h.row b) (sym same) h.fits }
+    record { turns = suc h.turns; small = omega arith; row = h.row; at = tag_found h.turns all class number explicit inner h.row h.at; fits = subst (λ (b : DefaultKind). Fits h.row b) (sym same) h.fits }
 
 -- ---- defaults
 
@@ -130,7 +130,7 @@ item_found (item ∷ all) name e = go (bytes_eq item.name.text name) refl (λ h.
         let r = more h in
         (r.0, ap (λ (c : Bool). if c then Some item.number else item_number (map item_of all) name) s ∙ r.1)
 
-takes_number : (row : TypeRow) (b : Base) (value : DfltValue) → Fits row b → takes b value ≡ true → (n : ℤ) × (number_in row value ≡ Some n)
+takes_number : (row : TypeRow) (b : DefaultKind) (value : DfltValue) → Fits row b → takes b value ≡ true → (n : ℤ) × (number_in row value ≡ Some n)
 takes_number row truth (values.Truth t) fits e = (truth_number t, ap (λ (r : TypeRow). number_in r (values.Truth t)) fits)
 takes_number row truth (values.Number n) fits e = absurd cc
 takes_number row truth (values.Item name) fits e = absurd cc
@@ -174,13 +174,13 @@ deeper_pos n = grind (arith, nat_tests)
 
 -- a row that isn't too deep is one level deeper than those in it
 pub deeper_is : (n : ℕ) → deeper n ≤ 32 → suc n ≤ deeper n
-deeper_is n h = go (nat_lt n 33) refl
+deeper_is n h = go (nat_le n 32) refl
   where
-    go : (b : Bool) → nat_lt n 33 ≡ b → suc n ≤ deeper n
+    go : (b : Bool) → nat_le n 32 ≡ b → suc n ≤ deeper n
     go true e = let is : deeper n ≡ n + 1 = ap (λ (c : Bool). if c then n + 1 else n) e in omega arith
     go false e =
         let is : deeper n ≡ n = ap (λ (c : Bool). if c then n + 1 else n) e in
-        let le : 33 ≤ n = ltb-false n 33 e in absurd (omega arith)
+        let lt : 32 < n = leb-false n 32 e in absurd (omega arith)
 
 module _ (facts : TypeTree → Facts) where
   pub nesting_from : (n : ℕ) (ps : PartTrees) → n ≤ parts_nesting facts n ps

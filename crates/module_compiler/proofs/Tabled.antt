@@ -28,7 +28,7 @@ use Rattle.module_faults.specs.declared.kind.TableKind.TheVariants as kinds
 use Rattle.module_faults.specs.declared.least.Found.{Found}
 use Rattle.module_faults.specs.Least.{at_name, if_so}
 use Rattle.module_faults.specs.Names.{or_none, find, assigned, typed, type_at}
-use Rattle.module_faults.specs.Seen.{no_codes}
+use Rattle.module_faults.specs.Met.{no_codes}
 use Rattle.module_faults.specs.Locals.{kind_at, no_error, no_operation, names_faults, use_faults, contradiction, no_code, body_faults, bodies_faults, own_code, double_names, double_codes}
 use Rattle.module_faults.specs.Recursion.{SaysRecursion}
 use Rattle.module_faults.specs.Facts.{Facts, is_too_deep, type_facts, type_shows, env_of}

@@ -1,8 +1,8 @@
 -- In a module without a fault the walk of each type ends with its row.
 use Rattle.std.proofs.Common.{◌≡◌, ℕ, zero, suc, ◌+◌, ◌*◌, ◌≤◌, Bool, true, false, List, [], ◌∷◌, ◌++◌, length, Option, None, Some, refl, sym, ap, subst, ◌∙◌, arith, inl, inr, ℤ, pos, negsuc, ltb}
-use Rattle.std.specs.Prelude.{◌⊎◌, ◌||◌, not, nat_lt, max, map, IfSome, slice_get, slice_set, int_lt, if◌then◌else◌}
+use Rattle.std.specs.Prelude.{◌⊎◌, ◌||◌, not, nat_le, max, map, IfSome, slice_get, slice_set, int_lt, if◌then◌else◌}
 use Rattle.std.specs.Ordering.{int_eq}
-use Rattle.std.proofs.lemmas.Bool.{ltb-false, lt-ltb}
+use Rattle.std.proofs.lemmas.Bool.{ltb-false, le-leb}
 use Rattle.notation_tokens.specs.declared.token.Located.{Located}
 use Rattle.asn1_types.specs.declared.row.Class.{Class}
 use Rattle.asn1_types.specs.declared.row.Part.{Part}
@@ -42,7 +42,7 @@ most_made : (high : ℤ) → (int_lt high (pos 0) || int_lt (pos 4294967295) hig
 most_made (negsuc n) e = absurd cc
 most_made (pos n) e =
     let le : n ≤ 4294967295 = ltb-false 4294967295 n (or_second (ltb n 0) (ltb 4294967295 n) e) in
-    let small : nat_lt n 4294967296 ≡ true = lt-ltb n 4294967296 (omega arith) in
+    let small : nat_le n 4294967295 ≡ true = le-leb n 4294967295 le in
     (n, ap (λ (b : Bool). if b then Some n else None) small)
 
 size_made : (size : Option RangeText) → size_faults size ≡ [] → (n : ℕ) × (size_of size ≡ Some n)

@@ -1,10 +1,16 @@
--- What is kept of the names of a module: what stands behind aliases.
-use Rattle.std.specs.Prelude.{◌≡◌, ℕ, ◌+◌, List, [], ◌∷◌, Option, Some, None, slice_get}
+-- What is kept of the names of a module: what stands behind aliases, and the codes that were met.
+use Rattle.std.specs.Prelude.{◌≡◌, ℕ, ◌+◌, Bool, nat_eq, List, [], ◌∷◌, Option, Some, None, slice_get}
+use Rattle.std.specs.Ordering.{int_eq}
+use Rattle.std.specs.Cmp.Lexicographic.{pointwise}
+use Rattle.std.specs.HashSet.{contains_by}
+use Rattle.stub_tables.specs.declared.operation.Code.{Code}
+use Rattle.stub_tables.specs.declared.operation.Code.TheVariants.{Local, Global}
 use Rattle.operation_notation.specs.declared.module.Assignment.{Assignment}
 use Rattle.module_compiler.specs.declared.scope.Behind.{Behind}
 use Rattle.module_compiler.specs.declared.scope.Followed.{Followed}
 use Rattle.module_compiler.specs.declared.scope.Followed.TheVariants.{NotYet, Open, Known}
 use Rattle.module_faults.specs.Names.{or_none, find, type_at}
+use Rattle.module_compiler.specs.declared.own_codes.Seen.{Seen}
 use Rattle.module_compiler.specs.Scope.{alias, behind_by}
 
 -- this stands behind so many aliases from a place on; or nothing is known
@@ -43,3 +49,8 @@ Leads assignments (x ∷ y ∷ ys) at = (step assignments x ≡ Some y) × Leads
 abbrev pub From : ℕ → List ℕ → ℕ → Type 0
 From place [] at = place ≡ at
 From place (x ∷ xs) at = place ≡ x
+
+-- a code was met
+abbrev pub has : Seen → Code → Bool
+has seen (Local number) = contains_by (λ n. int_eq number n) seen.locals
+has seen (Global arcs) = contains_by (λ k. pointwise nat_eq arcs k.now) seen.globals

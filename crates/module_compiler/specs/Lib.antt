@@ -3,7 +3,6 @@ pub mod Scope
 pub mod Kept
 pub mod Numbering
 pub mod Tabling
-pub mod Seen
 pub mod Tables
 pub mod Refusals
 pub mod Laws

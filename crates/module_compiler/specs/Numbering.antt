@@ -1,8 +1,9 @@
 -- The rows of a module's types (X.680; the order of numbering is this project's): assignments are walked in the order of the text, and a
 -- row is made when its type was walked whole, so inner types come first. A Name has the row of the type that stands behind it, which is
 -- walked when it is first met.
-use Rattle.std.specs.Prelude.{◌≡◌, Result, Ok, Err, ℕ, zero, suc, ℤ, pos, negsuc, Bool, true, false, not, ◌||◌, nat_lt, List, [], ◌∷◌, ◌++◌, map, length, Option, Some, None, option_map, slice_get, slice_set, if◌then◌else◌}
+use Rattle.std.specs.Prelude.{◌≡◌, Result, Ok, Err, ℕ, zero, suc, ℤ, pos, negsuc, Bool, true, false, not, ◌||◌, List, [], ◌∷◌, ◌++◌, map, length, Option, Some, None, option_map, slice_get, slice_set, if◌then◌else◌, nat_le, ◌*◌, ◌+◌}
 use Rattle.std.specs.Str.{bytes_eq}
+use Rattle.osi_base.specs.Limits.{most_32}
 use Rattle.notation_tokens.specs.declared.token.Located.{Located}
 use Rattle.asn1_types.specs.declared.row.Item.{Item}
 use Rattle.asn1_types.specs.declared.row.Part.{Part}
@@ -11,7 +12,7 @@ use Rattle.asn1_types.specs.declared.row.Class.{Class}
 use Rattle.asn1_types.specs.declared.row.TypeRow.{TypeRow}
 use Rattle.asn1_types.specs.declared.row.TypeRow.TheVariants as rows
 use Rattle.asn1_types.specs.Numbered.{kind_numbered, class_numbered}
-use Rattle.asn1_types.specs.Limits.{most_octets}
+use Rattle.asn1_types.specs.Limits.{most_octets, most_levels}
 use Rattle.operation_notation.specs.Tree.{TypeTree, type_tree, PlainTree, boolean, null, integer, enumerated, octets, bits, object_id, text, sequence_of, set_of, sequence, set, choice, named, PartTrees, no_parts, part}
 use Rattle.operation_notation.specs.declared.module.TagText.{TagText}
 use Rattle.operation_notation.specs.declared.module.RangeText.{RangeText}
@@ -71,7 +72,7 @@ range_row (Some r) = rows.Integer r.low r.high
 
 -- the most octets, where there is such a number
 abbrev pub most : ℤ → Option ℕ
-most (pos n) = if nat_lt n 4294967296 then Some n else None
+most (pos n) = if nat_le n most_32 then Some n else None
 most (negsuc n) = None
 
 abbrev pub size_of : Option RangeText → Option ℕ
@@ -122,7 +123,7 @@ base_in (suc turns) table n = under (base_in turns table) (slice_get table n)
 
 -- the row under the tags of a row; a row nests at most 32 deep
 unfoldable pub base : List TypeRow → ℕ → Option TypeRow
-base table n = base_in 32 table n
+base table n = base_in most_levels table n
 
 abbrev pub truth_number : Bool → ℤ
 truth_number true = pos 1
@@ -210,9 +211,9 @@ unfoldable pub walk : Ground → ℕ → TypeTree → Walk TypeId
 walk scope zero of = none
 walk scope (suc turns) of = over scope (walk scope turns) of
 
--- A row nests at most 32 deep, and of two types that are walked one inside the other one has a row: so 65 are enough.
+-- A row nests at most 32 deep, and of two types that are walked one inside the other one has a row: so twice as many and one are enough.
 unfoldable pub type_row : Ground → TypeTree → Walk TypeId
-type_row scope of = walk scope 65 of
+type_row scope of = walk scope (2 * most_levels + 1) of
 
 -- what an operation or error carries
 unfoldable pub use_of : Ground → Option UseText → Walk Use

@@ -2,7 +2,7 @@
 
 ghost use Rattle.std.specs.Prelude.{◌≡◌, ◌||◌, not, false, Bool, IfOk, OnOk, IsTrue};
 ghost use Rattle.stub_tables.specs.Codes.{same_code, have_own_codes};
-ghost use Rattle.module_compiler.specs.Seen.{has};
+ghost use Rattle.module_compiler.specs.Kept.{has};
 
 use crate::fault::Halt;
 use indexmap::IndexSet;

@@ -1,9 +1,7 @@
 //! Octets of the module's abstract syntax: an APDU that they spell, or they themselves (X.882 9).
 
 ghost use Rattle.std.specs.Prelude.{◌≡◌, IfOk};
-ghost use Rattle.std.specs.Option.{option_copied, option_map};
 ghost use Rattle.ber_spelling.specs.Octets.{AreOctets};
-ghost use Rattle.stub_tables.specs.Apdus as uses;
 ghost use Rattle.end_wire.specs.Heads.{head_at, apdu_of};
 ghost use Rattle.end_wire.specs.Values as values;
 ghost use Rattle.association_words.specs.Seen.{seen_content};
@@ -16,40 +14,7 @@ use association_words::ValueContent;
 use ber_spelling::are_octets;
 use osi_base::{NoMemory, Octets, Syntax};
 use std::alloc::Global;
-use stub_tables::{Apdu, Code, Returned, Tables, Use};
-
-/// How the argument of the operation with this code is used.
-fn argument_of<'t>(tables: &'t Tables, code: &Code) -> Option<&'t Use>
-    ensures { option_copied result ≡ option_map uses.argument_of
-        (uses.operation_coded tables.now code.now) }
-{
-    match tables.operation(tables.operation_with(code)?) {
-        Some(operation) => Some(&operation.argument),
-        None => None,
-    }
-}
-
-/// How the result of the operation with this code is used.
-fn result_of<'t>(tables: &'t Tables, code: &Code) -> Option<&'t Use>
-    ensures { option_copied result ≡ option_map uses.result_of
-        (uses.operation_coded tables.now code.now) }
-{
-    match tables.operation(tables.operation_with(code)?) {
-        Some(operation) => Some(&operation.result),
-        None => None,
-    }
-}
-
-/// How the parameter of the error with this code is used.
-fn parameter_of<'t>(tables: &'t Tables, code: &Code) -> Option<&'t Use>
-    ensures { option_copied result ≡ option_map uses.parameter_of
-        (uses.error_coded tables.now code.now) }
-{
-    match tables.error(tables.error_with(code)?) {
-        Some(error) => Some(&error.parameter),
-        None => None,
-    }
-}
+use stub_tables::{Apdu, Returned, Tables};
 
 /// The invocation that a head says.
 fn invocation(
@@ -63,7 +28,7 @@ fn invocation(
     let (Some(id), Some(code)) = (head.id, head.code) else {
         return Ok(None);
     };
-    let used = argument_of(tables, &code);
+    let used = tables.argument_of(&code);
     match carried(alloc, syntax, &tables.types, used, &head.rest, head.room)? {
         None => Ok(None),
         Some(argument) => Ok(Some(Apdu::Invoke {
@@ -97,7 +62,7 @@ fn result(
     let Some(code) = code else {
         return Ok(Some(Apdu::Result { id, returned: None }));
     };
-    let used = result_of(tables, &code);
+    let used = tables.result_of(&code);
     match needed(alloc, syntax, &tables.types, used, &rest, room)? {
         None => Ok(None),
         Some(value) => Ok(Some(Apdu::Result {
@@ -119,7 +84,7 @@ fn error(
     let (Some(id), Some(code)) = (head.id, head.code) else {
         return Ok(None);
     };
-    let used = parameter_of(tables, &code);
+    let used = tables.parameter_of(&code);
     match carried(alloc, syntax, &tables.types, used, &head.rest, head.room)? {
         None => Ok(None),
         Some(parameter) => Ok(Some(Apdu::Error {

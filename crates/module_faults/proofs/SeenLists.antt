@@ -7,7 +7,7 @@ use Rattle.indexmap.specs.IndexSet.{insert_key}
 use denote.Ref.{Bor}
 use Rattle.operation_notation.specs.declared.module.CodeText.{CodeText}
 use Rattle.std.specs.Prelude.{ℤ, Option, None, Some}
-use Rattle.module_faults.specs.Seen.{has_list, with_list, Codes, has_by, has_code, with_by, with_code}
+use Rattle.module_faults.specs.Met.{has_list, with_list, Codes, has_by, has_code, with_by, with_code}
 
 abbrev pub codes_with : List ℤ → List (List ℕ) → Codes
 codes_with locals globals = record { locals = locals; globals = globals }

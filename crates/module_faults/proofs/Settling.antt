@@ -11,7 +11,7 @@ use Rattle.operation_notation.specs.declared.module.UseText.{UseText}
 use Rattle.module_faults.specs.declared.kind.TableKind.TheVariants as kinds
 use Rattle.module_faults.specs.declared.facts.Facts.{Facts as FactsGiven}
 use Rattle.module_faults.specs.declared.least.Found.{Found}
-use Rattle.module_faults.specs.declared.survey.Standing.{Standing}
+use Rattle.module_faults.specs.declared.reach_search.Standing.{Standing}
 use Rattle.module_faults.specs.declared.tags.Tag.{Tag}
 use Rattle.module_faults.specs.Least.{at_name, if_so}
 use Rattle.module_faults.specs.Names.{type_at, type_place}

@@ -2,9 +2,9 @@
 use Rattle.std.proofs.Common.{◌≡◌, ℕ, List, ◌++◌, Option, None, subst, ap, ◌∙◌}
 use Rattle.operation_notation.specs.declared.module.Assignment.{Assignment}
 use Rattle.module_faults.specs.declared.least.Found.{Found}
-use Rattle.module_faults.specs.declared.survey.Standing.{Standing}
+use Rattle.module_faults.specs.declared.reach_search.Standing.{Standing}
 use Rattle.module_faults.specs.Least.{least_from}
-use Rattle.module_faults.specs.Seen.{no_codes}
+use Rattle.module_faults.specs.Met.{no_codes}
 use Rattle.module_faults.specs.Locals.{bodies_faults, double_names, double_codes}
 use Rattle.module_faults.specs.Recursion.{bodies_uses}
 use Rattle.module_faults.specs.Standings.{says, AreShown}

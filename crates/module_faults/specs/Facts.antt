@@ -1,9 +1,10 @@
 -- What types are as a whole: how deep their rows nest, with which tags their values begin, and which defaults they take.
-use Rattle.std.specs.Prelude.{ℕ, zero, suc, ◌+◌, ℤ, pos, negsuc, nat_eq, nat_lt, Bool, true, false, not, ◌&&◌, ◌||◌, max, List, [], ◌∷◌, ◌++◌, length, Option, None, Some, is_some, if◌then◌else◌}
+use Rattle.std.specs.Prelude.{ℕ, zero, suc, ◌+◌, ℤ, pos, negsuc, nat_eq, nat_lt, Bool, true, false, not, ◌&&◌, ◌||◌, max, List, [], ◌∷◌, ◌++◌, length, Option, None, Some, is_some, if◌then◌else◌, nat_le}
 use Rattle.std.specs.List.{list_any}
 use Rattle.std.specs.Ordering.{int_eq}
 use Rattle.std.specs.Prelude.{int_lt}
 use Rattle.std.specs.Str.{bytes_eq}
+use Rattle.asn1_types.specs.Limits.{most_levels}
 use Rattle.notation_tokens.specs.declared.token.Located.{Located}
 use Rattle.operation_notation.specs.Tree.{TypeTree, type_tree, PlainTree, boolean, null, integer, enumerated, octets, bits, object_id, text, sequence_of, set_of, sequence, set, choice, named, PartTrees, no_parts, part}
 use Rattle.operation_notation.specs.declared.module.Assignment.{Assignment}
@@ -20,25 +21,25 @@ use Rattle.module_faults.specs.Least.{fault, at_name, if_so}
 use Rattle.module_faults.specs.Names.{type_at, type_place}
 
 -- what a type is under its names and tags, as far as a default needs it; nothing is known of one whose name is unknown or reaches itself
-pub data Base : Type 0 where
-  truth : Base
-  numbers : ℤ → ℤ → Base
-  items : List ItemText → Base
-  other : Base
-  unknown : Base
+pub data DefaultKind : Type 0 where
+  truth : DefaultKind
+  numbers : ℤ → ℤ → DefaultKind
+  items : List ItemText → DefaultKind
+  other : DefaultKind
+  unknown : DefaultKind
 
 pub record Facts : Type 0 where
   pub nesting : ℕ
   pub tags : List Tag
-  pub base : Base
+  pub base : DefaultKind
 
--- ---- nesting: how deep a row nests, or 33 where that is more than 32
+-- ---- nesting: how deep a row nests, or one more than the levels that a row may have
 
 abbrev pub deeper : ℕ → ℕ
-deeper n = if nat_lt n 33 then n + 1 else n
+deeper n = if nat_le n most_levels then n + 1 else n
 
 abbrev pub is_too_deep : ℕ → Bool
-is_too_deep n = nat_lt 32 n
+is_too_deep n = nat_lt most_levels n
 
 -- ---- tags: those with which a value may begin, each once
 
@@ -69,14 +70,14 @@ tags_behind runs optional dflt tags = if runs && (not optional && not (is_some d
 abbrev pub has_item : List ItemText → List ℕ → Bool
 has_item all name = list_any (λ (item : ItemText). bytes_eq item.name.text name) all
 
-abbrev pub takes : Base → DfltValue → Bool
+abbrev pub takes : DefaultKind → DfltValue → Bool
 takes truth (values.Truth b) = true
 takes (numbers low high) (values.Number n) = not (int_lt n low) && not (int_lt high n)
 takes (items all) (values.Item name) = has_item all name
 takes unknown value = true
 takes base value = false
 
-abbrev pub default_faults : Base → Option DfltText → List Found
+abbrev pub default_faults : DefaultKind → Option DfltText → List Found
 default_faults base None = []
 default_faults base (Some dflt) = if_so (not (takes base dflt.value)) (fault dflt.line dflt.column kinds.BadDefault)
 
@@ -86,10 +87,10 @@ abbrev pub nothing : Facts
 nothing = record { nesting = 0; tags = []; base = unknown }
 
 -- a type whose values begin with one universal tag
-abbrev pub simple : ℕ → ℕ → Base → Facts
+abbrev pub simple : ℕ → ℕ → DefaultKind → Facts
 simple number nesting base = record { nesting = nesting; tags = record { class = 0; number = number } ∷ []; base = base }
 
-abbrev pub range_base : Option RangeText → Base
+abbrev pub range_base : Option RangeText → DefaultKind
 range_base None = numbers (negsuc 9223372036854775807) (pos 9223372036854775807)
 range_base (Some r) = numbers r.low r.high
 
@@ -134,7 +135,7 @@ abbrev pub facts_over : (List ℕ → Facts) → (TypeTree → Facts) → TypeTr
 facts_over env inner (type_tree line column tag plain) = tagged tag (plain_facts env inner plain)
 
 unfoldable pub type_facts : (List ℕ → Facts) → ℕ → TypeTree → Facts
-type_facts env zero of = simple 0 33 other
+type_facts env zero of = simple 0 (most_levels + 1) other
 type_facts env (suc levels) of = facts_over env (type_facts env levels) of
 
 -- ---- what they show

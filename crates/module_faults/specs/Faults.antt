@@ -9,7 +9,7 @@ use Rattle.operation_notation.specs.declared.module.UseText.{UseText}
 use Rattle.module_faults.specs.declared.kind.TableKind.TheVariants as kinds
 use Rattle.module_faults.specs.declared.least.Found.{Found}
 use Rattle.module_faults.specs.Least.{fault, at_name, if_so, least}
-use Rattle.module_faults.specs.Seen.{no_codes}
+use Rattle.module_faults.specs.Met.{no_codes}
 use Rattle.module_faults.specs.Locals.{bodies_faults, double_names, double_codes}
 use Rattle.module_faults.specs.Recursion.{SaysRecursion}
 use Rattle.module_faults.specs.Facts.{Facts, is_too_deep, type_facts, type_shows, env_of}

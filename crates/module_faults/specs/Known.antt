@@ -1,16 +1,16 @@
 -- What is known of the types of a module, as the code has it.
 use Rattle.std.specs.Prelude.{◌≡◌, ℕ, ◌≤◌, Bool, true, false, ◌||◌, List, Option, None, Some, slice_get, if◌then◌else◌}
 use Rattle.operation_notation.specs.declared.module.Assignment.{Assignment}
-use Rattle.module_faults.specs.declared.facts.Base.{Base as BaseGiven}
-use Rattle.module_faults.specs.declared.facts.Base.TheVariants as given
+use Rattle.module_faults.specs.declared.facts.DefaultKind.{DefaultKind as DefaultKindGiven}
+use Rattle.module_faults.specs.declared.facts.DefaultKind.TheVariants as given
 use Rattle.module_faults.specs.declared.facts.Facts.{Facts as FactsGiven}
 use Rattle.module_faults.specs.declared.facts.Facing.{Facing}
-use Rattle.module_faults.specs.declared.survey.Standing.{Standing}
+use Rattle.module_faults.specs.declared.reach_search.Standing.{Standing}
 use Rattle.module_faults.specs.Names.{type_at, type_place}
 use Rattle.module_faults.specs.Standings.{says}
-use Rattle.module_faults.specs.Facts.{Base, truth, numbers, items, other, unknown, Facts, nothing, facts_by, name_facts}
+use Rattle.module_faults.specs.Facts.{DefaultKind, truth, numbers, items, other, unknown, Facts, nothing, facts_by, name_facts}
 
-abbrev pub base_of : BaseGiven → Base
+abbrev pub base_of : DefaultKindGiven → DefaultKind
 base_of given.Boolean = truth
 base_of (given.Integer low high) = numbers low high
 base_of (given.Enumerated all) = items all.now

@@ -2,7 +2,7 @@ pub mod Places
 pub mod Least
 pub mod Names
 pub mod Printed
-pub mod Seen
+pub mod Met
 pub mod Locals
 pub mod Recursion
 pub mod Standings

@@ -17,7 +17,7 @@ use Rattle.module_faults.specs.declared.least.Found.{Found}
 use Rattle.module_faults.specs.Least.{fault, at_name, if_so}
 use Rattle.module_faults.specs.Names.{find, assigned, type_place}
 use Rattle.module_faults.specs.Places.{is_bad_range, is_bad_size, is_bad_tag}
-use Rattle.module_faults.specs.Seen.{has_list, with_list, has_number, with_number, Codes, has_code, with_code}
+use Rattle.module_faults.specs.Met.{has_list, with_list, has_number, with_number, Codes, has_code, with_code}
 
 -- ---- a type by itself
 

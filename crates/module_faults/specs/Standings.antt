@@ -1,7 +1,7 @@
 -- How assignments stand among those that reach them and that they reach, as far as it is checked.
 use Rattle.std.specs.Prelude.{◌≡◌, ℕ, ◌<◌, nat_eq, nat_lt, Bool, true, false, not, ◌&&◌, ◌||◌, List, length, Option, None, Some, slice_get}
 use Rattle.std.specs.List.{list_all}
-use Rattle.module_faults.specs.declared.survey.Standing.{Standing}
+use Rattle.module_faults.specs.declared.reach_search.Standing.{Standing}
 use Rattle.module_faults.specs.Recursion.{list_at}
 
 abbrev pub flag : Option Standing → Bool

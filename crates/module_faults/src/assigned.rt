@@ -4,14 +4,14 @@
 ghost use Rattle.std.specs.Prelude.{◌≡◌, ◌+◌, [], OnOk};
 ghost use Rattle.std.specs.Option.{option_copied};
 ghost use Rattle.module_faults.specs.Least.{least_from};
-ghost use Rattle.module_faults.specs.Seen.{no_codes};
+ghost use Rattle.module_faults.specs.Met.{no_codes};
 ghost use Rattle.module_faults.specs.Locals.{kind_at, no_error, no_operation, names_faults, contradiction, no_code, operation_faults, body_faults, bodies_faults, is_at, double_names, own_code, double_codes};
 
 use crate::kind::TableKind;
 use crate::least::Least;
 use crate::locals::{MOST_LEVELS, of_type, of_use};
 use crate::names::Names;
-use crate::names_seen::SeenCodes;
+use crate::seen_names::SeenCodes;
 use notation_tokens::Located;
 use operation_notation::{Assignment, Body, CodeText, OpText, UseText};
 use osi_base::NoMemory;

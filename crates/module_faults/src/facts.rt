@@ -13,8 +13,8 @@ use crate::kind::TableKind;
 use crate::least::Least;
 use crate::names::Names;
 use crate::places::is_same_name;
+use crate::reach_search::Standing;
 use crate::recursion::says;
-use crate::survey::Standing;
 use crate::tags::{Tag, add_tags, clashes, listed};
 use indexmap::IndexSet;
 use operation_notation::{
@@ -25,7 +25,7 @@ use std::alloc::Global;
 
 /// What a type is under its names and tags, as far as a default needs it.
 #[derive(Clone, Copy)]
-pub(crate) enum Base<'m> {
+pub(crate) enum DefaultKind<'m> {
     Boolean,
     Integer { low: i64, high: i64 },
     Enumerated(&'m [ItemText]),
@@ -39,7 +39,7 @@ pub(crate) enum Base<'m> {
 pub(crate) struct Facts<'m> {
     pub nesting: u32,
     pub tags: Vec<Tag>,
-    pub base: Base<'m>,
+    pub base: DefaultKind<'m>,
 }
 
 /// The facts of a type that nothing is known of.
@@ -49,7 +49,7 @@ fn nothing<'m>(alloc: Global) -> Facts<'m>
     Facts {
         nesting: 0,
         tags: Vec::new(alloc),
-        base: Base::Unknown,
+        base: DefaultKind::Unknown,
     }
 }
 
@@ -58,7 +58,7 @@ fn simple<'m>(
     alloc: Global,
     number: u32,
     nesting: u32,
-    base: Base<'m>,
+    base: DefaultKind<'m>,
 ) -> Result<Facts<'m>, NoMemory>
     ensures { IfOk result (λ facts. facts_of facts ≡ simple number nesting
         (base_of base.entry)) }
@@ -76,7 +76,7 @@ fn simple<'m>(
 fn deeper(nesting: u32) -> u32
     ensures { result ≡ deeper nesting }
 {
-    if nesting < 33 { nesting + 1 } else { nesting }
+    if nesting <= 32 { nesting + 1 } else { nesting }
 }
 
 /// The universal tag of a kind of text.
@@ -93,15 +93,15 @@ fn text_tag(kind: u8) -> u32
 }
 
 /// The numbers of an INTEGER.
-fn range_base<'m>(range: &Option<RangeText>) -> Base<'m>
+fn range_base<'m>(range: &Option<RangeText>) -> DefaultKind<'m>
     ensures { base_of result ≡ range_base range.now }
 {
     match range {
-        None => Base::Integer {
+        None => DefaultKind::Integer {
             low: i64::MIN,
             high: i64::MAX,
         },
-        Some(range) => Base::Integer {
+        Some(range) => DefaultKind::Integer {
             low: range.low,
             high: range.high,
         },
@@ -123,23 +123,23 @@ fn has_item(items: &[ItemText], name: &Name) -> bool
 }
 
 /// Whether a type takes this default, as far as it is known.
-fn takes(base: Base<'_>, value: &DfltValue) -> bool
+fn takes(base: DefaultKind<'_>, value: &DfltValue) -> bool
     ensures { result ≡ takes (base_of base.entry) value.now }
 {
     match (base, value) {
-        (Base::Boolean, DfltValue::Truth(_)) => true,
-        (Base::Integer { low, high }, DfltValue::Number(number)) => {
+        (DefaultKind::Boolean, DfltValue::Truth(_)) => true,
+        (DefaultKind::Integer { low, high }, DfltValue::Number(number)) => {
             !(*number < low) && !(high < *number)
         }
-        (Base::Enumerated(items), DfltValue::Item(name)) => has_item(items, name),
-        (Base::Unknown, _) => true,
+        (DefaultKind::Enumerated(items), DfltValue::Item(name)) => has_item(items, name),
+        (DefaultKind::Unknown, _) => true,
         _ => false,
     }
 }
 
 /// A default that its type doesn't take.
 #[tactic(auto, unfolding(crate::specs::Least::least_from))]
-fn default_fault(base: Base<'_>, dflt: &Option<DfltText>, least: &mut Least)
+fn default_fault(base: DefaultKind<'_>, dflt: &Option<DfltText>, least: &mut Least)
     ensures { least.new.found ≡ least_from least.old.found
         (default_faults (base_of base.entry) dflt.now) }
 {
@@ -231,7 +231,12 @@ impl<'s, 'm> Facing<'s, 'm> {
             (type_shows (env_by self.now) levels item.now)) }
     {
         let inner = self.of_type(levels, item, least)?;
-        simple(self.alloc, number, deeper(inner.nesting), Base::Other)
+        simple(
+            self.alloc,
+            number,
+            deeper(inner.nesting),
+            DefaultKind::Other,
+        )
     }
 
     /// The parts of a type: their greatest nesting, and the tags that stand before the end.
@@ -284,7 +289,7 @@ impl<'s, 'm> Facing<'s, 'm> {
             (type_shows (env_by self.now) levels) runs [] (trees parts.now))) }
     {
         let (nesting, _) = self.parts(levels, parts, runs, least)?;
-        simple(self.alloc, number, deeper(nesting), Base::Other)
+        simple(self.alloc, number, deeper(nesting), DefaultKind::Other)
     }
 
     #[cycle(facing)]
@@ -304,7 +309,7 @@ impl<'s, 'm> Facing<'s, 'm> {
         Ok(Facts {
             nesting: deeper(nesting),
             tags: listed(self.alloc, &before)?,
-            base: Base::Other,
+            base: DefaultKind::Other,
         })
     }
 
@@ -323,14 +328,19 @@ impl<'s, 'm> Facing<'s, 'm> {
             (type_shows (env_by self.now) levels) (plain_of plain.now))) }
     {
         match plain {
-            PlainText::Boolean => simple(self.alloc, 1, 1, Base::Boolean),
+            PlainText::Boolean => simple(self.alloc, 1, 1, DefaultKind::Boolean),
             PlainText::Integer(range) => simple(self.alloc, 2, 1, range_base(range)),
-            PlainText::Bits => simple(self.alloc, 3, 1, Base::Other),
-            PlainText::Octets(_) => simple(self.alloc, 4, 1, Base::Other),
-            PlainText::Null => simple(self.alloc, 5, 1, Base::Other),
-            PlainText::ObjectId => simple(self.alloc, 6, 1, Base::Other),
-            PlainText::Enumerated(items) => simple(self.alloc, 10, 1, Base::Enumerated(items)),
-            PlainText::Text(kind) => simple(self.alloc, text_tag(*kind), 1, Base::Other),
+            PlainText::Bits => simple(self.alloc, 3, 1, DefaultKind::Other),
+            PlainText::Octets(_) => simple(self.alloc, 4, 1, DefaultKind::Other),
+            PlainText::Null => simple(self.alloc, 5, 1, DefaultKind::Other),
+            PlainText::ObjectId => simple(self.alloc, 6, 1, DefaultKind::Other),
+            PlainText::Enumerated(items) => simple(
+                self.alloc,
+                10,
+                1,
+                DefaultKind::Enumerated(items),
+            ),
+            PlainText::Text(kind) => simple(self.alloc, text_tag(*kind), 1, DefaultKind::Other),
             PlainText::SequenceOf(item) => self.item(levels, item, 16, least),
             PlainText::SetOf(item) => self.item(levels, item, 17, least),
             PlainText::Sequence(parts) => self.constructed(levels, parts, true, 16, least),
@@ -355,7 +365,7 @@ impl<'s, 'm> Facing<'s, 'm> {
             (type_shows (env_by self.now) levels of.now)) }
     {
         if levels == 0 {
-            return simple(self.alloc, 0, 33, Base::Other);
+            return simple(self.alloc, 0, 33, DefaultKind::Other);
         }
         let inner = self.of_plain(levels - 1, &of.plain, least)?;
         tagged(self.alloc, &of.tag, inner)

@@ -14,7 +14,7 @@ use Rattle.notation_tokens.specs.declared.lexer.Piece.{Piece}
 use Rattle.notation_tokens.specs.declared.lexer.Piece.TheVariants.{Passed, Cut, Bad}
 use Rattle.notation_tokens.specs.declared.token.Token.{Token}
 use Rattle.notation_tokens.specs.Forms.{is_blank, goes_on_well, is_word, are_digits, is_number, is_sign, signs, has_form}
-use Rattle.notation_tokens.specs.Lexing.{behind_octet, most_octets, behind_octets, first_place, starts_alphanumeric, goes_on_length, word_length, digits_length, number_length, behind_hyphen, sign_length, single_sign_length, single_signs, starts, piece_of, cut, cut_after, lexed_of}
+use Rattle.notation_tokens.specs.Lexing.{behind_octet, most_module_octets, behind_octets, first_place, starts_alphanumeric, goes_on_length, word_length, digits_length, number_length, behind_hyphen, sign_length, single_sign_length, single_signs, starts, piece_of, cut, cut_after, lexed_of}
 use Rattle.notation_tokens.specs.Texts.{Answers, tokens_of, unless_stopped, too_long}
 use Rattle.notation_tokens.specs.declared.faults.NotationFault.{NotationFault}
 use Rattle.notation_tokens.specs.declared.faults.NotationKind.{NotationKind}
@@ -250,7 +250,7 @@ unstopped_tokens (Some kind) p ts l e = absurd cc
 
 tokens_are : (text : List ℕ) (ts : List Token) → tokens_of text ≡ Ok ts → AreTokens text 0 ts
 unfolding tokens_of
-tokens_are text ts e = go (nat_lt most_octets (length text)) e
+tokens_are text ts e = go (nat_lt most_module_octets (length text)) e
   where
     go : (b : Bool) → (if b then too_long else unless_stopped (lexed_of text).stop (lexed_of text).place (lexed_of text).tokens) ≡ Ok ts → AreTokens text 0 ts
     go true h = absurd cc

@@ -11,7 +11,7 @@ use Rattle.notation_tokens.specs.declared.token.Token.{Token}
 use Rattle.notation_tokens.specs.declared.token.TokenKind.{TokenKind}
 use Rattle.notation_tokens.specs.declared.token.TokenKind.TheVariants.{Word, Number, Sign}
 use Rattle.notation_tokens.specs.Forms.{is_blank, has_form}
-use Rattle.notation_tokens.specs.Lexing.{most_octets, behind_octets, first_place, word_length, number_length, sign_length, starts, piece_of, cut, cut_after, lexed_of}
+use Rattle.notation_tokens.specs.Lexing.{most_module_octets, behind_octets, first_place, word_length, number_length, sign_length, starts, piece_of, cut, cut_after, lexed_of}
 use Rattle.notation_tokens.specs.Texts.{Answers, tokens_of, unless_stopped, too_long, fault_at}
 use Rattle.notation_tokens.specs.declared.faults.NotationFault.{NotationFault}
 use Rattle.notation_tokens.specs.declared.faults.NotationFault.TheVariants as faults
@@ -141,7 +141,7 @@ same_place : (p : Place) (line column : ℕ) → p.line ≡ line → p.column �
 same_place p line column l c = λ i. record { line = l i; column = c i }
 
 module _ (text : List ℕ) (line column : ℕ) (kind : NotationKind) where
-  stops_of : length text ≤ most_octets → (j : NotationKind) → (lexed_of text).stop ≡ Some j → refused (fault_at (lexed_of text).place j) ≡ refused (faults.At line column kind) → Stops text line column kind
+  stops_of : length text ≤ most_module_octets → (j : NotationKind) → (lexed_of text).stop ≡ Some j → refused (fault_at (lexed_of text).place j) ≡ refused (faults.At line column kind) → Stops text line column kind
   unfolding lexed_of
   stops_of fits j is e =
       let x = cut_stopped text j (length text) 65536 0 first_place text 0 (omega arith) (record { left = refl; here = refl }) (omega arith) (nothing_passed text 0) is in
@@ -158,18 +158,18 @@ module _ (text : List ℕ) (line column : ℕ) (kind : NotationKind) where
         what = subst (λ (z : NotationKind). StopsFor z 65536 (length (lexed_of text).tokens) (drop x.at text)) kind_same x.what;
       }
 
-  stop_is : length text ≤ most_octets → (o : Option NotationKind) → (lexed_of text).stop ≡ o → unless_stopped o (lexed_of text).place (lexed_of text).tokens ≡ refused (faults.At line column kind) → Stops text line column kind
+  stop_is : length text ≤ most_module_octets → (o : Option NotationKind) → (lexed_of text).stop ≡ o → unless_stopped o (lexed_of text).place (lexed_of text).tokens ≡ refused (faults.At line column kind) → Stops text line column kind
   stop_is fits None is e = absurd cc
   stop_is fits (Some j) is e = stops_of fits j is e
 
-  long_is : most_octets < length text → refused (faults.At 1 1 TextTooLong) ≡ refused (faults.At line column kind) → IsLong text line column kind
+  long_is : most_module_octets < length text → refused (faults.At 1 1 TextTooLong) ≡ refused (faults.At line column kind) → IsLong text line column kind
   long_is long e = record { long = long; at_line = cc; at_column = cc; is = cc }
 
   pub cutting_fault : tokens_of text ≡ refused (faults.At line column kind) → IsCuttingFault text (faults.At line column kind)
   unfolding tokens_of
-  cutting_fault e = go (nat_lt most_octets (length text)) refl e
+  cutting_fault e = go (nat_lt most_module_octets (length text)) refl e
     where
-      go : (b : Bool) → nat_lt most_octets (length text) ≡ b → (if b then too_long else unless_stopped (lexed_of text).stop (lexed_of text).place (lexed_of text).tokens) ≡ refused (faults.At line column kind) → IsCuttingFault text (faults.At line column kind)
+      go : (b : Bool) → nat_lt most_module_octets (length text) ≡ b → (if b then too_long else unless_stopped (lexed_of text).stop (lexed_of text).place (lexed_of text).tokens) ≡ refused (faults.At line column kind) → IsCuttingFault text (faults.At line column kind)
       go true is h = inl (long_is (ltb-true _ _ is) h)
       go false is h = inr (stop_is (ltb-false _ _ is) (lexed_of text).stop refl h)
 

@@ -114,9 +114,9 @@ cut turns most from place [] = record { tokens = []; stop = None; place = place 
 cut zero most from place (c ∷ cs) = stopped BadCharacter place
 cut (suc turns) most from place (c ∷ cs) = cut_after (cut turns) most from place (c ∷ cs) (piece_of (c ∷ cs))
 
--- the greatest length of a text, and the greatest number of its tokens
-abbrev pub most_octets : ℕ
-most_octets = 1048576
+-- the greatest length of a module's text, and the greatest number of its tokens
+abbrev pub most_module_octets : ℕ
+most_module_octets = 1048576
 
 abbrev pub most_tokens : ℕ
 most_tokens = 65536

@@ -1,7 +1,7 @@
 -- Why a text isn't cut to its end, by what stands where cutting stops. Nothing here says how a text is cut.
 use Rattle.std.specs.Prelude.{codes, ◌≡◌, ◌<◌, ◌≤◌, ◌⊎◌, ℕ, Bool, true, false, List, [], ◌∷◌, length, take, drop, slice_range}
 use Rattle.notation_tokens.specs.Forms.{has_form, is_blank}
-use Rattle.notation_tokens.specs.Lexing.{behind_octets, first_place, starts, most_octets, most_tokens}
+use Rattle.notation_tokens.specs.Lexing.{behind_octets, first_place, starts, most_module_octets, most_tokens}
 use Rattle.notation_tokens.specs.Tokens.{IsToken, IsGap}
 use Rattle.notation_tokens.specs.declared.token.Token.{Token}
 use Rattle.notation_tokens.specs.declared.token.TokenKind.{TokenKind}
@@ -36,7 +36,7 @@ StopsFor kind most count rest =
 
 -- Up to the place tokens lie in order, with white space and comments between them, and there stands what can't go on.
 pub record Stops (text : List ℕ) (line column : ℕ) (kind : NotationKind) : Type 0 where
-  pub fits : length text ≤ most_octets
+  pub fits : length text ≤ most_module_octets
   pub tokens : List Token
   pub at : ℕ
   pub within : at < length text
@@ -46,7 +46,7 @@ pub record Stops (text : List ℕ) (line column : ℕ) (kind : NotationKind) : T
 
 -- more octets than a text may have
 pub record IsLong (text : List ℕ) (line column : ℕ) (kind : NotationKind) : Type 0 where
-  pub long : most_octets < length text
+  pub long : most_module_octets < length text
   pub at_line : line ≡ 1
   pub at_column : column ≡ 1
   pub is : kind ≡ TextTooLong

@@ -1,6 +1,6 @@
 -- What a text is as tokens, or its first fault.
 use Rattle.std.specs.Prelude.{◌≡◌, List, length, nat_lt, Option, Some, None, Result, Ok, Err, ℕ, if◌then◌else◌}
-use Rattle.notation_tokens.specs.Lexing.{most_octets, lexed_of}
+use Rattle.notation_tokens.specs.Lexing.{most_module_octets, lexed_of}
 use Rattle.notation_tokens.specs.declared.token.Place.{Place}
 use Rattle.notation_tokens.specs.declared.faults.NotationFault.{NotationFault}
 use Rattle.notation_tokens.specs.declared.faults.NotationFault.TheVariants as faults
@@ -28,4 +28,4 @@ too_long = Err (faults.At 1 1 TextTooLong)
 
 -- the tokens of a text, or its first fault
 unfoldable pub tokens_of : List ℕ → Result (List Token) NotationFault
-tokens_of text = if nat_lt most_octets (length text) then too_long else unless_stopped (lexed_of text).stop (lexed_of text).place (lexed_of text).tokens
+tokens_of text = if nat_lt most_module_octets (length text) then too_long else unless_stopped (lexed_of text).stop (lexed_of text).place (lexed_of text).tokens

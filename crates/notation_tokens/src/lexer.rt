@@ -2,7 +2,7 @@
 
 ghost use Rattle.std.specs.Prelude.{◌≡◌, ◌≤◌, ◌<◌, ◌+◌, ◌^◌, length, IfOk};
 ghost use Rattle.notation_tokens.specs.Forms.{is_blank};
-ghost use Rattle.notation_tokens.specs.Lexing.{behind_octets, goes_on_length, word_length, digits_length, number_length, sign_length, single_sign_length, comment_length, piece_of, fits_in, lexed_of, most_octets};
+ghost use Rattle.notation_tokens.specs.Lexing.{behind_octets, goes_on_length, word_length, digits_length, number_length, sign_length, single_sign_length, comment_length, piece_of, fits_in, lexed_of, most_module_octets};
 
 use crate::faults::NotationKind;
 use crate::token::{Place, Token, TokenKind, Tokens};
@@ -10,7 +10,7 @@ use osi_base::{ListOf, NoMemory};
 use std::alloc::Global;
 
 /// The greatest number of octets of a text.
-pub const MOST_OCTETS: usize = 1_048_576;
+pub const MOST_MODULE_OCTETS: usize = 1_048_576;
 
 /// The greatest number of tokens of a text.
 const MOST_TOKENS: usize = 65_536;
@@ -202,7 +202,7 @@ fn is_white(octet: u8) -> bool
 ///
 /// Where an allocation is refused.
 pub fn cut_text(alloc: Global, text: &[u8]) -> Result<Lexed, NoMemory>
-    requires { length text.now ≤ most_octets }
+    requires { length text.now ≤ most_module_octets }
     ensures { IfOk result (λ lexed. lexed ≡ lexed_of text.now) }
 {
     let mut tokens = ListOf::new(alloc);

@@ -6,7 +6,7 @@ ghost use Rattle.notation_tokens.specs.Tokens.{AreTokens};
 ghost use Rattle.notation_tokens.specs.Stops.{IsCuttingFault};
 
 use crate::faults::{NotationFault, NotationKind};
-use crate::lexer::{MOST_OCTETS, cut_text};
+use crate::lexer::{MOST_MODULE_OCTETS, cut_text};
 use crate::token::{Place, Tokens};
 use std::alloc::Global;
 
@@ -52,7 +52,7 @@ pub fn lex(alloc: Global, text: &[u8]) -> Result<Tokens, NotationFault>
 fn cut_whole(alloc: Global, text: &[u8]) -> Result<Tokens, NotationFault>
     ensures { Answers result (tokens_of text.now) }
 {
-    if text.len() > MOST_OCTETS {
+    if text.len() > MOST_MODULE_OCTETS {
         return Err(TOO_LONG);
     }
     let lexed = cut_text(alloc, text)?;

@@ -9,6 +9,6 @@ mod token;
 pub mod words;
 
 pub use faults::{NotationFault, NotationKind};
-pub use lexer::{Lexed, MOST_OCTETS, cut_text};
+pub use lexer::{Lexed, MOST_MODULE_OCTETS, cut_text};
 pub use lexing::{TOO_LONG, fault, lex};
 pub use token::{Located, Place, Token, TokenKind, Tokens};

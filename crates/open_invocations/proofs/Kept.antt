@@ -20,7 +20,7 @@ use Rattle.end_rules.specs.State as ends
 use Rattle.end_rules.specs.State.{Calls, OpenCall, opened_with}
 use Rattle.end_rules.specs.Hearing as rules
 use Rattle.end_wire.specs.Bare.{bare_base}
-use Rattle.rose_roles.specs.declared.called.Called.{Called}
+use Rattle.rose_roles.specs.declared.invoked_with.InvokedWith.{InvokedWith}
 use Rattle.rose_roles.specs.declared.taken.RoseTaken as takens
 use Rattle.rose_roles.specs.declared.taken.RoseTaken.TheVariants as taken
 use Rattle.rose_roles.specs.Calls.{Kept, Invoking, Performing, called, side, key_of, operation_or_none, context_or_none, open_call, AreOpen, opens_in, calls_of}
@@ -33,13 +33,13 @@ use Rattle.open_invocations.specs.Invocations.{AreKept, is_link, is_link_back, c
 
 -- ---- a key is open exactly where its invocation is
 
-pub some_matches : (o : Option OpenCall) (c : Option Called) → Matches o c → is_some c ≡ is_some o
+pub some_matches : (o : Option OpenCall) (c : Option InvokedWith) → Matches o c → is_some c ≡ is_some o
 some_matches None None m = refl
 some_matches (Some o) (Some c) m = refl
 some_matches None (Some c) m = absurd m
 some_matches (Some o) None m = absurd m
 
-pub operation_matches : (o : Option OpenCall) (c : Option Called) → Matches o c → option_map (λ (x : Called). x.operation) c ≡ operation_in o
+pub operation_matches : (o : Option OpenCall) (c : Option InvokedWith) → Matches o c → option_map (λ (x : InvokedWith). x.operation) c ≡ operation_in o
 operation_matches None None m = refl
 operation_matches (Some o) (Some c) m = ap Some (sym m)
 operation_matches None (Some c) m = absurd m
@@ -60,7 +60,7 @@ link_is (Some id) es i p h e =
     h.each id ∙ some_matches (opened_with false id (opens_in es i p)) (called id p) (matching false id es i p h) ∙ e
 
 -- the operation that is called is that of the open invocation
-pub operation_called : (own : Bool) (id : ℤ) (es : List Entry) (i : Invoking) (p : Kept) → AreKept es i p → option_map (λ (x : Called). x.operation) (called id (side own i.kept p)) ≡ operation_in (opened_with own id (opens_in es i.kept p))
+pub operation_called : (own : Bool) (id : ℤ) (es : List Entry) (i : Invoking) (p : Kept) → AreKept es i p → option_map (λ (x : InvokedWith). x.operation) (called id (side own i.kept p)) ≡ operation_in (opened_with own id (opens_in es i.kept p))
 operation_called true id es i p h = operation_matches (opened_with true id (opens_in es i.kept p)) (called id i.kept) (matching true id es i.kept p h.own)
 operation_called false id es i p h = operation_matches (opened_with false id (opens_in es i.kept p)) (called id p) (matching false id es i.kept p h.peer)
 
@@ -80,15 +80,15 @@ module _ (i p : Kept) (b : Bool) (id : ℤ) where
   key_test : (e : Entry) → ends.is_key b id (open_call i p e) ≡ same_key e.0 (key_of b id)
   key_test e = ap (λ (x : Bool). x && int_eq e.0.id id) (whose b e.0.own)
 
-  abbrev CalledSo : Option OpenCall → Option Called → Type 0
+  abbrev CalledSo : Option OpenCall → Option InvokedWith → Type 0
   CalledSo o (Some c) = called_in o ≡ Some c
   CalledSo o None = Unit {0}
 
-  first_called : (e : Entry) (c : Option Called) → called e.0.id (side e.0.own i p) ≡ c → CalledSo (Some (open_call i p e)) c
+  first_called : (e : Entry) (c : Option InvokedWith) → called e.0.id (side e.0.own i p) ≡ c → CalledSo (Some (open_call i p e)) c
   first_called e None h = tt
-  first_called e (Some c) h = ap (λ (x : Option Called). Some (record { operation = operation_or_none x; context = context_or_none x })) h
+  first_called e (Some c) h = ap (λ (x : Option InvokedWith). Some (record { operation = operation_or_none x; context = context_or_none x })) h
 
-  called_there : (es : List Entry) → is_open (key_of b id) es ≡ true → (c : Option Called) → called id (side b i p) ≡ c → CalledSo (opened_with b id (opens_in es i p)) c
+  called_there : (es : List Entry) → is_open (key_of b id) es ≡ true → (c : Option InvokedWith) → called id (side b i p) ≡ c → CalledSo (opened_with b id (opens_in es i p)) c
   called_there [] h c is = absurd cc
   called_there (e ∷ es) h c is =
       bool_cases (same_key e.0 (key_of b id))
@@ -106,7 +106,7 @@ called_so own id es i p h = by own (opened_with own id (opens_in es i.kept p)) (
     each true = h.own.each id
     each false = h.peer.each id
 
-    by : (b : Bool) (o : Option OpenCall) (c : Option Called) → opened_with b id (opens_in es i.kept p) ≡ o → called id (side b i.kept p) ≡ c → is_open (key_of b id) es ≡ is_some (called id (side b i.kept p)) → c ≡ called_in o
+    by : (b : Bool) (o : Option OpenCall) (c : Option InvokedWith) → opened_with b id (opens_in es i.kept p) ≡ o → called id (side b i.kept p) ≡ c → is_open (key_of b id) es ≡ is_some (called id (side b i.kept p)) → c ≡ called_in o
     by b o (Some c) f g e = sym (subst (λ (x : Option OpenCall). CalledSo i.kept p b id x (Some c)) f (called_there i.kept p b id es (e ∙ ap is_some g) (Some c) g))
     by b None None f g e = refl
     by b (Some o) None f g e = let n = not_found i.kept p b id es (e ∙ ap is_some g) in let x : Some o ≡ None = sym f ∙ n in absurd cc

@@ -1,13 +1,14 @@
 -- What an end keeps of open invocations, and what an APDU that came carries.
 use Rattle.std.specs.Prelude.{◌≡◌, ℕ, ◌<◌, ◌≤◌, ℤ, pos, Bool, true, false, List, Option, Some, None, is_some}
 use Rattle.osi_base.specs.declared.syntax.Syntax.{Syntax}
+use Rattle.osi_base.specs.Limits.{last_invocation}
 use Rattle.stub_tables.specs.declared.tables.Tables.{Tables}
 use Rattle.apdu_spelling.specs.declared.head.ApduHead.{ApduHead}
 use Rattle.linked_ops.specs.Entries.{Entry}
 use Rattle.rose_roles.specs.Calls.{Kept, Invoking, AreOpen, opens_in}
-use Rattle.rose_roles.specs.declared.called.Called.{Called}
+use Rattle.rose_roles.specs.declared.invoked_with.InvokedWith.{InvokedWith}
 use Rattle.rose_roles.specs.Heads.{HeadCarries}
-use Rattle.end_rules.specs.Base.{Carried, last_invocation}
+use Rattle.end_rules.specs.Base.{Carried}
 use Rattle.end_rules.specs.State.{OpenCall, opened_with}
 
 -- The keys of the forest are what each end has open; no own number is open that wasn't given yet.
@@ -28,7 +29,7 @@ is_link_back None opens = true
 is_link_back (Some id) opens = is_some (opened_with true id opens)
 
 -- what an open invocation called
-abbrev pub called_in : Option OpenCall → Option Called
+abbrev pub called_in : Option OpenCall → Option InvokedWith
 called_in None = None
 called_in (Some o) = Some (record { operation = o.operation; context = o.context })
 

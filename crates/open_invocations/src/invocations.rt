@@ -1,9 +1,10 @@
 //! The open invocations of an end and of its peer.
 
 ghost use Rattle.std.specs.Prelude.{◌≡◌, ◌<◌, ◌≤◌, ◌+◌, ◌++◌, ◌∷◌, [], length, pos, true, false, is_some, None, IfOk, OnOk, OnErr};
+ghost use Rattle.osi_base.specs.Limits.{last_invocation};
 ghost use Rattle.rose_roles.specs.Hearing.{Hears};
 ghost use Rattle.end_rules.specs.State.{opened_with, opens_of, close};
-ghost use Rattle.end_rules.specs.Base.{Base, most_open, last_invocation};
+ghost use Rattle.end_rules.specs.Base.{Base, most_open};
 ghost use Rattle.end_rules.specs.Hearing.{opening};
 ghost use Rattle.open_invocations.specs.Invocations.{is_link, is_link_back, called_in, operation_in, SomeCarried};
 
@@ -12,7 +13,7 @@ use crate::open_call::OpenCall;
 use apdu_spelling::{ApduHead, ApduKind};
 use linked_ops::Forest;
 use osi_base::{NoMemory, Syntax};
-use rose_roles::{Called, Invoker, Performer, RoseTaken};
+use rose_roles::{InvokedWith, Invoker, Performer, RoseTaken};
 use std::alloc::Global;
 use std::marker::Model;
 use stub_tables::Tables;
@@ -63,7 +64,7 @@ impl Invocations {
     }
 
     /// What was called by an open invocation of this end (own), or of its peer.
-    pub fn called(&self, own: bool, id: &i64) -> Option<Called>
+    pub fn called(&self, own: bool, id: &i64) -> Option<InvokedWith>
         ensures { result ≡ called_in (opened_with own id.now self.now.opens) }
     {
         called_at(&self.invoker, &self.performer, own, id)
@@ -129,7 +130,7 @@ impl Invocations {
     {
         self.forest.is_forest();
         let _count = self.invoker.open_count();
-        let called = Called { operation, context };
+        let called = InvokedWith { operation, context };
         self.invoker.open(&mut self.forest, called, linked)
     }
 
@@ -162,7 +163,7 @@ impl Invocations {
         &mut self,
         tables: &Tables,
         id: &i64,
-        called: Called,
+        called: InvokedWith,
         linked: Option<i64>,
     ) -> Result<(), NoMemory>
         requires shut { opened_with false id.now self.old.opens ≡ None }

@@ -1,4 +1,5 @@
-//! The open invocations of an end and of its peer.
+//! The open invocations of an end and of its peer, on any context: kept by a forest and the two
+//! sides of remote operations, and told as cut in post order.
 #![tactic(auto)]
 
 mod invocations;

@@ -6,7 +6,7 @@ ghost use Rattle.rose_roles.specs.Calls.{called, side, operation_or_none, contex
 use crate::open_call::OpenCall;
 use linked_ops::Key;
 use osi_base::NoMemory;
-use rose_roles::{Called, Invoker, Performer};
+use rose_roles::{InvokedWith, Invoker, Performer};
 use std::alloc::Global;
 
 /// What is called under an identifier of this end (own), or of its peer.
@@ -15,7 +15,7 @@ pub(crate) fn called_at(
     performer: &Performer,
     own: bool,
     id: &i64,
-) -> Option<Called>
+) -> Option<InvokedWith>
     ensures { result ≡ called id.now (side own invoker.now.kept performer.now.kept) }
 {
     if own {
@@ -26,7 +26,7 @@ pub(crate) fn called_at(
 }
 
 /// The operation that is called; 0 where none is.
-fn operation_in(called: Option<Called>) -> u32
+fn operation_in(called: Option<InvokedWith>) -> u32
     ensures { result ≡ operation_or_none called }
 {
     match called {
@@ -36,7 +36,7 @@ fn operation_in(called: Option<Called>) -> u32
 }
 
 /// The context of what is called; 0 where nothing is.
-fn context_in(called: Option<Called>) -> u32
+fn context_in(called: Option<InvokedWith>) -> u32
     ensures { result ≡ context_or_none called }
 {
     match called {

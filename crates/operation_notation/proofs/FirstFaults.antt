@@ -9,7 +9,7 @@ use Rattle.notation_tokens.specs.Words.{is_unsupported}
 use Rattle.notation_tokens.specs.Forms.{has_form}
 use Rattle.notation_tokens.specs.declared.token.TokenKind.{TokenKind}
 use Rattle.notation_tokens.specs.declared.token.TokenKind.TheVariants.{Word, Number, Sign}
-use Rattle.notation_tokens.specs.Lexing.{most_octets, lexed_of}
+use Rattle.notation_tokens.specs.Lexing.{most_module_octets, lexed_of}
 use Rattle.operation_notation.specs.Reading.{Read, kind_at}
 use Rattle.operation_notation.specs.ReadingModules.{module_at, ended_at, whole_at}
 use Rattle.operation_notation.specs.GrammarTypes.{Extent, narrow, marked, wide, is_empty}
@@ -76,14 +76,14 @@ tokens text = lexemes text (lexed_of text).tokens
 abbrev Unread : List ℕ → Type 0
 Unread text = (m : ModuleText) → ReadsAsModule text m → ⊥
 
-stopped_fault : (text : List ℕ) → length text ≤ most_octets → Unread text → Begins marked (tokens text) → (m : ModuleText) (o : Option NotationKind) → (lexed_of text).stop ≡ o → (l c : ℕ) (k : NotationKind)
+stopped_fault : (text : List ℕ) → length text ≤ most_module_octets → Unread text → Begins marked (tokens text) → (m : ModuleText) (o : Option NotationKind) → (lexed_of text).stop ≡ o → (l c : ℕ) (k : NotationKind)
     → unless_stopped o (lexed_of text).place m ≡ answered (faults.At l c k) → EndFault text l c k
 stopped_fault text fits unread start m None is l c k e = absurd cc
 stopped_fault text fits unread start m (Some kind) is l c k e =
     let q = same_at (lexed_of text).place.line (lexed_of text).place.column kind l c k e in
     record { fits = fits; start = start; unread = unread; at_line = q.line; at_column = q.column; is = sym q.kind ∙ sym (ap (λ (o : Option NotationKind). unwrap_or o UnexpectedToken) is) }
 
-end_fault : (text : List ℕ) → length text ≤ most_octets → Unread text → (kind : NotationKind) → Halts false (Module marked) (tokens text) [] kind → (l c : ℕ) (k : NotationKind)
+end_fault : (text : List ℕ) → length text ≤ most_module_octets → Unread text → (kind : NotationKind) → Halts false (Module marked) (tokens text) [] kind → (l c : ℕ) (k : NotationKind)
     → refused (lexed_of text) [] kind ≡ answered (faults.At l c k) → EndFault text l c k
 end_fault text fits unread kind x l c k e =
     let q = same_at (lexed_of text).place.line (lexed_of text).place.column (unwrap_or (lexed_of text).stop kind) l c k e in
@@ -141,7 +141,7 @@ not_empty text t u front whole =
     let fine = fine_back front (t ∷ u) (subst Fine whole (fine_lexemes text (length text) (lexed_of text).tokens (lexed_spans text))) in
     form_text t.kind t.text fine.0
 
-token_fault : (text : List ℕ) → length text ≤ most_octets → (t : Lexeme) (u : List Lexeme) (kind : NotationKind) → whole_at narrow (tokens text) ≡ Err (fault (t ∷ u) kind) → Halts false (Module marked) (tokens text) (t ∷ u) kind
+token_fault : (text : List ℕ) → length text ≤ most_module_octets → (t : Lexeme) (u : List Lexeme) (kind : NotationKind) → whole_at narrow (tokens text) ≡ Err (fault (t ∷ u) kind) → Halts false (Module marked) (tokens text) (t ∷ u) kind
     → (l c : ℕ) (k : NotationKind) → refused (lexed_of text) (t ∷ u) kind ≡ answered (faults.At l c k) → TokenFault text l c k
 token_fault text fits t u kind stops x l c k e =
     let q = same_at t.line t.column kind l c k e in
@@ -158,17 +158,17 @@ token_fault text fits t u kind stops x l c k e =
       is = subst (λ (j : NotationKind). IsKind x.front t u j) q.kind (kind_of (tokens text) t u kind x.front x.whole stops);
     }
 
-refused_fault : (text : List ℕ) → length text ≤ most_octets → Unread text → (rest : List Lexeme) (kind : NotationKind) → whole_at narrow (tokens text) ≡ Err (fault rest kind) → (l c : ℕ) (k : NotationKind)
+refused_fault : (text : List ℕ) → length text ≤ most_module_octets → Unread text → (rest : List Lexeme) (kind : NotationKind) → whole_at narrow (tokens text) ≡ Err (fault rest kind) → (l c : ℕ) (k : NotationKind)
     → refused (lexed_of text) rest kind ≡ answered (faults.At l c k) → TokenFault text l c k ⊎ EndFault text l c k
 refused_fault text fits unread [] kind stops l c k e = inr (end_fault text fits unread kind (marked_module.halts (tokens text) [] kind stops) l c k e)
 refused_fault text fits unread (t ∷ u) kind stops l c k e = inl (token_fault text fits t u kind stops (marked_module.halts (tokens text) (t ∷ u) kind stops) l c k e)
 
-verdict_fault : (text : List ℕ) → length text ≤ most_octets → Unread text → (r : Read ModuleText) → whole_at narrow (tokens text) ≡ r → (l c : ℕ) (k : NotationKind)
+verdict_fault : (text : List ℕ) → length text ≤ most_module_octets → Unread text → (r : Read ModuleText) → whole_at narrow (tokens text) ≡ r → (l c : ℕ) (k : NotationKind)
     → verdict (lexed_of text) r ≡ answered (faults.At l c k) → TokenFault text l c k ⊎ EndFault text l c k
 verdict_fault text fits unread (Ok x) is l c k e = inr (stopped_fault text fits unread (whole_begins (tokens text) x.0 x.1 is) x.0 (lexed_of text).stop refl l c k e)
 verdict_fault text fits unread (Err d) is l c k e = refused_fault text fits unread d.rest d.kind is l c k e
 
-long_fault : (text : List ℕ) → most_octets < length text → (l c : ℕ) (k : NotationKind) → answered (faults.At 1 1 TextTooLong) ≡ answered (faults.At l c k) → TooLong text l c k
+long_fault : (text : List ℕ) → most_module_octets < length text → (l c : ℕ) (k : NotationKind) → answered (faults.At 1 1 TextTooLong) ≡ answered (faults.At l c k) → TooLong text l c k
 long_fault text long l c k e = let q = same_at 1 1 TextTooLong l c k e in record { long = long; at_line = sym q.line; at_column = sym q.column; is = sym q.kind }
 
 not_read : (text : List ℕ) (m : ModuleText) (l c : ℕ) (k : NotationKind) → module_of text ≡ answered (faults.At l c k) → ReadsAsModule text m → ⊥
@@ -176,9 +176,9 @@ not_read text m l c k e d = let clash : Ok m ≡ answered (faults.At l c k) = sy
 
 pub fault_first : (text : List ℕ) (l c : ℕ) (k : NotationKind) → module_of text ≡ answered (faults.At l c k) → IsFirstFault text (faults.At l c k)
 unfolding module_of
-fault_first text l c k e = go (nat_lt most_octets (length text)) refl e
+fault_first text l c k e = go (nat_lt most_module_octets (length text)) refl e
   where
-    go : (b : Bool) → nat_lt most_octets (length text) ≡ b → (if b then too_long else verdict (lexed_of text) (whole_at narrow (tokens text))) ≡ answered (faults.At l c k) → IsFirstFault text (faults.At l c k)
+    go : (b : Bool) → nat_lt most_module_octets (length text) ≡ b → (if b then too_long else verdict (lexed_of text) (whole_at narrow (tokens text))) ≡ answered (faults.At l c k) → IsFirstFault text (faults.At l c k)
     go true is h = inl (long_fault text (ltb-true _ _ is) l c k h)
     go false is h = inr (verdict_fault text (ltb-false _ _ is) (λ m d. not_read text m l c k e d) (whole_at narrow (tokens text)) refl l c k h)
 

@@ -14,7 +14,7 @@ use Rattle.operation_notation.specs.ReadingTypes.{starts_name}
 use Rattle.operation_notation.specs.ReadingModules.{flag_at, flag_2_at, flag_or_at, passed_flag_at, use_at, maybe_use_at, names_at, named_list_at, priority_at, passed_priority_at, invoke_priority_at, local_at, global_at, code_value_at, code_at, maybe_code_at, signature_at, manner_at, operation_at, error_at, typed_at, opens_at, operation_body_at, error_body_at, body_at, valued_at, assignment_at, assignments_at, class_kind, imported_at, listed_imports_at, maybe_oid_at, imports_at, maybe_imports_at, tagging_at, heading_at, module_at, ended_at, whole_at}
 use Rattle.notation_tokens.specs.Texts.{Answers, unless_stopped, too_long}
 use Rattle.operation_notation.specs.Modules.{ReadsAsModule, module_of, verdict, refused}
-use Rattle.notation_tokens.specs.Lexing.{most_octets, lexed_of}
+use Rattle.notation_tokens.specs.Lexing.{most_module_octets, lexed_of}
 use Rattle.notation_tokens.specs.declared.lexer.Lexed.{Lexed}
 use Rattle.notation_tokens.specs.declared.faults.NotationFault.{NotationFault}
 use Rattle.notation_tokens.specs.declared.faults.NotationKind.{NotationKind}
@@ -536,9 +536,9 @@ verdict_found l (Err d) a e = absurd (no_refusal l d.rest d.kind a e)
 
 pub reads_found : (text : List ℕ) (a : ModuleText) → module_of text ≡ Ok a → ReadsAsModule text a
 unfolding module_of
-reads_found text a e = go (nat_lt most_octets (length text)) refl e
+reads_found text a e = go (nat_lt most_module_octets (length text)) refl e
   where
-    go : (b : Bool) → nat_lt most_octets (length text) ≡ b → (if b then too_long else verdict (lexed_of text) (whole_at narrow (lexemes text (lexed_of text).tokens))) ≡ Ok a → ReadsAsModule text a
+    go : (b : Bool) → nat_lt most_module_octets (length text) ≡ b → (if b then too_long else verdict (lexed_of text) (whole_at narrow (lexemes text (lexed_of text).tokens))) ≡ Ok a → ReadsAsModule text a
     go true is h = absurd cc
     go false is h =
         let p = verdict_found (lexed_of text) (whole_at narrow (lexemes text (lexed_of text).tokens)) a h in
@@ -548,7 +548,7 @@ reads_found text a e = go (nat_lt most_octets (length text)) refl e
 pub reads_only : (text : List ℕ) (a : ModuleText) → ReadsAsModule text a → module_of text ≡ Ok a
 unfolding module_of
 reads_only text a d =
-    let fits : nat_lt most_octets (length text) ≡ false = le-ltb _ _ d.fits in
+    let fits : nat_lt most_module_octets (length text) ≡ false = le-ltb _ _ d.fits in
     let read : (whole_at narrow) (lexemes text (lexed_of text).tokens) ≡ Ok (a, []) = whole_only narrow (lexemes text (lexed_of text).tokens) a d.spelled in
     rw (fits, read, d.ends) refl
 

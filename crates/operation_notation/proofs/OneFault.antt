@@ -2,7 +2,7 @@
 use Rattle.std.proofs.Common.{◌≡◌, ℕ, Bool, true, false, List, [], ◌∷◌, ◌++◌, length, Option, Some, None, Result, Ok, Err, refl, sym, ap, subst, ◌∙◌, append_assoc, arith, inl, inr}
 use Rattle.std.specs.Prelude.{◌⊎◌, ◌&&◌, codes, nat_lt, if◌then◌else◌}
 use Rattle.notation_tokens.specs.Lexeme.{Lexeme, lexemes, same}
-use Rattle.notation_tokens.specs.Lexing.{most_octets, lexed_of}
+use Rattle.notation_tokens.specs.Lexing.{most_module_octets, lexed_of}
 use Rattle.notation_tokens.specs.Texts.{unless_stopped, too_long}
 use Rattle.notation_tokens.specs.declared.lexer.Lexed.{Lexed}
 use Rattle.notation_tokens.specs.declared.token.Place.{Place}
@@ -139,7 +139,7 @@ no_memory_verdict l (Err d) e = no_memory_refused l d.rest d.kind e
 
 no_memory : (text : List ℕ) → module_of text ≡ Err faults.NoMemory → ⊥
 unfolding module_of
-no_memory text e = go (nat_lt most_octets (length text)) e
+no_memory text e = go (nat_lt most_module_octets (length text)) e
   where
     go : (b : Bool) → (if b then too_long else verdict (lexed_of text) (whole_at narrow (lexemes text (lexed_of text).tokens))) ≡ Err faults.NoMemory → ⊥
     go true h = absurd cc

@@ -3,7 +3,7 @@ use Rattle.std.specs.Prelude.{◌≡◌, ◌<◌, ◌≤◌, ◌⊎◌, ℕ, tru
 use Rattle.std.specs.List.{AllByRecursion}
 use Rattle.notation_tokens.specs.Forms.{has_form}
 use Rattle.notation_tokens.specs.Lexeme.{Lexeme, lexemes}
-use Rattle.notation_tokens.specs.Lexing.{most_octets, lexed_of}
+use Rattle.notation_tokens.specs.Lexing.{most_module_octets, lexed_of}
 use Rattle.operation_notation.specs.Reading.{kind_at}
 use Rattle.operation_notation.specs.GrammarTypes.{Extent, marked, wide, is_empty}
 use Rattle.operation_notation.specs.GrammarModules.{Module}
@@ -35,7 +35,7 @@ IsKind front token behind kind = ((kind ≡ Unsupported) × IsUnsupported front 
 
 -- more octets than a text may have
 pub record TooLong (text : List ℕ) (line column : ℕ) (kind : NotationKind) : Type 0 where
-  pub long : most_octets < length text
+  pub long : most_module_octets < length text
   pub at_line : line ≡ 1
   pub at_column : column ≡ 1
   pub is : kind ≡ TextTooLong
@@ -43,7 +43,7 @@ pub record TooLong (text : List ℕ) (line column : ℕ) (kind : NotationKind) :
 -- The first token that can't stand where it stands. What stands before it begins a module, and no module begins with it too, whatever
 -- follows.
 pub record TokenFault (text : List ℕ) (line column : ℕ) (kind : NotationKind) : Type 0 where
-  pub fits : length text ≤ most_octets
+  pub fits : length text ≤ most_module_octets
   pub front : List Lexeme
   pub token : Lexeme
   pub behind : List Lexeme
@@ -57,7 +57,7 @@ pub record TokenFault (text : List ℕ) (line column : ℕ) (kind : NotationKind
 -- Tokens that end too early, or cutting that stopped behind them: all of them begin a module, and the text reads as none. The fault is
 -- what cutting stopped for, or else the text's end.
 pub record EndFault (text : List ℕ) (line column : ℕ) (kind : NotationKind) : Type 0 where
-  pub fits : length text ≤ most_octets
+  pub fits : length text ≤ most_module_octets
   pub start : Begins marked (lexemes text (lexed_of text).tokens)
   pub unread : (m : ModuleText) → ReadsAsModule text m → ⊥
   pub at_line : (lexed_of text).place.line ≡ line

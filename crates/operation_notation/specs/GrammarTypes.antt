@@ -28,20 +28,20 @@ pub record Extent : Type 0 where
   pub wide : Bool
 
 -- how many levels deep types may stand in one another
-abbrev pub most_levels : ℕ
-most_levels = 256
+abbrev pub most_type_levels : ℕ
+most_type_levels = 256
 
 -- the notation
 abbrev pub narrow : Extent
-narrow = record { levels = most_levels; marked = false; wide = false }
+narrow = record { levels = most_type_levels; marked = false; wide = false }
 
 -- the notation with marks, so that what stands in front of a type one level too deep begins a module too
 abbrev pub marked : Extent
-marked = record { levels = most_levels; marked = true; wide = false }
+marked = record { levels = most_type_levels; marked = true; wide = false }
 
 -- the notation with a little of what isn't supported; a CHOICE one level too deep holds a type one level deeper
 abbrev pub wide : Extent
-wide = record { levels = most_levels + 2; marked = false; wide = true }
+wide = record { levels = most_type_levels + 2; marked = false; wide = true }
 
 -- a mark is a token without text, which no text holds
 abbrev pub is_empty : List ℕ → Bool

@@ -2,7 +2,7 @@
 use Rattle.std.specs.Prelude.{◌≡◌, ◌≤◌, ℕ, List, [], ◌∷◌, length, nat_lt, None, unwrap_or, Result, Ok, Err, if◌then◌else◌}
 use Rattle.notation_tokens.specs.Lexeme.{Lexeme, lexemes}
 use Rattle.notation_tokens.specs.Words.{place}
-use Rattle.notation_tokens.specs.Lexing.{most_octets, lexed_of}
+use Rattle.notation_tokens.specs.Lexing.{most_module_octets, lexed_of}
 use Rattle.notation_tokens.specs.Texts.{fault_at, unless_stopped, too_long}
 use Rattle.operation_notation.specs.Reading.{Read}
 use Rattle.operation_notation.specs.GrammarTypes.{narrow}
@@ -15,7 +15,7 @@ use Rattle.operation_notation.specs.declared.module.ModuleText.{ModuleText}
 
 -- A text reads as a module: within the limits it is cut to its end, and the grammar derives its tokens.
 pub record ReadsAsModule (text : List ℕ) (m : ModuleText) : Type 0 where
-  pub fits : length text ≤ most_octets
+  pub fits : length text ≤ most_module_octets
   pub ends : (lexed_of text).stop ≡ None
   pub spelled : Module narrow (lexemes text (lexed_of text).tokens) m
 
@@ -30,4 +30,4 @@ verdict l (Err e) = refused l e.rest e.kind
 
 -- the module of a text, or the text's first fault
 unfoldable pub module_of : List ℕ → Result ModuleText NotationFault
-module_of text = if nat_lt most_octets (length text) then too_long else verdict (lexed_of text) (whole_at narrow (lexemes text (lexed_of text).tokens))
+module_of text = if nat_lt most_module_octets (length text) then too_long else verdict (lexed_of text) (whole_at narrow (lexemes text (lexed_of text).tokens))

@@ -14,7 +14,9 @@ ghost use Rattle.operation_notation.specs.declared.module.ModuleText.{ModuleText
 use crate::cursor::Cursor;
 use crate::fault::Refusal;
 use crate::module::ModuleText;
-use notation_tokens::{Lexed, MOST_OCTETS, NotationFault, NotationKind, TOO_LONG, cut_text, fault};
+use notation_tokens::{
+    Lexed, MOST_MODULE_OCTETS, NotationFault, NotationKind, TOO_LONG, cut_text, fault,
+};
 use std::alloc::Global;
 
 /// The fault of this kind where a parser stands.
@@ -75,7 +77,7 @@ pub fn parse_module(alloc: Global, text: &[u8]) -> Result<ModuleText, NotationFa
 fn read(alloc: Global, text: &[u8]) -> Result<ModuleText, NotationFault>
     ensures { Answers result (module_of text.now) }
 {
-    if text.len() > MOST_OCTETS {
+    if text.len() > MOST_MODULE_OCTETS {
         return Err(TOO_LONG);
     }
     let lexed = cut_text(alloc, text)?;

@@ -1,6 +1,8 @@
 //! The words that all layers of the stack share: octets and queues of them, names, object
-//! identifiers, transfer syntaxes, pairs, places in sets of contexts, kinds of fault, how faults
-//! print, and the traits of the outside.
+//! identifiers, transfer syntaxes, pairs, places in sets of contexts, kinds of fault, and how
+//! faults print; units of the session and of the presentation protocol, and APDUs of association
+//! control and of reliable transfer, as types; the traits of the outside, and files, sinks and
+//! lines in memory that fail where they are told to.
 #![tactic(auto)]
 
 mod acse_word;

@@ -5,7 +5,7 @@ use Rattle.osi_base.specs.declared.words.Status.{Status}
 use Rattle.osi_base.specs.declared.words.Status.TheVariants.{NoMemory}
 use Rattle.osi_commands.specs.Answers.{Closes, no_room}
 use Rattle.osi_commands.specs.Commands.{Command, checks, pairs, command_of}
-use Rattle.osi_commands.specs.TopCall.{IsAnswer, AskedAtEnd}
+use Rattle.osi_commands.specs.Run.{IsAnswer, AskedAtEnd}
 use Rattle.osi_commands.specs.Process.{Exits}
 use Rattle.osi_commands.specs.Statuses.{exit_code}
 

@@ -9,4 +9,4 @@ pub mod PairReading
 pub mod Second
 pub mod PairCases
 pub mod PairEnding
-pub mod TopEnding
+pub mod RunEnding

@@ -18,7 +18,7 @@ use Rattle.trace_file.specs.declared.fault.RecordingFault.{RecordingFault}
 use Rattle.trace_file.specs.declared.fault.RecordingFault.TheVariants as recording_faults
 use Rattle.trace_file.specs.declared.reading.Recorded.{Recorded}
 use Rattle.trace_file.specs.Reading.{recording_of}
-use Rattle.trace_vectors.specs.Laws.{OneTrace}
+use Rattle.trace_text.specs.Laws.{OneTrace}
 use Rattle.osi_commands.specs.declared.answers.Answer.{Answer}
 use Rattle.osi_commands.specs.declared.commands.Work.{Work}
 use Rattle.osi_commands.specs.declared.commands.Work.TheVariants.{Replay, Trace}
@@ -29,7 +29,7 @@ use Rattle.osi_commands.specs.Replaying.{every_mode, written_of, Replayed, Repli
 use Rattle.osi_commands.specs.Tracing.{ToldBy}
 use Rattle.osi_commands.specs.Checking.{checked_answer, ChecksOctets, Checks, unread, read}
 use Rattle.osi_commands.specs.Pairs.{SecondBy}
-use Rattle.osi_commands.specs.TopCall.{IsAnswer}
+use Rattle.osi_commands.specs.Run.{IsAnswer}
 use Rattle.osi_commands.specs.Laws.{OneAnswer}
 use Rattle.osi_commands.proofs.Calm.{has_read, same_read, never_lacks}
 use Rattle.module_reading.proofs.OneTables.{one_tables}

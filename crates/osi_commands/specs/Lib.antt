@@ -9,6 +9,6 @@ pub mod Checking
 pub mod Replaying
 pub mod Tracing
 pub mod Pairs
-pub mod TopCall
+pub mod Run
 pub mod Process
 pub mod Laws

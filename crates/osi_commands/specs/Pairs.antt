@@ -18,7 +18,7 @@ use Rattle.trace_file.specs.declared.fault.RecordingFault.{RecordingFault}
 use Rattle.trace_file.specs.declared.fault.RecordingFault.TheVariants as recording_faults
 use Rattle.trace_file.specs.declared.reading.Recorded.{Recorded}
 use Rattle.trace_file.specs.Reading.{recording_of}
-use Rattle.trace_vectors.specs.Trace.{TraceTextOf}
+use Rattle.trace_text.specs.Trace.{TraceTextOf}
 use Rattle.osi_commands.specs.declared.answers.Answer.{Answer}
 use Rattle.osi_commands.specs.declared.commands.Work.{Work}
 use Rattle.osi_commands.specs.declared.commands.Work.TheVariants.{Replay, Trace}

@@ -9,11 +9,11 @@ mod pairs;
 mod process;
 mod reading;
 mod replaying;
+mod run;
 mod statuses;
-mod top;
 mod tracing;
 
 pub use laws::one_answer;
 pub use process::{Arguments, run_process};
+pub use run::osi_run;
 pub use statuses::exit_code;
-pub use top::osi_run;

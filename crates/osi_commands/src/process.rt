@@ -2,12 +2,12 @@
 
 ghost use Rattle.std.specs.Prelude.{◌≡◌, IfOk, IsErr, map, drop, string_bytes};
 ghost use Rattle.osi_commands.specs.Commands.{command_of};
-ghost use Rattle.osi_commands.specs.TopCall.{Asks};
+ghost use Rattle.osi_commands.specs.Run.{Asks};
 ghost use Rattle.osi_commands.specs.Process.{words_given, Exits};
 ghost use Rattle.osi_commands.specs.Statuses.{exit_code};
 
+use crate::run::osi_run;
 use crate::statuses::exit_code;
-use crate::top::osi_run;
 use osi_base::{Files, Line, Name, NoMemory, Sink, Status, Words};
 use std::alloc::Global;
 

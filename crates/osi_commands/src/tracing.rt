@@ -9,7 +9,7 @@ use script_lines::ScriptKind;
 use std::alloc::Global;
 use stub_tables::Tables;
 use trace_file::{RecordingFault, RecordingKind, read_recording};
-use trace_vectors::trace_text;
+use trace_text::trace_text;
 
 /// The kind of fault as which that of a recording is told.
 fn script_kind(kind: RecordingKind) -> ScriptKind

@@ -18,7 +18,7 @@ use Rattle.dialogue.specs.declared.call.Call.TheVariants as the_calls
 use Rattle.dialogue.specs.declared.call.CallRefusal.TheVariants as refusals
 use Rattle.dialogue.specs.declared.indication.Indication.{Indication}
 use Rattle.end_rules.specs.Base.{Base, Fault, is_bare, is_direct, is_reliable}
-use Rattle.end_rules.specs.Messages.{Value, Message, Transport, Session, Word, OfAssociation, OfData, OfMarks, OfActivities, TransportUnit, ConnectionRequest, ConnectionConfirm, DisconnectRequest, TransportError}
+use Rattle.end_rules.specs.Messages.{DataValue, Message, Transport, Session, Word, OfAssociation, OfData, OfMarks, OfActivities, TransportUnit, ConnectionRequest, ConnectionConfirm, DisconnectRequest, TransportError}
 use Rattle.end_rules.specs.Messages.{AssociationWord, Connect, Accept, Refuse, Finish, Disconnect, Abort, AbortAccept, DataWord, Values, AlterContext, AlterContextAck, unit_of}
 use Rattle.end_rules.specs.Messages.{MarkWord, Mark, MarkAck, Restart, RestartAck, Give, Please, GiveConfirm, GiveAck}
 use Rattle.end_rules.specs.State.{Body, OpenCall, is_carrying, is_joined, is_up, is_free, is_empty, opened_with, passes_over}
@@ -53,14 +53,14 @@ use Rattle.outcome_laws.proofs.Writers.{Within, within-more, Carries, AllCarry, 
 abbrev WordWell : Base → Body → Word → List Apdu → List Apdu → Type 0
 WordWell base body word own peer = TakenWell base.tables own peer (answers_to_word base body word) (shown_of_word base body word)
 
-refusal-carries : (base : Base) (body : Body) (session : SessionConnect) (presentation : PresentationConnect) (values : List Value) (own : List Apdu) → Carries own (refusal_message base body session presentation values)
+refusal-carries : (base : Base) (body : Body) (session : SessionConnect) (presentation : PresentationConnect) (values : List DataValue) (own : List Apdu) → Carries own (refusal_message base body session presentation values)
 refusal-carries base body session presentation values own = go (is_some presentation.default_context || not (has_acse (set_for base presentation)))
   where
     go : (b : Bool) → Carries own (if b then provider_refusal else refuse_message (set_for base presentation) (results_for base presentation) (context_named (the_one values)) (if lacks_request base (set_for base presentation) values then [] else rejecting_information base session (set_for base presentation) (transfer_rejection base body values)))
     go true = tt
     go false = tt
 
-connect-carries : (base : Base) (body : Body) (session : SessionConnect) (presentation : PresentationConnect) (values : List Value) (own : List Apdu) → AllCarry own (answer_to_connect base body session presentation values)
+connect-carries : (base : Base) (body : Body) (session : SessionConnect) (presentation : PresentationConnect) (values : List DataValue) (own : List Apdu) → AllCarry own (answer_to_connect base body session presentation values)
 connect-carries base body session presentation values own = go (is_refused base body session presentation values)
   where
     go : (b : Bool) → AllCarry own (if b then refusal_message base body session presentation values ∷ [] else acceptance_message base session presentation values ∷ [])
@@ -76,7 +76,7 @@ association-carries base body (Disconnect values) own = tt
 association-carries base body (Abort transport user) own = tt
 association-carries base body AbortAccept own = tt
 
-values-well : (base : Base) (body : Body) (values : List Value) (own peer : List Apdu) → is_reliable base.mode ≡ false → Carries peer (Session (OfData (Values values))) → TakenWell base.tables own peer (values_taken base body values).answers (values_taken base body values).shown
+values-well : (base : Base) (body : Body) (values : List DataValue) (own peer : List Apdu) → is_reliable base.mode ≡ false → Carries peer (Session (OfData (Values values))) → TakenWell base.tables own peer (values_taken base body values).answers (values_taken base body values).shown
 values-well base body values own peer e h = rw e (values-taken base body values own peer e h)
 
 data-well : (base : Base) (body : Body) (word : DataWord) (own peer : List Apdu) → is_reliable base.mode ≡ false → Carries peer (Session (OfData word)) → WordWell base body (OfData word) own peer

@@ -12,7 +12,7 @@ use Rattle.stub_tables.specs.Lookup.{operation_at, operation_with, error_with}
 use Rattle.dialogue.specs.declared.indication.Indication.{Indication}
 use Rattle.dialogue.specs.declared.indication.Indication.TheVariants as indications
 use Rattle.end_rules.specs.Base.{Base, Carried, Head, General, BadReject, InvokeHead, ResultHead, ErrorHead, RejectHead, is_reliable}
-use Rattle.end_rules.specs.Messages.{Value}
+use Rattle.end_rules.specs.Messages.{DataValue}
 use Rattle.end_rules.specs.State.{Body, OpenCall, Calls, is_empty, opened_with, close}
 use Rattle.end_rules.specs.Invoking.{carrier_in}
 use Rattle.end_rules.specs.Hearing.{Rejecting, Heard, rejected, told, unless_problem, first_problem, problem_if, invoke_problem, invoked, is_right_result, result_problem, known_error_problem, hear_result_of, error_problem, error_told, hear_error_of, is_of_invocation, hear_reject, hear, value_in, Taken, sent_on, queued, with_reject, shown_first, on_heard, take_head, head_of, take_values}
@@ -120,10 +120,10 @@ on-heard base body context heard asked before h =
     subst (λ (c : Calls). Once base.tables asked c (before ++ (heard.shown ++ with_it.shown))) (sym w.0)
     (subst (Once base.tables asked heard.calls) (append_assoc before heard.shown with_it.shown) (once-still base.tables asked heard.calls (before ++ heard.shown) with_it.shown w.1 h))
 
-pub head-once : (base : Base) (body : Body) (value : Value) (asked : List Asked) (before : List Indication) → Once base.tables asked body.calls before → TakenOnce base asked before (take_head base body value.id (head_of base value))
+pub head-once : (base : Base) (body : Body) (value : DataValue) (asked : List Asked) (before : List Indication) → Once base.tables asked body.calls before → TakenOnce base asked before (take_head base body value.id (head_of base value))
 head-once base body value asked before h = on-heard base body value.id (hear base body.calls value.id (head_of base value)) asked before (hears base body.calls value.id (head_of base value) asked before h)
 
-pub values-once : (base : Base) (body : Body) (values : List Value) (asked : List Asked) (before : List Indication) → Once base.tables asked body.calls before → TakenOnce base asked before (take_values base body values)
+pub values-once : (base : Base) (body : Body) (values : List DataValue) (asked : List Asked) (before : List Indication) → Once base.tables asked body.calls before → TakenOnce base asked before (take_values base body values)
 values-once base body [] asked before h = once-still base.tables asked body.calls before [] refl h
 values-once base body (value ∷ values) asked before h =
     let first = take_head base body value.id (head_of base value) in

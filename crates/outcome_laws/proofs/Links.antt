@@ -10,7 +10,7 @@ use Rattle.dialogue.specs.declared.call.Call.{Call}
 use Rattle.dialogue.specs.declared.indication.Indication.{Indication}
 use Rattle.dialogue.specs.declared.indication.Indication.TheVariants as indications
 use Rattle.end_rules.specs.Base.{Base, Carried, Head, General, BadReject, InvokeHead, ResultHead, ErrorHead, RejectHead, is_reliable, most_open}
-use Rattle.end_rules.specs.Messages.{Value, Message, Transport, Session, OfAssociation, OfData, OfMarks, OfActivities, DataWord, Values, AlterContext, AlterContextAck}
+use Rattle.end_rules.specs.Messages.{DataValue, Message, Transport, Session, OfAssociation, OfData, OfMarks, OfActivities, DataWord, Values, AlterContext, AlterContextAck}
 use Rattle.end_rules.specs.Messages.{ActivityWord, Start, Resume, End, EndAck, Interrupt, InterruptAck, Discard, DiscardAck}
 use Rattle.end_rules.specs.State.{Body, OpenCall, Calls, opens_of, opened_with, close}
 use Rattle.end_rules.specs.Invoking.{is_linked_to, operation_of}
@@ -133,7 +133,7 @@ heard-links base asked calls shown context (RejectHead id problem) h = reject-li
 
 -- ---- values and words
 
-values-links : (base : Base) (asked : List Asked) (body : Body) (values : List Value) (before : List Indication) → Once base.tables asked body.calls before → AllFit base.tables asked (links_in (take_values base body values).shown)
+values-links : (base : Base) (asked : List Asked) (body : Body) (values : List DataValue) (before : List Indication) → Once base.tables asked body.calls before → AllFit base.tables asked (links_in (take_values base body values).shown)
 values-links base asked body [] before h = tt
 values-links base asked body (value ∷ values) before h =
     let heard = hear base body.calls value.id (head_of base value) in
@@ -144,7 +144,7 @@ values-links base asked body (value ∷ values) before h =
     (fit-quiet base.tables asked with_it.shown (with-reject base (record body { calls = heard.calls }) value.id heard.reject).1))
     (values-links base asked first.body values (before ++ first.shown) (head-once base body value asked before h))
 
-taken-values-links : (base : Base) (asked : List Asked) (body : Body) (values : List Value) (before : List Indication) → Once base.tables asked body.calls before → AllFit base.tables asked (links_in (values_taken base body values).shown)
+taken-values-links : (base : Base) (asked : List Asked) (body : Body) (values : List DataValue) (before : List Indication) → Once base.tables asked body.calls before → AllFit base.tables asked (links_in (values_taken base body values).shown)
 taken-values-links base asked body values before h = go (is_reliable base.mode) refl
   where
     go : (b : Bool) → is_reliable base.mode ≡ b → AllFit base.tables asked (links_in (values_taken base body values).shown)

@@ -12,7 +12,7 @@ use Rattle.dialogue.specs.declared.call.Call.TheVariants as the_calls
 use Rattle.dialogue.specs.declared.call.CallRefusal.TheVariants as refusals
 use Rattle.dialogue.specs.declared.indication.Indication.{Indication}
 use Rattle.end_rules.specs.Base.{Base, Fault, is_reliable}
-use Rattle.end_rules.specs.Messages.{Value, Message, Transport, Session, Word, OfAssociation, OfData, OfMarks, OfActivities, TransportUnit, ConnectionRequest, ConnectionConfirm, DisconnectRequest, TransportError}
+use Rattle.end_rules.specs.Messages.{DataValue, Message, Transport, Session, Word, OfAssociation, OfData, OfMarks, OfActivities, TransportUnit, ConnectionRequest, ConnectionConfirm, DisconnectRequest, TransportError}
 use Rattle.end_rules.specs.Messages.{AssociationWord, Connect, Accept, Refuse, Finish, Disconnect, Abort, AbortAccept, DataWord, Values, AlterContext, AlterContextAck}
 use Rattle.end_rules.specs.Messages.{MarkWord, Mark, MarkAck, Restart, RestartAck, Give, Please, GiveConfirm, GiveAck, ActivityWord, Start, Resume, End, EndAck, Interrupt, InterruptAck, Discard, DiscardAck}
 use Rattle.end_rules.specs.State.{Body, OpenCall, Calls, opened_with, cut_all}
@@ -48,7 +48,7 @@ association-sent body (Disconnect values) = refl
 association-sent body (Abort transport user) = refl
 association-sent body AbortAccept = refl
 
-values-sent : (mode : Mode) (values : List Value) (body : Body) → (values_sent mode values body).calls ≡ body.calls
+values-sent : (mode : Mode) (values : List DataValue) (body : Body) → (values_sent mode values body).calls ≡ body.calls
 values-sent Reliable values body = refl
 values-sent Direct values body = refl
 values-sent Bare values body = refl

@@ -16,7 +16,7 @@ use Rattle.dialogue.specs.declared.call.Call.TheVariants as the_calls
 use Rattle.dialogue.specs.declared.indication.Indication.{Indication}
 use Rattle.end_rules.specs.Base.{Base, Fault, Head, is_bare, is_reliable}
 use Rattle.end_rules.specs.Sets.{Alteration}
-use Rattle.end_rules.specs.Messages.{Value, Message, Transport, Session, Word, OfAssociation, OfData, OfMarks, OfActivities, TransportUnit, ConnectionRequest, ConnectionConfirm, DisconnectRequest, TransportError, unit_of}
+use Rattle.end_rules.specs.Messages.{DataValue, Message, Transport, Session, Word, OfAssociation, OfData, OfMarks, OfActivities, TransportUnit, ConnectionRequest, ConnectionConfirm, DisconnectRequest, TransportError, unit_of}
 use Rattle.end_rules.specs.Messages.{AssociationWord, Connect, Accept, Refuse, Finish, Disconnect, Abort, AbortAccept, DataWord, Values, AlterContext, AlterContextAck}
 use Rattle.end_rules.specs.Messages.{MarkWord, Mark, MarkAck, Restart, RestartAck, Give, Please, GiveConfirm, GiveAck, ActivityWord, Start, Resume, End, EndAck, Interrupt, InterruptAck, Discard, DiscardAck}
 use Rattle.end_rules.specs.State.{Body, OpenCall, Queued, Transfer, Sending, on_current, opened_with, cut_all, is_carrying, is_joined, passes_over}
@@ -108,7 +108,7 @@ no-current wrote sending h = record { waiting = h.waiting; going = tt }
 
 -- ---- what is sent
 
-values-sourced : (mode : Mode) (values : List Value) (body : Body) (wrote : List Apdu) → Sourced wrote body.sending → Sourced wrote (values_sent mode values body).sending
+values-sourced : (mode : Mode) (values : List DataValue) (body : Body) (wrote : List Apdu) → Sourced wrote body.sending → Sourced wrote (values_sent mode values body).sending
 values-sourced Reliable values body wrote h = kept-current wrote _ (λ t. refl) body.sending h
 values-sourced Direct values body wrote h = h
 values-sourced Bare values body wrote h = h
@@ -265,7 +265,7 @@ swapped first second wrote x h = go (in-either second (first ++ wrote) x h)
     go (inl k) = in-later first (second ++ wrote) x (in-first second wrote x k)
     go (inr k) = back (in-either first wrote x k)
 
-values-so : (base : Base) (body : Body) (values : List Value) (wrote : List Apdu) → Sourced wrote body.sending → Sourced (rejects_in (take_values base body values).shown ++ wrote) (take_values base body values).body.sending
+values-so : (base : Base) (body : Body) (values : List DataValue) (wrote : List Apdu) → Sourced wrote body.sending → Sourced (rejects_in (take_values base body values).shown ++ wrote) (take_values base body values).body.sending
 values-so base body [] wrote h = h
 values-so base body (value ∷ values) wrote h =
     let first = take_head base body value.id (head_of base value) in
@@ -279,7 +279,7 @@ values-so base body (value ∷ values) wrote h =
 abbrev WordSo : Base → Body → Word → List Apdu → Type 0
 WordSo base body word wrote = Sourced (rejects_in (shown_of_word base body word) ++ wrote) (after_word base body word).sending
 
-connect-so : (base : Base) (body : Body) (session : SessionConnect) (presentation : PresentationConnect) (values : List Value) (wrote : List Apdu) → Sourced wrote body.sending → Sourced wrote (after_association base body (Connect session presentation values)).sending
+connect-so : (base : Base) (body : Body) (session : SessionConnect) (presentation : PresentationConnect) (values : List DataValue) (wrote : List Apdu) → Sourced wrote body.sending → Sourced wrote (after_association base body (Connect session presentation values)).sending
 connect-so base body session presentation values wrote h = go (is_refused base body session presentation values)
   where
     joins : (v : Bool) → Sourced wrote (if v then body else begun_with base session).sending
@@ -299,11 +299,11 @@ association-so base body (Disconnect values) wrote h = h
 association-so base body (Abort transport user) wrote h = h
 association-so base body AbortAccept wrote h = h
 
-parts-so : (values : List Value) (body : Body) → (with_parts values body).sending ≡ body.sending
+parts-so : (values : List DataValue) (body : Body) → (with_parts values body).sending ≡ body.sending
 parts-so [] body = refl
 parts-so (value ∷ values) body = parts-so values _
 
-taken-values-so : (base : Base) (body : Body) (values : List Value) (wrote : List Apdu) → Sourced wrote body.sending → Sourced (rejects_in (values_taken base body values).shown ++ wrote) (values_taken base body values).body.sending
+taken-values-so : (base : Base) (body : Body) (values : List DataValue) (wrote : List Apdu) → Sourced wrote body.sending → Sourced (rejects_in (values_taken base body values).shown ++ wrote) (values_taken base body values).body.sending
 taken-values-so base body values wrote h = go (is_reliable base.mode) refl
   where
     go : (b : Bool) → is_reliable base.mode ≡ b → Sourced (rejects_in (values_taken base body values).shown ++ wrote) (values_taken base body values).body.sending

@@ -7,7 +7,7 @@ use Rattle.stub_tables.specs.declared.apdu.Apdu.{Apdu}
 use Rattle.dialogue.specs.declared.config.Config.{Config}
 use Rattle.dialogue.specs.declared.indication.Indication.{Indication}
 use Rattle.end_rules.specs.Base.{Base, Spellings, Fault, Item, Arrived, Whole, is_bare, is_reliable}
-use Rattle.end_rules.specs.Messages.{Value, Message, Transport, Session, Word, OfAssociation, OfData, OfMarks, OfActivities, TransportUnit, unit_of}
+use Rattle.end_rules.specs.Messages.{DataValue, Message, Transport, Session, Word, OfAssociation, OfData, OfMarks, OfActivities, TransportUnit, unit_of}
 use Rattle.end_rules.specs.Messages.{DataWord, Values, AlterContext, AlterContextAck}
 use Rattle.end_rules.specs.Messages.{ActivityWord, Start, Resume, End, EndAck, Interrupt, InterruptAck, Discard, DiscardAck}
 use Rattle.end_rules.specs.State.{Body, is_carrying, is_joined, passes_over}
@@ -110,7 +110,7 @@ activity-answers base body InterruptAck peer f = quiet base.tables peer (shown_o
 activity-answers base body (Discard reason) peer f = (tt, tt)
 activity-answers base body DiscardAck peer f = quiet base.tables peer (shown_of_activity base body DiscardAck) (discard-none body)
 
-values-none : (base : Base) (body : Body) (values : List Value) (peer : List Apdu) → is_reliable base.mode ≡ true → AreAnswers base.tables peer (values_taken base body values).shown
+values-none : (base : Base) (body : Body) (values : List DataValue) (peer : List Apdu) → is_reliable base.mode ≡ true → AreAnswers base.tables peer (values_taken base body values).shown
 values-none base body values peer e = rw e tt
 
 data-answers : (base : Base) (body : Body) (word : DataWord) (peer : List Apdu) → is_reliable base.mode ≡ true → AreAnswers base.tables peer (shown_of_data base body word)

@@ -12,7 +12,7 @@ use Rattle.dialogue.specs.declared.indication.Indication.{Indication}
 use Rattle.dialogue.specs.declared.indication.Indication.TheVariants as indications
 use Rattle.end_rules.specs.Base.{Base, Fault, is_bare, is_reliable}
 use Rattle.end_rules.specs.Sets.{Alteration}
-use Rattle.end_rules.specs.Messages.{Value, Message, Transport, Session, Word, OfAssociation, OfData, OfMarks, OfActivities, TransportUnit, ConnectionRequest, ConnectionConfirm, DisconnectRequest, TransportError}
+use Rattle.end_rules.specs.Messages.{DataValue, Message, Transport, Session, Word, OfAssociation, OfData, OfMarks, OfActivities, TransportUnit, ConnectionRequest, ConnectionConfirm, DisconnectRequest, TransportError}
 use Rattle.end_rules.specs.Messages.{AssociationWord, Connect, Accept, Refuse, Finish, Disconnect, Abort, AbortAccept, DataWord, Values, AlterContext, AlterContextAck}
 use Rattle.end_rules.specs.Messages.{MarkWord, Mark, MarkAck, Restart, RestartAck, Give, Please, GiveConfirm, GiveAck, ActivityWord, Start, Resume, End, EndAck, Interrupt, InterruptAck, Discard, DiscardAck}
 use Rattle.end_rules.specs.Messages.{unit_of}
@@ -65,7 +65,7 @@ opening-none body false = go (is_broken body.link.phase)
     go true = cut-more body (indications.GivenUp ∷ indications.Opened ∷ []) refl
     go false = refl
 
-connected : (base : Base) (body : Body) (session : SessionConnect) (presentation : PresentationConnect) (values : List Value) (asked : List Asked) (told : List Indication) → Once base.tables asked body.calls told → WordOnce base body (OfAssociation (Connect session presentation values)) asked told
+connected : (base : Base) (body : Body) (session : SessionConnect) (presentation : PresentationConnect) (values : List DataValue) (asked : List Asked) (told : List Indication) → Once base.tables asked body.calls told → WordOnce base body (OfAssociation (Connect session presentation values)) asked told
 connected base body session presentation values asked told h = go (is_refused base body session presentation values) (recovers_in base values) refl
   where
     go : (r v : Bool) → recovers_in base values ≡ v → Once base.tables (kept_unless r v asked) (if r then refused_connect body else accepted_connect base body session presentation values).calls (kept_unless r v told ++ (if r then [] else shown_opening body v))
@@ -114,11 +114,11 @@ association-once base body (Disconnect values) asked told h = all-cut base asked
 association-once base body (Abort transport user) asked told h = all-cut base asked body.calls told (shown_of_association base body (Abort transport user)) (association-none base body (Abort transport user)) h
 association-once base body AbortAccept asked told h = all-cut base asked body.calls told (shown_of_association base body AbortAccept) (association-none base body AbortAccept) h
 
-parts-kept : (values : List Value) (body : Body) → (with_parts values body).calls ≡ body.calls
+parts-kept : (values : List DataValue) (body : Body) → (with_parts values body).calls ≡ body.calls
 parts-kept [] body = refl
 parts-kept (value ∷ values) body = parts-kept values _
 
-values-taken : (base : Base) (body : Body) (values : List Value) (asked : List Asked) (told : List Indication) → Once base.tables asked body.calls told → Once base.tables asked (values_taken base body values).body.calls (told ++ (values_taken base body values).shown)
+values-taken : (base : Base) (body : Body) (values : List DataValue) (asked : List Asked) (told : List Indication) → Once base.tables asked body.calls told → Once base.tables asked (values_taken base body values).body.calls (told ++ (values_taken base body values).shown)
 values-taken base body values asked told h = go (is_reliable base.mode) refl
   where
     go : (b : Bool) → is_reliable base.mode ≡ b → Once base.tables asked (values_taken base body values).body.calls (told ++ (values_taken base body values).shown)
@@ -166,7 +166,7 @@ plea-none : (priority : Option ℕ) → notes_in (shown_plea priority) ≡ []
 plea-none None = refl
 plea-none (Some priority) = refl
 
-please-none : (tokens : Option ℕ) (values : List Value) → notes_in (shown_please tokens values) ≡ []
+please-none : (tokens : Option ℕ) (values : List DataValue) → notes_in (shown_please tokens values) ≡ []
 please-none None values = refl
 please-none (Some tokens) values = plea-none (priority_in values)
 

@@ -14,7 +14,7 @@ use Rattle.stub_tables.specs.Lookup.{operation_at, operation_with, error_with}
 use Rattle.dialogue.specs.declared.indication.Indication.{Indication}
 use Rattle.dialogue.specs.declared.indication.Indication.TheVariants as indications
 use Rattle.end_rules.specs.Base.{Base, Carried, Head, is_reliable}
-use Rattle.end_rules.specs.Messages.{ValueContent, Remote, Value, Message, Transport, Session, Word, OfAssociation, OfData, OfMarks, OfActivities, Values, AlterContext, AlterContextAck}
+use Rattle.end_rules.specs.Messages.{ValueContent, Remote, DataValue, Message, Transport, Session, Word, OfAssociation, OfData, OfMarks, OfActivities, Values, AlterContext, AlterContextAck}
 use Rattle.end_rules.specs.State.{Body, OpenCall, Calls, opened_with, close}
 use Rattle.end_rules.specs.Invoking.{carrier_in}
 use Rattle.end_rules.specs.Hearing.{Rejecting, Heard, rejected, told, unless_problem, invoke_problem, invoked, result_problem, hear_result_of, error_problem, error_told, hear_error_of, is_of_invocation, hear_reject, hear, carried_in, code_returned, value_returned, value_in, head_of_apdu, Taken, sent_on, queued, with_reject, on_heard, take_head, head_of, take_values}
@@ -60,7 +60,7 @@ pub record Written (wrote : List Apdu) (content : ValueContent) : Type 0 where
   pub is_it : content ≡ Remote apdu
   pub within : IsIn apdu wrote
 
-abbrev pub AreWritten : List Apdu → List Value → Type 0
+abbrev pub AreWritten : List Apdu → List DataValue → Type 0
 AreWritten wrote [] = Unit {0}
 AreWritten wrote (value ∷ values) = Written wrote value.content × AreWritten wrote values
 
@@ -78,7 +78,7 @@ abbrev pub AllCarry : List Apdu → List Message → Type 0
 AllCarry wrote [] = Unit {0}
 AllCarry wrote (message ∷ messages) = Carries wrote message × AllCarry wrote messages
 
-written-on : (xs ys : List Apdu) (values : List Value) → Within xs ys → AreWritten xs values → AreWritten ys values
+written-on : (xs ys : List Apdu) (values : List DataValue) → Within xs ys → AreWritten xs values → AreWritten ys values
 written-on xs ys [] w h = tt
 written-on xs ys (value ∷ values) w h =
     (record { apdu = h.0.apdu; is_it = h.0.is_it; within = w h.0.apdu h.0.within }, written-on xs ys values w h.1)
@@ -200,12 +200,12 @@ head-shows base body context apdu peer h =
     answers-append base.tables peer heard.shown with_it.shown (says base body.calls context apdu peer h)
     (quiet base.tables peer with_it.shown (with-reject base (record body { calls = heard.calls }) context heard.reject).1)
 
-one-shows : (base : Base) (body : Body) (value : Value) (peer : List Apdu) → Written peer value.content → AreAnswers base.tables peer (take_head base body value.id (head_of base value)).shown
+one-shows : (base : Base) (body : Body) (value : DataValue) (peer : List Apdu) → Written peer value.content → AreAnswers base.tables peer (take_head base body value.id (head_of base value)).shown
 one-shows base body value peer h =
     let says_so : head_of base value ≡ head_of_apdu h.apdu = ap (λ (c : ValueContent). head_of base (record { id = value.id; pair = value.pair; content = c })) h.is_it in
     subst (λ (head : Head). AreAnswers base.tables peer (take_head base body value.id head).shown) (sym says_so) (head-shows base body value.id h.apdu peer h.within)
 
-pub values-show : (base : Base) (body : Body) (values : List Value) (peer : List Apdu) → AreWritten peer values → AreAnswers base.tables peer (take_values base body values).shown
+pub values-show : (base : Base) (body : Body) (values : List DataValue) (peer : List Apdu) → AreWritten peer values → AreAnswers base.tables peer (take_values base body values).shown
 values-show base body [] peer h = tt
 values-show base body (value ∷ values) peer h =
     let first = take_head base body value.id (head_of base value) in
@@ -225,7 +225,7 @@ head-taken base body context apdu own peer e h =
       shows = head-shows base body context apdu peer h;
     }
 
-one-taken : (base : Base) (body : Body) (value : Value) (own peer : List Apdu) → is_reliable base.mode ≡ false → Written peer value.content → TakenWell base.tables own peer (take_head base body value.id (head_of base value)).answers (take_head base body value.id (head_of base value)).shown
+one-taken : (base : Base) (body : Body) (value : DataValue) (own peer : List Apdu) → is_reliable base.mode ≡ false → Written peer value.content → TakenWell base.tables own peer (take_head base body value.id (head_of base value)).answers (take_head base body value.id (head_of base value)).shown
 one-taken base body value own peer e h =
     let says_so : head_of base value ≡ head_of_apdu h.apdu = ap (λ (c : ValueContent). head_of base (record { id = value.id; pair = value.pair; content = c })) h.is_it in
     subst (λ (head : Head). TakenWell base.tables own peer (take_head base body value.id head).answers (take_head base body value.id head).shown) (sym says_so)
@@ -243,7 +243,7 @@ both-taken tables own peer answers more shown later h k =
       shows = answers-append tables peer shown later h.shows k.shows;
     }
 
-pub values-taken : (base : Base) (body : Body) (values : List Value) (own peer : List Apdu) → is_reliable base.mode ≡ false → AreWritten peer values → TakenWell base.tables own peer (take_values base body values).answers (take_values base body values).shown
+pub values-taken : (base : Base) (body : Body) (values : List DataValue) (own peer : List Apdu) → is_reliable base.mode ≡ false → AreWritten peer values → TakenWell base.tables own peer (take_values base body values).answers (take_values base body values).shown
 values-taken base body [] own peer e h = record { sends = tt; shows = tt }
 values-taken base body (value ∷ values) own peer e h =
     let first = take_head base body value.id (head_of base value) in

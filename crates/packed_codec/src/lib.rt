@@ -10,10 +10,10 @@ mod measure;
 mod numbers;
 mod object_ids;
 mod octets;
-mod public;
 mod read;
 mod spot;
 mod strings;
+mod whole_values;
 mod write;
 
 pub use fault::PackedFault;
@@ -23,5 +23,5 @@ pub use laws::{
     wider_stays, written_is_read,
 };
 pub use measure::{arcs_len, integer_len, packed_len};
-pub use public::{LIMIT, Read, packed_read, packed_read_within};
+pub use whole_values::{LIMIT, Read, packed_read, packed_read_within};
 pub use write::packed_write;

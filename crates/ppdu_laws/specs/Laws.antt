@@ -6,9 +6,8 @@ use Rattle.asn1_types.specs.Limits.{most_spelled}
 use Rattle.ber_spelling.specs.Spelling.{Spells}
 use Rattle.presentation_pdus.specs.declared.place.PpduPlace.{PpduPlace}
 use Rattle.presentation_pdus.specs.Rows.{ppdu_rows}
-use Rattle.presentation_pdus.specs.Words.{row_of, value_of, written_ppdu}
+use Rattle.presentation_pdus.specs.Words.{said, row_of, value_of, written_ppdu}
 use Rattle.presentation_pdus.specs.Units.{SpellsPpdu, ppdu_at}
-use Rattle.presentation_pdus.specs.Said.{said}
 use Rattle.ppdu_laws.specs.Written.{carries, is_written_whole, IsWritable}
 use Rattle.ppdu_laws.specs.Known.{read_as, SpellsKnown}
 

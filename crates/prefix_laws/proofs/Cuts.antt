@@ -3,9 +3,10 @@ use Rattle.std.proofs.Common.{◌≡◌, refl, sym, ap, subst, ◌∙◌, ℕ, z
 use Rattle.std.specs.List.{flat_map}
 use Rattle.std.proofs.lemmas.Bool.{cases_lt}
 use Rattle.std.proofs.lemmas.List.{length-take, length-drop, take-append-drop, append-nil}
+use Rattle.osi_base.specs.Limits.{tsdu_limit}
 use Rattle.tpkt.specs.declared.packet.Packet.{Packet}
 use Rattle.tpkt.specs.declared.packet.Packet.TheVariants.{Tsdu}
-use Rattle.tpkt.specs.Wire.{packet, header, mark, Tpdu, Whole, Part, IsUnit, Splits, begun_after, begun_by, handed_for, handed, tsdu_limit}
+use Rattle.tpkt.specs.Wire.{packet, header, mark, Tpdu, Whole, Part, IsUnit, Splits, begun_after, begun_by, handed_for, handed}
 use Rattle.tpkt.specs.Written.{parts_of, part_packet}
 use Rattle.tpkt.specs.Stream.{IsOctets}
 use Rattle.tpkt.proofs.WrittenLaws.{parts_step, parts_last}

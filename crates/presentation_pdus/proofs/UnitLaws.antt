@@ -41,7 +41,7 @@ use Rattle.presentation_pdus.specs.declared.place.PpduFault.TheVariants as fault
 use Rattle.presentation_pdus.specs.Rows.{ppdu_rows}
 use Rattle.presentation_pdus.specs.Fields.{context_tag, sequence_tag, set_tag, user_tag, pdv_row, mode_row, connect_fields, connect_passed, accept_fields, accept_passed, reject_fields, alter_fields, alter_ack_fields, restart_fields, user_abort_fields, provider_abort_fields}
 use Rattle.presentation_pdus.specs.Selected.{Run, Relation, selected_at, SelectedIs}
-use Rattle.presentation_pdus.specs.Said.{said}
+use Rattle.presentation_pdus.specs.Words.{said}
 use Rattle.presentation_pdus.specs.Units.{unit_at, data_at, ppdu_run, reason_of, of_value, UnitIs, ModeIs, Fielded, DataIs, PpduIs}
 use Rattle.presentation_pdus.specs.Laws.{PpduIsSpelled, SpelledPpduIsRead, PpduFaultIsFirst}
 use Rattle.presentation_pdus.proofs.Added.{ppdu_sound}

@@ -3,7 +3,6 @@ pub mod Items
 pub mod Laws
 pub mod Printed
 pub mod Rows
-pub mod Said
 pub mod Selected
 pub mod Units
 pub mod Words

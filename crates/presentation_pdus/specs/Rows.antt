@@ -1,10 +1,12 @@
 -- The units of the presentation protocol as rows of types (X.226 8.2 to 8.4), without the fields that are passed over
 -- and without default contexts.
 use Rattle.std.specs.Prelude.{ℕ, pos, negsuc, true, false, List, [], ◌∷◌, codes}
+use Rattle.osi_base.specs.Limits.{highest_context}
 use Rattle.asn1_types.specs.declared.row.Class.TheVariants.{Application}
 use Rattle.asn1_types.specs.declared.row.Part.{Part}
 use Rattle.asn1_types.specs.declared.row.TypeRow.{TypeRow}
 use Rattle.asn1_types.specs.declared.row.TypeRow.TheVariants.{Integer, OctetString, BitString, ObjectId, Sequence, Set, SequenceOf, Choice, Tagged, Any}
+use Rattle.asn1_types.specs.Limits.{most_spelled}
 use Rattle.fixed_tables.specs.Rows.{part, implicit, explicit}
 
 abbrev pub connect_row : ℕ
@@ -90,10 +92,10 @@ provider_abort_parts = part (codes "reason") 61 false ∷ part (codes "event") 6
 abbrev pub rows_of_values : List TypeRow → List TypeRow
 rows_of_values others =
     -- 0: an identifier of a context
-    Integer (pos 1) (pos 32767)
+    Integer (pos 1) (pos highest_context)
     -- 1: a name, octets, bits, any value, a reason
     ∷ ObjectId
-    ∷ OctetString 4294967295
+    ∷ OctetString most_spelled
     ∷ BitString
     ∷ Any
     ∷ Integer (negsuc 9223372036854775807) (pos 9223372036854775807)

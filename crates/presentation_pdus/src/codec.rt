@@ -10,9 +10,8 @@ ghost use Rattle.presentation_pdus.specs.Words.{written_ppdu};
 
 use crate::place::{PpduFault, PpduPlace};
 use crate::read::front;
-use crate::said::said;
 use crate::table::PpduTable;
-use crate::words::{row_of, value_of};
+use crate::words::{row_of, said, value_of};
 use asn1_types::{TypeTable, Val};
 use ber_writing::ber_octets;
 use fixed_tables::{PduFault, fault_of};

@@ -7,7 +7,6 @@ mod items;
 mod laws;
 mod place;
 mod read;
-mod said;
 mod table;
 mod words;
 

@@ -16,7 +16,7 @@ use Rattle.dialogue.specs.declared.call.CallRefusal.{CallRefusal}
 use Rattle.dialogue.specs.declared.call.CallRefusal.TheVariants as refusals
 use Rattle.end_rules.specs.Base.{Base, Fault, Arrived, most_alterations}
 use Rattle.end_rules.specs.Sets.{Alteration, is_among, named_ids, proposed_ids, pair_of, is_fixed, altered}
-use Rattle.end_rules.specs.Messages.{Value, Word, OfAssociation, OfData, OfMarks, OfActivities, Finish, Disconnect}
+use Rattle.end_rules.specs.Messages.{DataValue, Word, OfAssociation, OfData, OfMarks, OfActivities, Finish, Disconnect}
 use Rattle.end_rules.specs.Messages.{Abort, Values, AlterContext, AlterContextAck, Mark, MarkAck, Please, GiveConfirm, GiveAck, Start, Resume}
 use Rattle.end_rules.specs.Messages.{End, EndAck, Interrupt, InterruptAck, Discard, DiscardAck, Session, unit_of}
 use Rattle.end_rules.specs.State.{Body, Link, Sets, Calls, Sending, OpenCall, Octets, Marked, Suspended, Ending, Transfer, Receiving, opened_with}
@@ -258,7 +258,7 @@ module _ (first : List SetItem) (base : Base) where
 
   -- ---- takings, where the association stands
 
-  parts-firm : (values : List Value) (body : Body) → Firm name first body → Firm name first (with_parts values body)
+  parts-firm : (values : List DataValue) (body : Body) → Firm name first body → Firm name first (with_parts values body)
   parts-firm [] body h = h
   parts-firm (value ∷ values) body h =
       parts-firm values (record body { receiving = record body.receiving { pieces = Octets (part_in value.content) ∷ body.receiving.pieces } })

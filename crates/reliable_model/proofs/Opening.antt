@@ -15,7 +15,7 @@ use Rattle.dialogue.specs.declared.config.Phase.{Phase}
 use Rattle.dialogue.specs.declared.config.Phase.TheVariants.{Idle, Opening, Broken, Recovering, Over}
 use Rattle.dialogue.specs.declared.indication.Indication.{Indication}
 use Rattle.end_rules.specs.Base.{Base, Spellings, Fault, rtse_name}
-use Rattle.end_rules.specs.Messages.{TransportUnit, ConnectionRequest, ConnectionConfirm, Value, AbortData, Word, OfAssociation}
+use Rattle.end_rules.specs.Messages.{TransportUnit, ConnectionRequest, ConnectionConfirm, DataValue, AbortData, Word, OfAssociation}
 use Rattle.end_rules.specs.Messages.{Connect, Accept, Refuse, Abort, Accepting, Message, Transport, Session, unit_of}
 use Rattle.end_rules.specs.State.{Body, Stage, Unused, Asked, Joined, Carrying, passes_over, is_joined}
 use Rattle.end_rules.specs.State.{is_carrying, is_unused, is_asked, is_broken}
@@ -316,7 +316,7 @@ module _ (free : Free) (tables : Tables) (spellings : Spellings) (a b : Config) 
   pub record IsAccept (word : Word) : Type 0 where
     pub session : Accepting
     pub presentation : PresentationAccept
-    pub values : List Value
+    pub values : List DataValue
     pub is_it : word ≡ OfAssociation (Accept session presentation values)
     pub version : has_version_two session.version ≡ true
     pub units : has_units (needed_units Reliable) (selected_with Reliable session.requirements) ≡ true
@@ -329,7 +329,7 @@ module _ (free : Free) (tables : Tables) (spellings : Spellings) (a b : Config) 
     pub transport : Option ℕ
     pub reason : Option ℕ
     pub presentation : Option PresentationReject
-    pub values : List Value
+    pub values : List DataValue
     pub is_it : word ≡ OfAssociation (Refuse transport reason presentation values)
 
   -- ---- CN
@@ -340,7 +340,7 @@ module _ (free : Free) (tables : Tables) (spellings : Spellings) (a b : Config) 
   abbrev pub session : SessionConnect
   session = session_connect (base Initiator)
 
-  abbrev pub values : Way → List Value
+  abbrev pub values : Way → List DataValue
   values way = connect_values (base Initiator) (recovers way)
 
   abbrev held : List SetItem
@@ -627,7 +627,7 @@ module _ (free : Free) (tables : Tables) (spellings : Spellings) (a b : Config) 
         side = side;
       }
 
-  accept-so : (way : Way) (world : World) (body : Body) (s : Accepting) (p : PresentationAccept) (v : List Value) (left : List Message) (peer : Body) (to_peer : List Message) (ledger : Ledger) → AreJoint world Initiator body (Session (OfAssociation (Accept s p v)) ∷ left) peer to_peer ledger → Good Initiator body → At (asks way) Carrying body → has_version_two s.version ≡ true → has_units (needed_units Reliable) (selected_with Reliable s.requirements) ≡ true → selected_with Reliable s.requirements ≡ proposed_units Reliable → manages_with p.requirements (selected_with Reliable s.requirements) ≡ true → accept_fault (base Initiator) p v ≡ None → Answered StandsOrOver body Initiator (OfAssociation (Accept s p v)) left peer to_peer ledger
+  accept-so : (way : Way) (world : World) (body : Body) (s : Accepting) (p : PresentationAccept) (v : List DataValue) (left : List Message) (peer : Body) (to_peer : List Message) (ledger : Ledger) → AreJoint world Initiator body (Session (OfAssociation (Accept s p v)) ∷ left) peer to_peer ledger → Good Initiator body → At (asks way) Carrying body → has_version_two s.version ≡ true → has_units (needed_units Reliable) (selected_with Reliable s.requirements) ≡ true → selected_with Reliable s.requirements ≡ proposed_units Reliable → manages_with p.requirements (selected_with Reliable s.requirements) ≡ true → accept_fault (base Initiator) p v ≡ None → Answered StandsOrOver body Initiator (OfAssociation (Accept s p v)) left peer to_peer ledger
   accept-so way world body s p v left peer to_peer ledger j good at version units selected manages none =
       let word : Word = OfAssociation (Accept s p v) in
       let fine_now : word_fault (base Initiator) body word ≡ None = fine (base Initiator) body word (rw (asked-so way body at, version, units) refl) none in
@@ -642,7 +642,7 @@ module _ (free : Free) (tables : Tables) (spellings : Spellings) (a b : Config) 
       subst (λ w. Answered StandsOrOver body Initiator w left peer to_peer ledger) (sym x.is_it)
       (accept-so way world body x.session x.presentation x.values left peer to_peer ledger (subst (λ w. AreJoint world Initiator body (Session w ∷ left) peer to_peer ledger) x.is_it j) good at x.version x.units x.selected x.manages x.no_fault)
 
-  refuse-so : (way : Way) (world : World) (body : Body) (transport reason : Option ℕ) (p : Option PresentationReject) (v : List Value) (left : List Message) (peer : Body) (to_peer : List Message) (ledger : Ledger) → AreJoint world Initiator body (Session (OfAssociation (Refuse transport reason p v)) ∷ left) peer to_peer ledger → Good Initiator body → At (asks way) Carrying body → Answered IsGone body Initiator (OfAssociation (Refuse transport reason p v)) left peer to_peer ledger
+  refuse-so : (way : Way) (world : World) (body : Body) (transport reason : Option ℕ) (p : Option PresentationReject) (v : List DataValue) (left : List Message) (peer : Body) (to_peer : List Message) (ledger : Ledger) → AreJoint world Initiator body (Session (OfAssociation (Refuse transport reason p v)) ∷ left) peer to_peer ledger → Good Initiator body → At (asks way) Carrying body → Answered IsGone body Initiator (OfAssociation (Refuse transport reason p v)) left peer to_peer ledger
   refuse-so way world body transport reason p v left peer to_peer ledger j good at =
       let word : Word = OfAssociation (Refuse transport reason p v) in
       taken-so IsGone (asks way) Carrying world Initiator body word model_refuse left peer to_peer ledger (asks-alive way) refl (carrying-not_over way) j at (λ message means. means) tt

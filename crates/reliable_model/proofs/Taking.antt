@@ -11,7 +11,7 @@ use Rattle.dialogue.specs.declared.config.Mode.TheVariants.{Reliable}
 use Rattle.dialogue.specs.declared.config.Phase.TheVariants.{Up, Releasing, Over}
 use Rattle.dialogue.specs.declared.indication.Indication.{Indication}
 use Rattle.end_rules.specs.Base.{Base, Spellings, Item, Whole}
-use Rattle.end_rules.specs.Messages.{Value, Word, OfAssociation, OfData, OfMarks, OfActivities, Finish, Disconnect, Abort}
+use Rattle.end_rules.specs.Messages.{DataValue, Word, OfAssociation, OfData, OfMarks, OfActivities, Finish, Disconnect, Abort}
 use Rattle.end_rules.specs.Messages.{Values, AlterContext, AlterContextAck, Part, Mark, MarkAck, Please, GiveConfirm, GiveAck}
 use Rattle.end_rules.specs.Messages.{Start, Resume, End, EndAck, Interrupt, InterruptAck, Discard, DiscardAck}
 use Rattle.end_rules.specs.Messages.{Message, Session, unit_of}
@@ -108,11 +108,11 @@ reacts-so base body word live = reacts-alive (at Reliable base) body word live �
 between-same : (shared : Shared) (theirs : worlds.Shared) → Same shared theirs → Same (record shared { set = shared.inter }) (record theirs { set = theirs.inter })
 between-same shared theirs s = record { set = s.inter; inter = s.inter; saved = s.saved; of_a = s.of_a; of_b = s.of_b }
 
-first-part : List Value → List ℕ
+first-part : List DataValue → List ℕ
 first-part [] = []
 first-part (value ∷ values) = part_in value.content
 
-abbrev part_value : ℕ → Option Pair → List ℕ → Value
+abbrev part_value : ℕ → Option Pair → List ℕ → DataValue
 part_value id pair octets = record { id = id; pair = pair; content = Part octets }
 
 same-parts : (x y : ℕ) (p q : Option Pair) (octets others : List ℕ) → part_value x p octets ∷ [] ≡ part_value y q others ∷ [] → octets ≡ others
@@ -591,7 +591,7 @@ module _ (free : Free) (tables : Tables) (spellings : Spellings) (a b : Config) 
 
   -- ---- a part
 
-  values-so : (world : World) (role : Role) (body : Body) (values : List Value) (left : List Message) (peer : Body) (to_peer : List Message) (ledger : Ledger) → AreJoint world role body (Session (OfData (Values values)) ∷ left) peer to_peer ledger → IsSoundBody Reliable (base role) body → IsSending (base role) body.sending → Live body → is_purged (is_initiator role) body.link.awaits (unit_of (OfData (Values values))) ≡ false → Reacted role body (OfData (Values values)) left peer to_peer ledger
+  values-so : (world : World) (role : Role) (body : Body) (values : List DataValue) (left : List Message) (peer : Body) (to_peer : List Message) (ledger : Ledger) → AreJoint world role body (Session (OfData (Values values)) ∷ left) peer to_peer ledger → IsSoundBody Reliable (base role) body → IsSending (base role) body.sending → Live body → is_purged (is_initiator role) body.link.awaits (unit_of (OfData (Values values))) ≡ false → Reacted role body (OfData (Values values)) left peer to_peer ledger
   values-so world role body values left peer to_peer ledger j sound h live here =
       let n = next-word proposed (base Initiator) (OfData (Values values)) left (flight_to setup role world) j.ends.own.flight in
       let word : Word = OfData (Values (part_value n.means.id n.means.pair n.means.octets ∷ [])) in

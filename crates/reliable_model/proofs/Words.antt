@@ -5,7 +5,7 @@ use Rattle.osi_base.specs.declared.words.Proposal.{Proposal}
 use Rattle.dialogue.specs.declared.config.Mode.TheVariants.{Reliable}
 use Rattle.dialogue.specs.declared.config.Phase.TheVariants.{Up, Releasing, Over}
 use Rattle.end_rules.specs.Base.{Base}
-use Rattle.end_rules.specs.Messages.{Value, Word, AssociationWord, MarkWord, OfAssociation, OfData, OfMarks, OfActivities}
+use Rattle.end_rules.specs.Messages.{DataValue, Word, AssociationWord, MarkWord, OfAssociation, OfData, OfMarks, OfActivities}
 use Rattle.end_rules.specs.Messages.{Finish, Disconnect, Abort, Values, AlterContext, AlterContextAck, Mark, MarkAck, Please}
 use Rattle.end_rules.specs.Messages.{GiveConfirm, GiveAck, Start, Resume, End, EndAck, Interrupt, InterruptAck, Discard}
 use Rattle.end_rules.specs.Messages.{DiscardAck, Message, Transport, Session, unit_of}
@@ -24,7 +24,7 @@ use Rattle.end_model.specs.Takings.{IsJoined}
 use Rattle.end_model.proofs.PurgedWords as words
 
 -- a plea that says its priority
-pub record IsPlea (values : List Value) : Type 0 where
+pub record IsPlea (values : List DataValue) : Type 0 where
   pub priority : ℕ
   pub is_it : priority_in values ≡ Some priority
 

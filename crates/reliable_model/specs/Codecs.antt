@@ -2,10 +2,10 @@
 use Rattle.std.specs.Prelude.{◌≡◌, ℕ, ◌≤◌, List, length, true, false, Some, Ok}
 use Rattle.osi_base.specs.declared.syntax.Pair.{Pair}
 use Rattle.osi_base.specs.declared.words.SetItem.{SetItem}
-use Rattle.osi_base.specs.Limits.{most_transferred}
+use Rattle.osi_base.specs.Limits.{most_transferred, highest_context}
 use Rattle.stub_tables.specs.declared.apdu.Apdu.{Apdu}
 use Rattle.stub_tables.specs.declared.apdu.Apdu.TheVariants as apdus
-use Rattle.end_rules.specs.Base.{Base, Item, Whole, highest_context}
+use Rattle.end_rules.specs.Base.{Base, Item, Whole}
 use Rattle.end_rules.specs.Sets.{pair_of}
 use Rattle.end_rules.specs.Invoking.{is_too_long}
 use Rattle.agreement.specs.Messages as model

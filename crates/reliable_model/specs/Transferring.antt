@@ -1,5 +1,6 @@
 -- What holds of the transfers of every end of reliable mode: what waits, and how far the current transfer is.
 use Rattle.std.specs.Prelude.{◌≡◌, ℕ, suc, ◌*◌, ◌≤◌, ◌⊎◌, List, [], ◌∷◌, ◌++◌, length, Option, Some, None}
+use Rattle.osi_base.specs.Limits.{checkpoint_unit}
 use Rattle.stub_tables.specs.declared.apdu.Apdu.{Apdu}
 use Rattle.end_rules.specs.Base.{Base}
 use Rattle.end_rules.specs.State.{Piece, Octets, Marked, Encoded, Transfer, Queued, Sending, joined, highest}
@@ -13,14 +14,14 @@ AreTransferable base (item ∷ items) = IsTransferable base item.apdu × AreTran
 abbrev pub Spaced : List Piece → Type 0
 Spaced [] = Unit {0}
 Spaced (Octets octets ∷ pieces) = Spaced pieces
-Spaced (Marked number set ∷ pieces) = (number * 1024 ≤ length (joined pieces)) × Spaced pieces
+Spaced (Marked number set ∷ pieces) = (number * checkpoint_unit ≤ length (joined pieces)) × Spaced pieces
 
 -- the newest part is full, or the last
 abbrev pub IsFull : List Piece → ℕ → Type 0
 IsFull [] all = Unit {0}
 IsFull (Marked number set ∷ pieces) all = Unit {0}
 IsFull (Octets octets ∷ pieces) all =
-    (suc (highest pieces) * 1024 ≤ length (joined pieces ++ octets)) ⊎ (length (joined pieces ++ octets) ≡ all)
+    (suc (highest pieces) * checkpoint_unit ≤ length (joined pieces ++ octets)) ⊎ (length (joined pieces ++ octets) ≡ all)
 
 -- what was sent is a beginning of the encoded item
 pub record IsBeginning (base : Base) (apdu : Apdu) (pieces : List Piece) (encoded : Encoded) : Type 0 where

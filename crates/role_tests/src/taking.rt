@@ -13,7 +13,7 @@ use apdu_codec::{ApduHead, ApduKind, read_apdu, write_apdu};
 use asn1_types::{Node, Val};
 use linked_ops::{Forest, Key};
 use osi_base::{NoMemory, Problem, Syntax};
-use rose_roles::{Called, Invoker, Performer, RoseTaken, refused};
+use rose_roles::{InvokedWith, Invoker, Performer, RoseTaken, refused};
 use std::alloc::Global;
 use std::test::Fail;
 use stub_tables::{Apdu, Tables};
@@ -293,7 +293,7 @@ fn with_open(alloc: Global, place: Option<u32>) -> Result<Both, NoMemory>
     let Some(operation) = place else {
         return Ok(both);
     };
-    let called = Called {
+    let called = InvokedWith {
         operation,
         context: 5,
     };
@@ -413,7 +413,7 @@ fn is_peer(both: &Both, peer: Option<(u32, bool)>) -> bool {
             let parent = both.forest.parent(Key { own: false, id: 1 });
             both.performer.open_count() == 1
                 && called
-                    == Called {
+                    == InvokedWith {
                         operation,
                         context: 7,
                     }

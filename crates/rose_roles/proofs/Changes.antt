@@ -13,15 +13,15 @@ use Rattle.linked_ops.specs.Opening.{IsOpened}
 use Rattle.linked_ops.specs.Keys.{same_bool, same_key}
 use Rattle.linked_ops.specs.Entries.{Entry, is_open, closed}
 use Rattle.end_rules.specs.State as ends
-use Rattle.rose_roles.specs.declared.called.Called.{Called}
+use Rattle.rose_roles.specs.declared.invoked_with.InvokedWith.{InvokedWith}
 use Rattle.rose_roles.specs.Calls.{Kept, called, key_of, side, operation_or_none, context_or_none, parent_in, AreOpen, opens_in}
 use Rattle.rose_roles.proofs.Keys.{id_is, ids_are, key_is, keys_are, bool_cases, or_true, AreApart, open_closed, shut_closed}
 use Rattle.rose_roles.proofs.Opens.{same_opens, snoc, closing}
 
 -- ---- taking a key away again
 
-module _ (id : ℤ) (v : Called) where
-  by_order : (e : ℤ × Called) (es : Kept) → called id (e ∷ es) ≡ None → (called id es ≡ None → remove_entry (is_at (int_cmp id)) (insert_entry int_cmp es id v) ≡ es) → (o : Ordering) → int_cmp id e.0 ≡ o
+module _ (id : ℤ) (v : InvokedWith) where
+  by_order : (e : ℤ × InvokedWith) (es : Kept) → called id (e ∷ es) ≡ None → (called id es ≡ None → remove_entry (is_at (int_cmp id)) (insert_entry int_cmp es id v) ≡ es) → (o : Ordering) → int_cmp id e.0 ≡ o
       → remove_entry (is_at (int_cmp id)) (match_ordering o ((id, v) ∷ e ∷ es) ((e.0, v) ∷ es) (e ∷ insert_entry int_cmp es id v)) ≡ e ∷ es
   by_order e es h again Less o = ap (λ (b : Bool). cond b (e ∷ es) ((id, v) ∷ remove_entry (is_at (int_cmp id)) (e ∷ es))) (id_is id)
   by_order e es h again Equal o =
@@ -68,7 +68,7 @@ open_snoc k (x ∷ es) e = ap (λ (b : Bool). same_key x.0 k || b) (open_snoc k 
 
 -- ---- an invocation is opened
 
-module _ (own : Bool) (id : ℤ) (call : Called) (kept more : Kept) (updated : (q : ℤ) → called q more ≡ cond (int_eq id q) (Some call) (called q kept)) where
+module _ (own : Bool) (id : ℤ) (call : InvokedWith) (kept more : Kept) (updated : (q : ℤ) → called q more ≡ cond (int_eq id q) (Some call) (called q kept)) where
   pub new : called id more ≡ Some call
   new = updated id ∙ ap (λ (b : Bool). cond b (Some call) (called id kept)) (id_is id)
 
@@ -100,7 +100,7 @@ parent_is own None = refl
 parent_is true (Some l) = refl
 parent_is false (Some l) = refl
 
-module _ (own : Bool) (id : ℤ) (call : Called) (linked : Option ℤ) (i p j r : Kept) where
+module _ (own : Bool) (id : ℤ) (call : InvokedWith) (linked : Option ℤ) (i p j r : Kept) where
   abbrev entry : Entry
   entry = (key_of own id, option_map (key_of (not own)) linked)
 
@@ -113,11 +113,11 @@ module _ (own : Bool) (id : ℤ) (call : Called) (linked : Option ℤ) (i p j r 
       snoc j r es entry ∙ (λ k. x k ++ record { own = own; id = id; operation = operation_or_none (new k); context = context_or_none (new k); parent = y k } ∷ [])
 
 -- the sides of a change at one end
-pub own_side : (id : ℤ) (call : Called) (kept more p : Kept) → ((q : ℤ) → int_eq id q ≡ false → called q more ≡ called q kept) → (b : Bool) (q : ℤ) → same_key (key_of b q) (key_of true id) ≡ false → called q (side b more p) ≡ called q (side b kept p)
+pub own_side : (id : ℤ) (call : InvokedWith) (kept more p : Kept) → ((q : ℤ) → int_eq id q ≡ false → called q more ≡ called q kept) → (b : Bool) (q : ℤ) → same_key (key_of b q) (key_of true id) ≡ false → called q (side b more p) ≡ called q (side b kept p)
 own_side id call kept more p h true q n = h q (ids_apart q id n)
 own_side id call kept more p h false q n = refl
 
-pub peer_side : (id : ℤ) (call : Called) (i kept more : Kept) → ((q : ℤ) → int_eq id q ≡ false → called q more ≡ called q kept) → (b : Bool) (q : ℤ) → same_key (key_of b q) (key_of false id) ≡ false → called q (side b i more) ≡ called q (side b i kept)
+pub peer_side : (id : ℤ) (call : InvokedWith) (i kept more : Kept) → ((q : ℤ) → int_eq id q ≡ false → called q more ≡ called q kept) → (b : Bool) (q : ℤ) → same_key (key_of b q) (key_of false id) ≡ false → called q (side b i more) ≡ called q (side b i kept)
 peer_side id call i kept more h true q n = refl
 peer_side id call i kept more h false q n = h q (ids_apart q id n)
 
@@ -157,11 +157,11 @@ refused_same k above old new refusals.NoMemory h = h
 pub shut_by : (own : Bool) (id : ℤ) (es : List Entry) (kept : Kept) → AreOpen own es kept → is_open (key_of own id) es ≡ false → called id kept ≡ None
 shut_by own id es kept h n = none (called id kept) (sym (h.each id) ∙ n)
   where
-    none : (c : Option Called) → is_some c ≡ false → c ≡ None
+    none : (c : Option InvokedWith) → is_some c ≡ false → c ≡ None
     none None e = refl
     none (Some c) e = absurd cc
 
-module _ (id : ℤ) (call : Called) (linked : Option ℤ) (kept more : Kept) (updated : (q : ℤ) → called q more ≡ cond (int_eq id q) (Some call) (called q kept)) (es fs : List Entry) where
+module _ (id : ℤ) (call : InvokedWith) (linked : Option ℤ) (kept more : Kept) (updated : (q : ℤ) → called q more ≡ cond (int_eq id q) (Some call) (called q kept)) (es fs : List Entry) where
   module _ (placed : fs ≡ es ++ (key_of true id, option_map (key_of false) linked) ∷ []) where
     pub opens_own : (performed : Kept) (z : ℤ) → id ≡ z → is_open (key_of true z) es ≡ false
         → opens_in fs more performed ≡ opens_in es kept performed ++ record { own = true; id = z; operation = call.operation; context = call.context; parent = linked } ∷ []

@@ -10,7 +10,7 @@ use Rattle.std.specs.BTreeMap.{is_at}
 use Rattle.linked_ops.specs.Keys.{same_bool, same_key}
 use Rattle.linked_ops.specs.Entries.{Entry, is_open}
 use Rattle.end_rules.specs.State as ends
-use Rattle.rose_roles.specs.declared.called.Called.{Called}
+use Rattle.rose_roles.specs.declared.invoked_with.InvokedWith.{InvokedWith}
 use Rattle.rose_roles.specs.Calls.{Kept, called, key_of, AreOpen, open_call, opens_in}
 use Rattle.rose_roles.proofs.Keys.{id_is, ids_are, bool_cases, or_rest, AreApart, bools_are}
 
@@ -24,16 +24,16 @@ without id kept = remove_entry (is_at (int_cmp id)) kept
 
 -- ---- without an identifier
 
-at_head : (id : ℤ) (c : ℤ × Called) (cs : Kept) → is_at (int_cmp id) c.0 ≡ true → without id (c ∷ cs) ≡ cs
+at_head : (id : ℤ) (c : ℤ × InvokedWith) (cs : Kept) → is_at (int_cmp id) c.0 ≡ true → without id (c ∷ cs) ≡ cs
 at_head id c cs t = ap (λ (b : Bool). cond b cs (c ∷ without id cs)) t
 
-past_head : (id : ℤ) (c : ℤ × Called) (cs : Kept) → is_at (int_cmp id) c.0 ≡ false → without id (c ∷ cs) ≡ c ∷ without id cs
+past_head : (id : ℤ) (c : ℤ × InvokedWith) (cs : Kept) → is_at (int_cmp id) c.0 ≡ false → without id (c ∷ cs) ≡ c ∷ without id cs
 past_head id c cs f = ap (λ (b : Bool). cond b cs (c ∷ without id cs)) f
 
-called_head : (id : ℤ) (c : ℤ × Called) (cs : Kept) → is_at (int_cmp id) c.0 ≡ true → called id (c ∷ cs) ≡ Some c.1
+called_head : (id : ℤ) (c : ℤ × InvokedWith) (cs : Kept) → is_at (int_cmp id) c.0 ≡ true → called id (c ∷ cs) ≡ Some c.1
 called_head id c cs t = ap (λ (b : Bool). cond b (Some c.1) (called id cs)) t
 
-called_past : (id : ℤ) (c : ℤ × Called) (cs : Kept) → is_at (int_cmp id) c.0 ≡ false → called id (c ∷ cs) ≡ called id cs
+called_past : (id : ℤ) (c : ℤ × InvokedWith) (cs : Kept) → is_at (int_cmp id) c.0 ≡ false → called id (c ∷ cs) ≡ called id cs
 called_past id c cs f = ap (λ (b : Bool). cond b (Some c.1) (called id cs)) f
 
 gone : (id : ℤ) (kept : Kept) → Once kept → called id (without id kept) ≡ None
@@ -50,9 +50,9 @@ others id q (c ∷ cs) n =
     (λ t.
     let d : is_at (int_cmp q) c.0 ≡ false = subst (λ (z : ℤ). int_eq q z ≡ false) (ids_are id c.0 t) n in
     ap (called q) (at_head id c cs t) ∙ sym (called_past q c cs d))
-    (λ f. ap (called q) (past_head id c cs f) ∙ ap (λ (x : Option Called). cond (is_at (int_cmp q) c.0) (Some c.1) x) (others id q cs n))
+    (λ f. ap (called q) (past_head id c cs f) ∙ ap (λ (x : Option InvokedWith). cond (is_at (int_cmp q) c.0) (Some c.1) x) (others id q cs n))
 
-fewer : (id : ℤ) (kept : Kept) (v : Called) → called id kept ≡ Some v → suc (length (without id kept)) ≡ length kept
+fewer : (id : ℤ) (kept : Kept) (v : InvokedWith) → called id kept ≡ Some v → suc (length (without id kept)) ≡ length kept
 fewer id [] v e = absurd cc
 fewer id (c ∷ cs) v e =
     bool_cases (is_at (int_cmp id) c.0)
@@ -76,7 +76,7 @@ none_kept [] h = refl
 none_kept (c ∷ cs) h =
     let x : false ≡ true = h c.0 ∙ ap is_some (called_head c.0 c cs (id_is c.0)) in absurd cc
 
-is_some_of : (o : Option Called) → is_some o ≡ true → (v : Called) × (o ≡ Some v)
+is_some_of : (o : Option InvokedWith) → is_some o ≡ true → (v : InvokedWith) × (o ≡ Some v)
 is_some_of None e = absurd cc
 is_some_of (Some v) e = (v, refl)
 

@@ -13,7 +13,7 @@ use Rattle.end_rules.specs.Base.{Base, Carried, Absent, Spelled, Unspelled, Invo
 use Rattle.end_rules.specs.State as ends
 use Rattle.end_rules.specs.Invoking.{is_linked_to, operation_of}
 use Rattle.end_rules.specs.Hearing as rules
-use Rattle.rose_roles.specs.declared.called.Called.{Called}
+use Rattle.rose_roles.specs.declared.invoked_with.InvokedWith.{InvokedWith}
 use Rattle.rose_roles.specs.declared.apdu_problems.Judged as judgeds
 use Rattle.rose_roles.specs.declared.apdu_problems.Judged.TheVariants as judged
 use Rattle.rose_roles.specs.declared.taken.RoseTaken.TheVariants as taken
@@ -26,13 +26,13 @@ use Rattle.rose_roles.proofs.Counts.{Once, counts}
 
 -- ---- an open invocation is the one that is kept
 
-abbrev pub Matches : Option ends.OpenCall → Option Called → Type 0
+abbrev pub Matches : Option ends.OpenCall → Option InvokedWith → Type 0
 Matches None None = Unit {0}
 Matches (Some o) (Some c) = o.operation ≡ c.operation
 Matches None (Some c) = ⊥
 Matches (Some o) None = ⊥
 
-matching_by : (b : Bool) (id : ℤ) (es : List Entry) (i p : Kept) (c : Option Called) → c ≡ called id (side b i p) → is_open (key_of b id) es ≡ is_some c → Matches (ends.opened_with b id (opens_in es i p)) c
+matching_by : (b : Bool) (id : ℤ) (es : List Entry) (i p : Kept) (c : Option InvokedWith) → c ≡ called id (side b i p) → is_open (key_of b id) es ≡ is_some c → Matches (ends.opened_with b id (opens_in es i p)) c
 matching_by b id es i p None is e = subst (λ (x : Option ends.OpenCall). Matches x None) (sym (not_found i p b id es e)) tt
 matching_by b id es i p (Some c) is e =
     let f = found i p b id es e in
@@ -41,13 +41,13 @@ matching_by b id es i p (Some c) is e =
 pub matching : (b : Bool) (id : ℤ) (es : List Entry) (i p : Kept) → AreOpen b es (side b i p) → Matches (ends.opened_with b id (opens_in es i p)) (called id (side b i p))
 matching b id es i p h = matching_by b id es i p (called id (side b i p)) refl (h.each id)
 
-there_both : (o : Option ends.OpenCall) (c : Option Called) → Matches o c → is_some o ≡ is_some c
+there_both : (o : Option ends.OpenCall) (c : Option InvokedWith) → Matches o c → is_some o ≡ is_some c
 there_both None None m = refl
 there_both (Some o) (Some c) m = refl
 there_both None (Some c) m = absurd m
 there_both (Some o) None m = absurd m
 
-operation_both : (base : Base) (o : Option ends.OpenCall) (c : Option Called) → Matches o c → operation_of base o ≡ judging.operation_called base.tables c
+operation_both : (base : Base) (o : Option ends.OpenCall) (c : Option InvokedWith) → Matches o c → operation_of base o ≡ judging.operation_called base.tables c
 operation_both base None None m = refl
 operation_both base (Some o) (Some c) m = ap (operation_at base.tables) m
 operation_both base None (Some c) m = absurd m
@@ -130,7 +130,7 @@ not_if : (b : Bool) (n : ℕ) → rules.problem_if b n ≡ None → b ≡ false
 not_if true n e = absurd cc
 not_if false n e = refl
 
-no_some : (c : Option Called) → is_some c ≡ false → c ≡ None
+no_some : (c : Option InvokedWith) → is_some c ≡ false → c ≡ None
 no_some None e = refl
 no_some (Some c) e = absurd cc
 

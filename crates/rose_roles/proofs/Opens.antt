@@ -5,11 +5,11 @@ use Rattle.linked_ops.specs.declared.key.Key.{Key}
 use Rattle.linked_ops.specs.Keys.{same_bool, same_key}
 use Rattle.linked_ops.specs.Entries.{Entry, is_open, orphaned, without, closed}
 use Rattle.end_rules.specs.State as ends
-use Rattle.rose_roles.specs.declared.called.Called.{Called}
+use Rattle.rose_roles.specs.declared.invoked_with.InvokedWith.{InvokedWith}
 use Rattle.rose_roles.specs.Calls.{Kept, called, key_of, side, operation_or_none, context_or_none, parent_in, open_call, opens_in}
 use Rattle.rose_roles.proofs.Keys.{key_is, keys_are, bool_cases, or_true, or_first, or_none, or_rest, AreApart}
 
-abbrev pub call_with : Entry → Option Called → ends.OpenCall
+abbrev pub call_with : Entry → Option InvokedWith → ends.OpenCall
 call_with e c = record { own = e.0.own; id = e.0.id; operation = operation_or_none c; context = context_or_none c; parent = parent_in e.0.own e.1 }
 
 whose : (b o : Bool) → cond b o (not o) ≡ same_bool o b
@@ -68,7 +68,7 @@ child (Some parent) t = t
 abbrev rooted : ends.OpenCall → Bool → Bool → ends.OpenCall
 rooted o b t = cond (child o.parent t && not (cond b o.own (not o.own))) (record o { parent = None }) o
 
-orphan_by : (own above b t : Bool) (id to : ℤ) (c : Option Called) → call_with (K own id, cond (same_bool above b && t) None (Some (K above to))) c ≡ rooted (call_with (K own id, Some (K above to)) c) b t
+orphan_by : (own above b t : Bool) (id to : ℤ) (c : Option InvokedWith) → call_with (K own id, cond (same_bool above b && t) None (Some (K above to))) c ≡ rooted (call_with (K own id, Some (K above to)) c) b t
 orphan_by true true true true id to c = refl
 orphan_by true true true false id to c = refl
 orphan_by true true false true id to c = refl
@@ -86,7 +86,7 @@ orphan_by false false true false id to c = refl
 orphan_by false false false true id to c = refl
 orphan_by false false false false id to c = refl
 
-orphan_under : (own above b : Bool) (id to key : ℤ) (c : Option Called) → call_with (orphaned (K b key) (K own id, Some (K above to))) c ≡ ends.orphaned b key (call_with (K own id, Some (K above to)) c)
+orphan_under : (own above b : Bool) (id to key : ℤ) (c : Option InvokedWith) → call_with (orphaned (K b key) (K own id, Some (K above to))) c ≡ ends.orphaned b key (call_with (K own id, Some (K above to)) c)
 orphan_under true true true id to key c = orphan_by true true true (int_eq to key) id to c
 orphan_under true true false id to key c = orphan_by true true false (int_eq to key) id to c
 orphan_under true false true id to key c = orphan_by true false true (int_eq to key) id to c
@@ -96,7 +96,7 @@ orphan_under false true false id to key c = orphan_by false true false (int_eq t
 orphan_under false false true id to key c = orphan_by false false true (int_eq to key) id to c
 orphan_under false false false id to key c = orphan_by false false false (int_eq to key) id to c
 
-orphan : (k : Key) (above : Option Key) (b : Bool) (key : ℤ) (c : Option Called) → call_with (orphaned (K b key) (k, above)) c ≡ ends.orphaned b key (call_with (k, above) c)
+orphan : (k : Key) (above : Option Key) (b : Bool) (key : ℤ) (c : Option InvokedWith) → call_with (orphaned (K b key) (k, above)) c ≡ ends.orphaned b key (call_with (k, above) c)
 orphan k None b key c = refl
 orphan k (Some above) b key c = orphan_under k.own above.own b k.id above.id key c
 

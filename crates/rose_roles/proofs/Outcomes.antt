@@ -20,7 +20,7 @@ use Rattle.linked_ops.specs.Entries.{Entry}
 use Rattle.end_rules.specs.Base.{Base, Carried, BadReject, InvokeHead, ResultHead, ErrorHead, RejectHead}
 use Rattle.end_rules.specs.State as ends
 use Rattle.end_rules.specs.Hearing as rules
-use Rattle.rose_roles.specs.declared.called.Called.{Called}
+use Rattle.rose_roles.specs.declared.invoked_with.InvokedWith.{InvokedWith}
 use Rattle.rose_roles.specs.declared.apdu_problems.Judged as judgeds
 use Rattle.rose_roles.specs.declared.apdu_problems.Judged.TheVariants as judged
 use Rattle.rose_roles.specs.declared.taken.RoseTaken.TheVariants as taken
@@ -126,12 +126,12 @@ module _ (base : Base) (es : List Entry) (own : Invoking) (performed : Kept) (mi
   none_open None m = refl
   none_open (Some o) m = absurd m
 
-  one_open : (o : Option ends.OpenCall) (c : Called) → Matches o (Some c) → (x : ends.OpenCall) × (o ≡ Some x) × (x.operation ≡ c.operation)
+  one_open : (o : Option ends.OpenCall) (c : InvokedWith) → Matches o (Some c) → (x : ends.OpenCall) × (o ≡ Some x) × (x.operation ≡ c.operation)
   one_open None c m = absurd m
   one_open (Some x) c m = (x, refl, m)
 
-  matches : (c : Option Called) → called id own.kept ≡ c → Matches the_open c
-  matches c e = subst (λ (x : Option Called). Matches the_open x) e (matching true id es own.kept performed mine)
+  matches : (c : Option InvokedWith) → called id own.kept ≡ c → Matches the_open c
+  matches c e = subst (λ (x : Option InvokedWith). Matches the_open x) e (matching true id es own.kept performed mine)
 
   module _ (v : Carried) where
     pub shut_result : (code : Option Code) → called id own.kept ≡ None → heard_with calls (taken.Reject (Some id) (rules.problem_with problems.Result 0)) ≡ rules.hear base calls context (ResultHead id code v)
@@ -148,7 +148,7 @@ module _ (base : Base) (es : List Entry) (own : Invoking) (performed : Kept) (mi
     result_by_judged p (judged.Wrong n) h =
         sym (ap (λ (x : Option ℕ). rules.unless_problem x (rules.rejected (ends.close true id calls) (Some id) problems.Result) (rules.told (ends.close true id calls) (indications.Result id (rules.value_in v)))) h)
 
-    pub heard_result : (t : Tables) → base.tables ≡ t → (c : Called) → called id own.kept ≡ Some c → (code : Option Code) (j : judgeds.Judged)
+    pub heard_result : (t : Tables) → base.tables ≡ t → (c : InvokedWith) → called id own.kept ≡ Some c → (code : Option Code) (j : judgeds.Judged)
         → judging.IsJudged (judging.result_problem t c.operation (operation_at t c.operation) code v) (rules.value_in v) j
         → heard_with (ends.close true id calls) (result_taken id j) ≡ rules.hear base calls context (ResultHead id code v)
     heard_result t same c e code j h =
@@ -168,7 +168,7 @@ module _ (base : Base) (es : List Entry) (own : Invoking) (performed : Kept) (mi
     error_by_judged error p (judged.Wrong n) h =
         sym (ap (λ (x : Option ℕ). rules.unless_problem x (rules.rejected (ends.close true id calls) (Some id) problems.Error) (rules.error_told (ends.close true id calls) id error v)) h)
 
-    pub heard_error : (t : Tables) → base.tables ≡ t → (c : Called) → called id own.kept ≡ Some c → (code : Code) (error : Option ℕ) → error ≡ error_with t code → (j : judgeds.Judged)
+    pub heard_error : (t : Tables) → base.tables ≡ t → (c : InvokedWith) → called id own.kept ≡ Some c → (code : Code) (error : Option ℕ) → error ≡ error_with t code → (j : judgeds.Judged)
         → judging.IsJudged (judging.error_problem t (operation_at t c.operation) error v) (rules.value_in v) j
         → heard_with (ends.close true id calls) (error_taken id error j) ≡ rules.hear base calls context (ErrorHead id code v)
     heard_error t same c e code error is j h =
@@ -180,7 +180,7 @@ module _ (base : Base) (es : List Entry) (own : Invoking) (performed : Kept) (mi
         error_by_judged error _ j h3 ∙ sym ((λ k. rules.hear_error_of base calls id (m.1 k) (sym x k) v))
 
   -- a reject of an own invocation
-  pub heard_rejected : (problem : Problem) (c : Called) → rules.is_of_invocation problem.kind ≡ true → called id own.kept ≡ Some c
+  pub heard_rejected : (problem : Problem) (c : InvokedWith) → rules.is_of_invocation problem.kind ≡ true → called id own.kept ≡ Some c
       → heard_with (ends.close true id calls) (taken.Rejected id problem) ≡ rules.hear base calls context (RejectHead (Some id) problem)
   heard_rejected problem c e f =
       let m = one_open the_open c (matches (Some c) f) in

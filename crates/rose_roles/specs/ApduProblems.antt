@@ -15,7 +15,7 @@ use Rattle.end_rules.specs.Base.{Carried, Absent, Spelled, Unspelled, most_open}
 use Rattle.end_rules.specs.State.{is_empty}
 use Rattle.end_rules.specs.Invoking.{is_linked_to}
 use Rattle.end_rules.specs.Hearing.{first_problem, problem_if, has_links, is_place}
-use Rattle.rose_roles.specs.declared.called.Called.{Called}
+use Rattle.rose_roles.specs.declared.invoked_with.InvokedWith.{InvokedWith}
 use Rattle.rose_roles.specs.declared.apdu_problems.Judged as judgeds
 use Rattle.rose_roles.specs.declared.apdu_problems.Judged.TheVariants as judged
 use Rattle.rose_roles.specs.Calls.{Kept, called}
@@ -24,12 +24,12 @@ abbrev pub silent : Option Operation → Bool
 silent None = false
 silent (Some operation) = is_silent operation
 
-abbrev pub operation_called : Tables → Option Called → Option Operation
+abbrev pub operation_called : Tables → Option InvokedWith → Option Operation
 operation_called tables None = None
 operation_called tables (Some c) = operation_at tables c.operation
 
 -- the linked invocation is open (5), its operation may be linked to (6), by this one (7)
-abbrev pub link_problem : Option Called → Option Operation → ℕ → Option ℕ
+abbrev pub link_problem : Option InvokedWith → Option Operation → ℕ → Option ℕ
 link_problem parent operation place =
     first_problem (problem_if (not (is_some parent)) 5)
     (first_problem (problem_if (not (has_links operation)) 6)

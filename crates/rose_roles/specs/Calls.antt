@@ -7,14 +7,14 @@ use Rattle.std.specs.BTreeMap.{is_at}
 use Rattle.linked_ops.specs.declared.key.Key.{Key}
 use Rattle.linked_ops.specs.Entries.{Entry, is_open}
 use Rattle.end_rules.specs.State as ends
-use Rattle.rose_roles.specs.declared.called.Called.{Called}
+use Rattle.rose_roles.specs.declared.invoked_with.InvokedWith.{InvokedWith}
 
 -- by rising identifier, each once
 abbrev pub Kept : Type 0
-Kept = List (ℤ × Called)
+Kept = List (ℤ × InvokedWith)
 
 -- what is called under an identifier
-abbrev pub called : ℤ → Kept → Option Called
+abbrev pub called : ℤ → Kept → Option InvokedWith
 called id kept = lookup (is_at (int_cmp id)) kept
 
 -- the own invocations, and how many were made
@@ -34,16 +34,22 @@ key_of own id = record { own = own; id = id }
 pub record AreOpen (own : Bool) (forest : List Entry) (kept : Kept) : Type 0 where
   pub each : (id : ℤ) → is_open (key_of own id) forest ≡ is_some (called id kept)
 
+-- The keys of one end in the forest are its open invocations afterwards, and those of the other end are its open
+-- invocations where they were before.
+pub record KeepsOpen (own : Bool) (before after : List Entry) (kept : Kept) : Type 0 where
+  pub these : AreOpen own after kept
+  pub others : (others : Kept) → AreOpen (not own) before others → AreOpen (not own) after others
+
 -- ---- the open invocations of both ends, in order of opening
 
 abbrev pub side : Bool → Kept → Kept → Kept
 side own invoked performed = if own then invoked else performed
 
-abbrev pub operation_or_none : Option Called → ℕ
+abbrev pub operation_or_none : Option InvokedWith → ℕ
 operation_or_none None = 0
 operation_or_none (Some c) = c.operation
 
-abbrev pub context_or_none : Option Called → ℕ
+abbrev pub context_or_none : Option InvokedWith → ℕ
 context_or_none None = 0
 context_or_none (Some c) = c.context
 

@@ -12,7 +12,7 @@ ghost use Rattle.end_rules.specs.Invoking.{is_linked_to};
 ghost use Rattle.rose_roles.specs.ApduProblems.{silent, operation_called, argument_problem, link_problem, is_right, IsJudged, result_problem, error_problem, known_error_problem};
 ghost use Rattle.rose_roles.specs.Heads.{Carries, use_by, parameter_at, parameter_placed};
 
-use crate::called::Called;
+use crate::invoked_with::InvokedWith;
 use crate::values::allowed;
 use asn1_types::Val;
 use osi_base::{NoMemory, Octets, Syntax};
@@ -65,7 +65,7 @@ pub fn is_linked_to(operation: Option<&Operation>, place: u32) -> bool
 }
 
 /// Why the operation at this place may not be linked to what was called, if it was.
-pub(crate) fn link_problem(tables: &Tables, parent: Option<Called>, place: u32) -> Option<u8>
+pub(crate) fn link_problem(tables: &Tables, parent: Option<InvokedWith>, place: u32) -> Option<u8>
     ensures { result ≡ link_problem parent (operation_called tables.now parent) place }
 {
     let Some(parent) = parent else { return Some(5) };

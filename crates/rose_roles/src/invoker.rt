@@ -3,18 +3,19 @@
 ghost use Rattle.std.specs.Prelude.{◌≡◌, ◌<◌, ◌≤◌, ◌+◌, ℕ, ℤ, pos, List, [], ◌∷◌, ◌++◌, length, None, Some, true, false, IfOk, OnOk, OnErr, is_some};
 ghost use Rattle.std.specs.Option.{option_map};
 ghost use Rattle.std.specs.Ordering.{int_cmp};
+ghost use Rattle.osi_base.specs.Limits.{last_invocation};
 ghost use Rattle.linked_ops.specs.Entries.{Entry, IsForest, is_open, is_open_or_none};
 ghost use Rattle.apdu_spelling.specs.declared.head.ApduKind.TheVariants as kinds;
 ghost use Rattle.stub_tables.specs.Lookup.{error_with};
-ghost use Rattle.end_rules.specs.Base.{Base, ResultHead, ErrorHead, RejectHead, most_open, last_invocation};
+ghost use Rattle.end_rules.specs.Base.{Base, ResultHead, ErrorHead, RejectHead, most_open};
 ghost use Rattle.end_rules.specs.State.{close, opens_of};
 ghost use Rattle.end_rules.specs.Hearing.{hear, is_of_invocation};
 ghost use Rattle.rose_roles.specs.Heads.{is_invocation, reject_by, Carries, use_by, parameter_placed};
 ghost use Rattle.rose_roles.specs.Hearing.{Hears, HearsHead, heard_with};
-ghost use Rattle.rose_roles.specs.Calls.{Kept, Invoking, called, key_of, AreOpen, calls_of, open_call, opens_in};
+ghost use Rattle.rose_roles.specs.Calls.{Kept, Invoking, called, key_of, AreOpen, calls_of, open_call, opens_in, KeepsOpen};
 
 use crate::apdu_problems::{judge_error, judge_result};
-use crate::called::Called;
+use crate::invoked_with::InvokedWith;
 use crate::opening::{called, enter, key_of, leave, own_key};
 use crate::taken::{
     RoseTaken, error_taken, is_of_invocation, own_rejected, rejected, result_taken,
@@ -32,7 +33,7 @@ use stub_tables::{Code, Tables};
 #[derive(Drop)]
 pub struct Invoker {
     alloc: Global,
-    kept: BTreeMap<i64, Called>,
+    kept: BTreeMap<i64, InvokedWith>,
     made: u32,
 }
 
@@ -57,7 +58,7 @@ impl Invoker {
     }
 
     /// What is called under an identifier, where it is open.
-    pub fn called(&self, id: i64) -> Option<Called>
+    pub fn called(&self, id: i64) -> Option<InvokedWith>
         ensures { result ≡ called id self.now.kept }
     {
         called(&self.kept, &id)
@@ -86,7 +87,7 @@ impl Invoker {
     pub fn open(
         &mut self,
         forest: &mut Forest,
-        called: Called,
+        called: InvokedWith,
         linked: Option<i64>,
     ) -> Result<i64, NoMemory>
         requires numbers { self.old.made < last_invocation }
@@ -107,9 +108,7 @@ impl Invoker {
                   } ∷ [];
               made = self.old.made + 1;
             }) }
-        ensures own { AreOpen true forest.new self.new.kept }
-        ensures peer { (performed : Kept) → AreOpen false forest.old performed →
-            AreOpen false forest.new performed }
+        ensures open { KeepsOpen true forest.old forest.new self.new.kept }
         ensures err { OnErr result ((self.new ≡ self.old) × (forest.new ≡ forest.old)) }
     {
         let made = self.made + 1;
@@ -137,7 +136,7 @@ impl Invoker {
     }
 
     /// As `called`.
-    pub fn called_at(&self, id: &i64) -> Option<Called>
+    pub fn called_at(&self, id: &i64) -> Option<InvokedWith>
         ensures { result ≡ called id.now self.now.kept }
     {
         called(&self.kept, id)
@@ -148,9 +147,7 @@ impl Invoker {
         requires { AreOpen true forest.old self.old.kept }
         ensures closed { (performed : Kept) → calls_of forest.new self.new performed
             ≡ close true id.now (calls_of forest.old self.old performed) }
-        ensures own { AreOpen true forest.new self.new.kept }
-        ensures peer { (performed : Kept) → AreOpen false forest.old performed →
-            AreOpen false forest.new performed }
+        ensures open { KeepsOpen true forest.old forest.new self.new.kept }
     {
         forest.is_forest();
         let key = key_of(true, id);
@@ -170,9 +167,7 @@ impl Invoker {
         ensures heard { IfOk result (λ taken. (performed : Kept) (context : ℕ) →
             Hears tables.now syntax context head (calls_of forest.old self.old performed)
             (calls_of forest.new self.new performed) taken) }
-        ensures own { AreOpen true forest.new self.new.kept }
-        ensures peer { (performed : Kept) → AreOpen false forest.old performed →
-            AreOpen false forest.new performed }
+        ensures open { KeepsOpen true forest.old forest.new self.new.kept }
         ensures err { OnErr result ((self.new ≡ self.old) × (forest.new ≡ forest.old)) }
     {
         let Some(id) = &head.id else {
@@ -194,7 +189,7 @@ impl Invoker {
         syntax: Syntax,
         tables: &Tables,
         id: &i64,
-        call: Called,
+        call: InvokedWith,
         head: &ApduHead,
     ) -> Result<RoseTaken, NoMemory>
         requires call { called id.now self.old.kept ≡ Some call }
@@ -205,9 +200,7 @@ impl Invoker {
             (use_by tables.now kinds.Result head.now.code) head.now.rest)
             (calls_of forest.old self.old performed) (calls_of forest.new self.new performed)
             taken) }
-        ensures own { AreOpen true forest.new self.new.kept }
-        ensures peer { (performed : Kept) → AreOpen false forest.old performed →
-            AreOpen false forest.new performed }
+        ensures open { KeepsOpen true forest.old forest.new self.new.kept }
         ensures err { OnErr result ((self.new ≡ self.old) × (forest.new ≡ forest.old)) }
     {
         let judged = judge_result(
@@ -236,9 +229,7 @@ impl Invoker {
         ensures heard { IfOk result (λ taken. (performed : Kept) (context : ℕ) →
             Hears tables.now syntax context head (calls_of forest.old self.old performed)
             (calls_of forest.new self.new performed) taken) }
-        ensures own { AreOpen true forest.new self.new.kept }
-        ensures peer { (performed : Kept) → AreOpen false forest.old performed →
-            AreOpen false forest.new performed }
+        ensures open { KeepsOpen true forest.old forest.new self.new.kept }
         ensures err { OnErr result ((self.new ≡ self.old) × (forest.new ≡ forest.old)) }
     {
         let Some(id) = &head.id else {
@@ -263,7 +254,7 @@ impl Invoker {
         syntax: Syntax,
         tables: &Tables,
         id: &i64,
-        call: Called,
+        call: InvokedWith,
         code: &Code,
         head: &ApduHead,
     ) -> Result<RoseTaken, NoMemory>
@@ -275,9 +266,7 @@ impl Invoker {
             (parameter_placed tables.now (error_with tables.now code.now)) head.now.rest)
             (calls_of forest.old self.old performed) (calls_of forest.new self.new performed)
             taken) }
-        ensures own { AreOpen true forest.new self.new.kept }
-        ensures peer { (performed : Kept) → AreOpen false forest.old performed →
-            AreOpen false forest.new performed }
+        ensures open { KeepsOpen true forest.old forest.new self.new.kept }
         ensures err { OnErr result ((self.new ≡ self.old) × (forest.new ≡ forest.old)) }
     {
         let error = tables.error_with(code);
@@ -305,9 +294,7 @@ impl Invoker {
         ensures heard { (performed : Kept) (context : ℕ) (base : Base) →
             heard_with (calls_of forest.new self.new performed) result
             ≡ hear base (calls_of forest.old self.old performed) context (reject_by id problem) }
-        ensures own { AreOpen true forest.new self.new.kept }
-        ensures peer { (performed : Kept) → AreOpen false forest.old performed →
-            AreOpen false forest.new performed }
+        ensures open { KeepsOpen true forest.old forest.new self.new.kept }
     {
         let Some(problem) = problem else {
             return RoseTaken::BadReject;
@@ -325,9 +312,7 @@ impl Invoker {
         ensures heard { (performed : Kept) (context : ℕ) (base : Base) →
             heard_with (calls_of forest.new self.new performed) result
             ≡ hear base (calls_of forest.old self.old performed) context (RejectHead id problem) }
-        ensures own { AreOpen true forest.new self.new.kept }
-        ensures peer { (performed : Kept) → AreOpen false forest.old performed →
-            AreOpen false forest.new performed }
+        ensures open { KeepsOpen true forest.old forest.new self.new.kept }
     {
         let Some(named) = &id else {
             return RoseTaken::RejectTaken { id, problem };
@@ -356,9 +341,7 @@ impl Invoker {
         ensures heard { IfOk result (λ taken. (performed : Kept) (context : ℕ) →
             Hears tables.now syntax context head (calls_of forest.old self.old performed)
             (calls_of forest.new self.new performed) taken) }
-        ensures own { AreOpen true forest.new self.new.kept }
-        ensures peer { (performed : Kept) → AreOpen false forest.old performed →
-            AreOpen false forest.new performed }
+        ensures open { KeepsOpen true forest.old forest.new self.new.kept }
         ensures err { OnErr result ((self.new ≡ self.old) × (forest.new ≡ forest.old)) }
     {
         match head.kind {

@@ -1,10 +1,10 @@
 //! The two sides of remote operations (X.880 8, 9; X.882 9): the invoker, which takes outcomes and
-//! rejects, and the performer, which takes invocations.
+//! rejects, and the performer, which takes invocations, and the APDUs that calls send.
 #![tactic(auto)]
 
 mod apdu_problems;
 mod apdus;
-mod called;
+mod invoked_with;
 mod invoker;
 mod laws;
 mod opening;
@@ -14,7 +14,7 @@ mod values;
 
 pub use apdu_problems::{has_links, is_linked_to};
 pub use apdus::{error_apdu, invoke_apdu, result_apdu};
-pub use called::Called;
+pub use invoked_with::InvokedWith;
 pub use invoker::Invoker;
 pub use laws::{always_carries, stays_within};
 pub use performer::Performer;

@@ -8,7 +8,7 @@ ghost use Rattle.std.specs.Map.{remove_entry};
 ghost use Rattle.linked_ops.specs.Entries.{is_open, is_open_or_none, closed};
 ghost use Rattle.rose_roles.specs.Calls.{called, key_of};
 
-use crate::called::Called;
+use crate::invoked_with::InvokedWith;
 use linked_ops::{Forest, Key};
 use osi_base::NoMemory;
 use std::collections::BTreeMap;
@@ -41,14 +41,14 @@ pub(crate) fn key_of(own: bool, id: &i64) -> Key
 }
 
 /// What is called under an identifier.
-pub(crate) fn called(kept: &BTreeMap<i64, Called>, id: &i64) -> Option<Called>
+pub(crate) fn called(kept: &BTreeMap<i64, InvokedWith>, id: &i64) -> Option<InvokedWith>
     ensures { result ≡ called id.now kept.now.entries }
 {
     kept.get(id).copied()
 }
 
 /// Puts what is called under a key; want of memory changes nothing.
-fn put(kept: &mut BTreeMap<i64, Called>, key: &Key, call: Called) -> Result<(), NoMemory>
+fn put(kept: &mut BTreeMap<i64, InvokedWith>, key: &Key, call: InvokedWith) -> Result<(), NoMemory>
     ensures kept { OnOk result (kept.new.entries ≡ insert_entry int_cmp kept.old.entries key.now.id
         call) }
     ensures updated { OnOk result ((q : ℤ) → called q kept.new.entries
@@ -62,7 +62,7 @@ fn put(kept: &mut BTreeMap<i64, Called>, key: &Key, call: Called) -> Result<(), 
 }
 
 /// Takes away what is called under a key.
-fn take_away(kept: &mut BTreeMap<i64, Called>, key: &Key)
+fn take_away(kept: &mut BTreeMap<i64, InvokedWith>, key: &Key)
     ensures kept { kept.new.entries ≡ remove_entry (is_at (int_cmp key.now.id)) kept.old.entries }
     ensures updated { (q : ℤ) → called q kept.new.entries
         ≡ (if int_eq key.now.id q then None else called q kept.old.entries) }
@@ -73,10 +73,10 @@ fn take_away(kept: &mut BTreeMap<i64, Called>, key: &Key)
 /// Opens an invocation of one end, under an open one of the other or as a root. Want of memory
 /// changes nothing.
 pub(crate) fn enter(
-    kept: &mut BTreeMap<i64, Called>,
+    kept: &mut BTreeMap<i64, InvokedWith>,
     forest: &mut Forest,
     key: &Key,
-    call: Called,
+    call: InvokedWith,
     linked: Option<i64>,
 ) -> Result<(), NoMemory>
     requires shut { called key.now.id kept.old.entries ≡ None }
@@ -101,7 +101,7 @@ pub(crate) fn enter(
 }
 
 /// Closes an invocation of one end, if it is open, whose children are roots then.
-pub(crate) fn leave(kept: &mut BTreeMap<i64, Called>, forest: &mut Forest, key: &Key)
+pub(crate) fn leave(kept: &mut BTreeMap<i64, InvokedWith>, forest: &mut Forest, key: &Key)
     ensures kept { (q : ℤ) → called q kept.new.entries
         ≡ (if int_eq key.now.id q then None else called q kept.old.entries) }
     ensures forest { forest.new ≡ closed key.now forest.old }

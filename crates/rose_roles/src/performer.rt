@@ -9,13 +9,13 @@ ghost use Rattle.linked_ops.specs.Entries.{Entry, IsForest, is_open, is_open_or_
 ghost use Rattle.end_rules.specs.Base.{Base, Carried, most_open};
 ghost use Rattle.end_rules.specs.State.{close, opens_of};
 ghost use Rattle.end_rules.specs.Hearing.{opening, invoked, value_in, first_problem, problem_if};
-ghost use Rattle.rose_roles.specs.Calls.{Kept, Invoking, called, key_of, AreOpen, calls_of, opens_in};
+ghost use Rattle.rose_roles.specs.Calls.{Kept, Invoking, called, key_of, AreOpen, calls_of, opens_in, KeepsOpen};
 ghost use Rattle.rose_roles.specs.Heads.{is_invocation, Carries};
 ghost use Rattle.rose_roles.specs.ApduProblems.{silent, known_problem, early_problem, invoke_problem, IsJudged, IsFree};
 ghost use Rattle.rose_roles.specs.Hearing.{Hears, heard_with};
 
 use crate::apdu_problems::{Judged, is_silent_at, judge_argument, link_problem};
-use crate::called::Called;
+use crate::invoked_with::InvokedWith;
 use crate::invoker::Invoker;
 use crate::opening::{called, enter, key_of, leave};
 use crate::taken::{RoseTaken, invoke_rejected, invoked};
@@ -33,7 +33,7 @@ use stub_tables::Tables;
 #[derive(Drop)]
 pub struct Performer {
     alloc: Global,
-    kept: BTreeMap<i64, Called>,
+    kept: BTreeMap<i64, InvokedWith>,
     context: u32,
 }
 
@@ -98,14 +98,14 @@ impl Performer {
     }
 
     /// What is called under an identifier of the peer, where it is open.
-    pub fn called(&self, id: i64) -> Option<Called>
+    pub fn called(&self, id: i64) -> Option<InvokedWith>
         ensures { result ≡ called id self.now.kept }
     {
         called(&self.kept, &id)
     }
 
     /// As `called`.
-    pub fn called_at(&self, id: &i64) -> Option<Called>
+    pub fn called_at(&self, id: &i64) -> Option<InvokedWith>
         ensures { result ≡ called id.now self.now.kept }
     {
         called(&self.kept, id)
@@ -127,9 +127,7 @@ impl Performer {
         ensures closed { (invoked : Invoking) → calls_of forest.new invoked self.new.kept
             ≡ close false id (calls_of forest.old invoked self.old.kept) }
         ensures context { self.new.context ≡ self.old.context }
-        ensures peer { AreOpen false forest.new self.new.kept }
-        ensures own { (invoked : Invoking) → AreOpen true forest.old invoked.kept →
-            AreOpen true forest.new invoked.kept }
+        ensures open { KeepsOpen false forest.old forest.new self.new.kept }
     {
         forest.is_forest();
         let key = key_of(false, &id);
@@ -142,9 +140,7 @@ impl Performer {
         ensures closed { (invoked : Invoking) → calls_of forest.new invoked self.new.kept
             ≡ close false id.now (calls_of forest.old invoked self.old.kept) }
         ensures context { self.new.context ≡ self.old.context }
-        ensures peer { AreOpen false forest.new self.new.kept }
-        ensures own { (invoked : Invoking) → AreOpen true forest.old invoked.kept →
-            AreOpen true forest.new invoked.kept }
+        ensures open { KeepsOpen false forest.old forest.new self.new.kept }
     {
         forest.is_forest();
         let key = key_of(false, id);
@@ -238,15 +234,13 @@ impl Performer {
             })
             (calls_of forest.old own self.old.kept)) }
         ensures context { self.new.context ≡ self.old.context }
-        ensures peer { AreOpen false forest.new self.new.kept }
-        ensures own { (own : Invoking) → AreOpen true forest.old own.kept →
-            AreOpen true forest.new own.kept }
+        ensures open { KeepsOpen false forest.old forest.new self.new.kept }
         ensures err { OnErr result ((self.new ≡ self.old) × (forest.new ≡ forest.old)) }
     {
         if is_silent_at(tables, Some(place)) {
             return Ok(());
         }
-        let call = Called {
+        let call = InvokedWith {
             operation: place,
             context: self.context,
         };
@@ -274,9 +268,7 @@ impl Performer {
             ≡ invoked base (calls_of forest.old own self.old.kept) self.old.context id.now linked
             place carried) }
         ensures context { self.new.context ≡ self.old.context }
-        ensures peer { AreOpen false forest.new self.new.kept }
-        ensures own { (own : Invoking) → AreOpen true forest.old own.kept →
-            AreOpen true forest.new own.kept }
+        ensures open { KeepsOpen false forest.old forest.new self.new.kept }
         ensures err { OnErr result ((self.new ≡ self.old) × (forest.new ≡ forest.old)) }
     {
         match place {
@@ -303,9 +295,8 @@ impl Performer {
         ensures heard { IfOk result (λ taken. Hears tables.now syntax self.old.context head
             (calls_of forest.old own.now self.old.kept) (calls_of forest.new own.now self.new.kept)
             taken) }
-        ensures own { AreOpen true forest.new own.now.kept }
         ensures context { self.new.context ≡ self.old.context }
-        ensures peer { AreOpen false forest.new self.new.kept }
+        ensures open { KeepsOpen false forest.old forest.new self.new.kept }
         ensures err { OnErr result ((self.new ≡ self.old) × (forest.new ≡ forest.old)) }
     {
         forest.is_forest();
@@ -344,9 +335,8 @@ impl Performer {
         ensures heard { IfOk result (λ taken. Hears tables.now syntax self.old.context head
             (calls_of forest.old own.now self.old.kept) (calls_of forest.new own.now self.new.kept)
             taken) }
-        ensures own { AreOpen true forest.new own.now.kept }
         ensures context { self.new.context ≡ self.old.context }
-        ensures peer { AreOpen false forest.new self.new.kept }
+        ensures open { KeepsOpen false forest.old forest.new self.new.kept }
         ensures err { OnErr result ((self.new ≡ self.old) × (forest.new ≡ forest.old)) }
     {
         self.take_invocation(own, forest, syntax, tables, head)

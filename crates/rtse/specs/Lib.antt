@@ -1,5 +1,4 @@
 pub mod Faults
-pub mod Limits
 pub mod Printed
 pub mod Sending
 pub mod Receiving

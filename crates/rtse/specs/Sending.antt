@@ -1,9 +1,8 @@
 -- What an end gives of a transfer (X.228 7.4, 8.2): chunks, each but the last with a mark behind it, and the end.
 use Rattle.std.specs.Prelude.{◌≡◌, ℕ, ◌+◌, ◌-◌, ◌*◌, ◌<◌, ◌≤◌, ◌==◌, ◌||◌, nat_le, Bool, true, false, List, length, take, drop, if◌then◌else◌, IsTrue, ◌≢◌}
-use Rattle.osi_base.specs.Limits.{most_transferred, last_activity}
+use Rattle.osi_base.specs.Limits.{most_transferred, last_activity, most_checkpoint, most_window, checkpoint_unit}
 use Rattle.rtse.specs.declared.outgoing.Step.{Step}
 use Rattle.rtse.specs.declared.outgoing.Step.TheVariants.{Chunk, Mark, End, Wait}
-use Rattle.rtse.specs.Limits.{checkpoint_limit, window_limit}
 
 -- a transfer as its sender has it: how many chunks were given, whether what stands behind the last of them is still due, and the highest mark that is confirmed
 pub record Sending : Type 0 where
@@ -17,7 +16,7 @@ pub record Sending : Type 0 where
 
 -- how many octets a chunk has: the checkpoint in units of 1,024 octets, or all where the checkpoint is 0
 abbrev pub size_of : Sending → ℕ
-size_of s = if s.checkpoint == 0 then length s.octets else s.checkpoint * 1024
+size_of s = if s.checkpoint == 0 then length s.octets else s.checkpoint * checkpoint_unit
 
 -- Is this chunk, counted from 1, the last?
 abbrev pub is_last : Sending → ℕ → Bool
@@ -75,8 +74,8 @@ pub record MayStart (number : ℕ) (octets : List ℕ) (checkpoint window : ℕ)
   pub numbered : (1 ≤ number) × (number ≤ last_activity)
   pub some : 1 ≤ length octets
   pub within : length octets ≤ most_transferred
-  pub checkpoint_within : checkpoint ≤ checkpoint_limit
-  pub window_within : (1 ≤ window) × (window ≤ window_limit)
+  pub checkpoint_within : checkpoint ≤ most_checkpoint
+  pub window_within : (1 ≤ window) × (window ≤ most_window)
 
 -- what is true of every transfer that is sent
 pub record IsSoundSending (s : Sending) : Type 0 where

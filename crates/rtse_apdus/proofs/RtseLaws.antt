@@ -1,7 +1,7 @@
 -- APDUs of reliable transfer and their octets stand for each other.
 use Rattle.std.proofs.Common.{◌≡◌, ℕ, ◌^◌, ◌≤◌, ◌<◌, Bool, true, false, ◌&&◌, cond, List, length, Result, Ok, Err, refl, sym, ap, ◌∙◌, arith}
 use Rattle.std.specs.Prelude.{pos, nat_lt, slice_index, nat_eq, ◌||◌}
-use Rattle.std.proofs.lemmas.Bool.{and_parts, ltb-true, lt-ltb}
+use Rattle.std.proofs.lemmas.Bool.{and_parts, ltb-true, leb-true, lt-ltb}
 use Rattle.osi_base.specs.declared.rtse_word.ConnectionData.TheVariants as connection
 use Rattle.osi_base.specs.declared.rtse_word.Rtse as apdus
 use Rattle.osi_base.specs.declared.rtse_word.Rtse.TheVariants as apdu
@@ -68,7 +68,7 @@ writable_fits (apdu.OpenAccept checkpoint window (connection.Recover reference c
 writable_fits (apdu.OpenReject reason) h = rw (number_fits reason h) refl
 writable_fits (apdu.Abort reason) h = rw (number_fits reason h) refl
 writable_fits (apdu.TurnPlease priority) h =
-    let lt = ltb-true priority 4294967296 h in
+    let lt = leb-true priority 4294967295 h in
     natural_fits 4294967295 priority (omega arith) (omega arith)
 writable_fits (apdu.Transfer os) h = h
 
@@ -102,7 +102,7 @@ writable_says (apdu.OpenAccept checkpoint window (connection.Recover reference c
 writable_says (apdu.OpenReject reason) h = refl
 writable_says (apdu.Abort reason) h = refl
 writable_says (apdu.TurnPlease priority) h =
-    let lt = ltb-true priority 4294967296 h in
+    let lt = leb-true priority 4294967295 h in
     rw (natural_is priority (omega arith)) refl
 writable_says (apdu.Transfer os) h = refl
 

@@ -1,6 +1,7 @@
 -- The APDUs of reliable transfer as octets (X.228 9).
 use Rattle.std.specs.Prelude.{◌≡◌, ◌==◌, ◌||◌, ℕ, false, List, [], ◌∷◌, slice_index, Result, Ok, Err, if◌then◌else◌}
 use Rattle.osi_base.specs.declared.rtse_word.Rtse as apdus
+use Rattle.osi_base.specs.Limits.{tsdu_limit}
 use Rattle.asn1_types.specs.Value.{Value}
 use Rattle.asn1_types.specs.Limits.{most_octets}
 use Rattle.ber_spelling.specs.Spelling.{Spells}
@@ -11,7 +12,7 @@ use Rattle.rtse_apdus.specs.Words.{said}
 
 -- A part of a transfer, an OCTET STRING, may fill a transport unit; other APDUs have at most 262,144 octets.
 abbrev pub limit_of : List ℕ → ℕ
-limit_of octets = if slice_index octets 0 == 4 || slice_index octets 0 == 36 then 1048576 else most_octets
+limit_of octets = if slice_index octets 0 == 4 || slice_index octets 0 == 36 then tsdu_limit else most_octets
 
 -- octets spell this APDU
 pub record SpellsRtse (apdu : apdus.Rtse) (octets : List ℕ) : Type 0 where

@@ -1,7 +1,7 @@
 -- What the octets of a transfer are: one presentation data value with its context (X.226 8.4.2), of at most 262,400 octets.
 use Rattle.std.specs.Prelude.{◌≡◌, ℕ, ◌≤◌, true, false, List, length, Result, Ok, Err}
 use Rattle.osi_base.specs.declared.presentation_word.Pdv as pdvs
-use Rattle.osi_base.specs.Limits.{most_transferred}
+use Rattle.osi_base.specs.Limits.{most_transferred, highest_context}
 use Rattle.asn1_types.specs.Fits.{has_form}
 use Rattle.asn1_types.specs.Value.{Value}
 use Rattle.ber_spelling.specs.Octets.{AreOctets}
@@ -33,7 +33,7 @@ written_transfer pdv = written transfer_rows transfer_row (pdv_value pdv)
 
 -- the identifier is one of a context, the value has its form, and its octets are few enough
 pub record IsTransfer (pdv : pdvs.Pdv) : Type 0 where
-  pub identifier : pdv.id ≤ 32767
+  pub identifier : pdv.id ≤ highest_context
   pub fitting : has_form transfer_rows transfer_row (pdv_value pdv) ≡ true
   pub within : length (written_transfer pdv) ≤ most_transferred
 

@@ -1,7 +1,9 @@
 -- The octets of a transfer, one presentation data value with its context, as rows of types (PDV-list of X.226 8.4.2).
 use Rattle.std.specs.Prelude.{ℕ, pos, true, false, List, [], ◌∷◌, codes}
+use Rattle.osi_base.specs.Limits.{highest_context}
 use Rattle.asn1_types.specs.declared.row.TypeRow.{TypeRow}
 use Rattle.asn1_types.specs.declared.row.TypeRow.TheVariants.{Integer, ObjectId, OctetString, BitString, Any, Choice, Sequence}
+use Rattle.asn1_types.specs.Limits.{most_spelled}
 use Rattle.fixed_tables.specs.Rows.{part, implicit, explicit}
 
 abbrev pub transfer_row : ℕ
@@ -10,10 +12,10 @@ transfer_row = 9
 abbrev pub transfer_rows : List TypeRow
 transfer_rows =
     -- 0: the identifier of a context
-    Integer (pos 1) (pos 32767)
+    Integer (pos 1) (pos highest_context)
     -- 1: the name of a transfer syntax
     ∷ ObjectId
-    ∷ OctetString 4294967295
+    ∷ OctetString most_spelled
     ∷ BitString
     ∷ Any
     -- 5 to 8: the forms of a value

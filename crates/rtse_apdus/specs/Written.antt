@@ -1,10 +1,11 @@
 -- What may be written of reliable transfer, and as what octets.
-use Rattle.std.specs.Prelude.{◌≡◌, ◌&&◌, ℕ, Bool, true, List, length, ◌≤◌, nat_lt}
+use Rattle.std.specs.Prelude.{◌≡◌, ◌&&◌, ℕ, Bool, true, List, length, ◌≤◌, nat_lt, nat_le}
 use Rattle.std.specs.List.{list_all}
 use Rattle.osi_base.specs.declared.rtse_word.ConnectionData as connections
 use Rattle.osi_base.specs.declared.rtse_word.ConnectionData.TheVariants as connection
 use Rattle.osi_base.specs.declared.rtse_word.Rtse as apdus
 use Rattle.osi_base.specs.declared.rtse_word.Rtse.TheVariants as apdu
+use Rattle.osi_base.specs.Limits.{most_32}
 use Rattle.asn1_types.specs.Fits.{is_number, octets_fit}
 use Rattle.asn1_types.specs.Value.{octets}
 use Rattle.asn1_types.specs.Whole.{is_whole}
@@ -28,7 +29,7 @@ can_write (apdu.OpenRequest checkpoint window mode data_) = nat_lt checkpoint 25
 can_write (apdu.OpenAccept checkpoint window data_) = nat_lt checkpoint 256 && nat_lt window 256 && can_carry data_
 can_write (apdu.OpenReject reason) = is_number reason
 can_write (apdu.Abort reason) = is_number reason
-can_write (apdu.TurnPlease priority) = nat_lt priority 4294967296
+can_write (apdu.TurnPlease priority) = nat_le priority most_32
 can_write (apdu.Transfer os) = are_octets os
 
 abbrev pub written_rtse : apdus.Rtse → List ℕ

@@ -5,7 +5,7 @@ use Rattle.osi_base.specs.declared.words.Side.{Side}
 use Rattle.osi_base.specs.declared.words.SetItem.{SetItem}
 use Rattle.osi_base.specs.declared.syntax.Pair.{Pair}
 use Rattle.end_rules.specs.Sets.{pair_of, with_deleted}
-use Rattle.end_rules.specs.Messages.{Message, Session, OfData, Value, AlterContext}
+use Rattle.end_rules.specs.Messages.{Message, Session, OfData, DataValue, AlterContext}
 use Rattle.end_rules.specs.History.{Step, sent}
 use Rattle.end_rules.specs.World.{World, Ends, Shared, is_side, base_at, shared_first, shared_after, shared_at}
 use Rattle.run_laws.specs.Passing.{sent_in, values_in}
@@ -34,7 +34,7 @@ set_newest ends newest w = (shared_at ends newest).set
 -- the pairs that the set of each moment gives the values that one end sends at it, the oldest first
 abbrev pub pairs_under : List SetItem → List Message → List (Option Pair)
 pairs_under set [] = []
-pairs_under set (message ∷ messages) = map (λ (v : Value). pair_of set v.id) (values_in message) ++ pairs_under set messages
+pairs_under set (message ∷ messages) = map (λ (v : DataValue). pair_of set v.id) (values_in message) ++ pairs_under set messages
 
 abbrev pub pairs_by : (World → List SetItem) → Side → World → List (Option Pair)
 pairs_by set side [] = []

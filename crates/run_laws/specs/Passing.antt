@@ -3,7 +3,7 @@
 use Rattle.std.specs.Prelude.{◌≡◌, ℕ, List, [], ◌∷◌, ◌++◌, map, Bool, true, false, if◌then◌else◌, Option, Some, None}
 use Rattle.osi_base.specs.declared.words.Side.{Side}
 use Rattle.osi_base.specs.declared.syntax.Pair.{Pair}
-use Rattle.end_rules.specs.Messages.{Message, Session, Word, OfAssociation, OfData, OfMarks, OfActivities, Value, AssociationWord, Finish, Disconnect, DataWord, Values, MarkWord, Please}
+use Rattle.end_rules.specs.Messages.{Message, Session, Word, OfAssociation, OfData, OfMarks, OfActivities, DataValue, AssociationWord, Finish, Disconnect, DataWord, Values, MarkWord, Please}
 use Rattle.end_rules.specs.History.{Step, sent, took, answered, passed, aborted, broke}
 use Rattle.end_rules.specs.World.{World, Moment, Ends, is_side, other, pair_at_sending}
 
@@ -17,26 +17,26 @@ sent_in _ = []
 
 -- ---- presentation data values: those of any message but an opening, its answers and an abort, in which all are BER
 
-abbrev pub values_of_association : AssociationWord → List Value
+abbrev pub values_of_association : AssociationWord → List DataValue
 values_of_association (Finish transport values) = values
 values_of_association (Disconnect values) = values
 values_of_association _ = []
 
-abbrev pub values_of_data : DataWord → List Value
+abbrev pub values_of_data : DataWord → List DataValue
 values_of_data (Values values) = values
 values_of_data _ = []
 
-abbrev pub values_of_marks : MarkWord → List Value
+abbrev pub values_of_marks : MarkWord → List DataValue
 values_of_marks (Please tokens values) = values
 values_of_marks _ = []
 
-abbrev pub values_of_word : Word → List Value
+abbrev pub values_of_word : Word → List DataValue
 values_of_word (OfAssociation word) = values_of_association word
 values_of_word (OfData word) = values_of_data word
 values_of_word (OfMarks word) = values_of_marks word
 values_of_word (OfActivities word) = []
 
-abbrev pub values_in : Message → List Value
+abbrev pub values_in : Message → List DataValue
 values_in (Session word) = values_of_word word
 values_in _ = []
 
@@ -48,11 +48,11 @@ pub record Passed : Type 0 where
 
 -- the pairs that the shared set gave the identifiers just before its sending
 abbrev pub at_sending : Ends → World → Message → Passed
-at_sending ends w message = record { message = message; pairs = map (λ (v : Value). pair_at_sending ends w v.id) (values_in message) }
+at_sending ends w message = record { message = message; pairs = map (λ (v : DataValue). pair_at_sending ends w v.id) (values_in message) }
 
 -- the pairs under which its values were read
 abbrev pub as_read : Message → Passed
-as_read message = record { message = message; pairs = map (λ (v : Value). v.pair) (values_in message) }
+as_read message = record { message = message; pairs = map (λ (v : DataValue). v.pair) (values_in message) }
 
 -- ---- on this connection, the oldest first
 

@@ -5,7 +5,7 @@ use Rattle.osi_base.specs.declared.words.Side.{Side}
 use Rattle.osi_base.specs.declared.syntax.Pair.{Pair}
 use Rattle.stub_tables.specs.declared.apdu.Apdu.{Apdu}
 use Rattle.end_rules.specs.Base.{Base, Item}
-use Rattle.end_rules.specs.Messages.{Message, Session, OfActivities, Start, End, Remote, Value}
+use Rattle.end_rules.specs.Messages.{Message, Session, OfActivities, Start, End, Remote, DataValue}
 use Rattle.end_rules.specs.State.{Body, Queued, Transfer}
 use Rattle.end_rules.specs.TakesActivities.{handed_up}
 use Rattle.end_rules.specs.History.{Step, sent, encoded, took}
@@ -49,9 +49,9 @@ encodings ends side (m ∷ w) = if is_side side m.side then encoded_in ends w (b
 
 pub record Arrival : Type 0 where
   pub activity : ℕ
-  pub value : Value
+  pub value : DataValue
 
-abbrev pub arrivals_of : ℕ → List Value → List Arrival
+abbrev pub arrivals_of : ℕ → List DataValue → List Arrival
 arrivals_of activity [] = []
 arrivals_of activity (value ∷ values) = record { activity = activity; value = value } ∷ arrivals_of activity values
 
@@ -79,7 +79,7 @@ IsNewest encoding [] = ⊥
 IsNewest encoding (first ∷ rest) = first ≡ encoding
 
 -- it is the item that was started with that number, as it was encoded last, read under its pair
-pub record IsWhole (items : List Queued) (made : List Encoding) (arrival : Arrival) : Type 0 where
+pub record ArrivedWhole (items : List Queued) (made : List Encoding) (arrival : Arrival) : Type 0 where
   pub apdu : Apdu
   pub is_remote : arrival.value.content ≡ Remote apdu
   pub is_its : IsOf apdu (item_of arrival.activity items)
@@ -88,7 +88,7 @@ pub record IsWhole (items : List Queued) (made : List Encoding) (arrival : Arriv
 -- so is each as it arrives
 abbrev pub AreWhole : List Queued → List Encoding → List Arrival → Type 0
 AreWhole items made [] = Unit {0}
-AreWhole items made (arrival ∷ more) = IsWhole items made arrival × AreWhole items made more
+AreWhole items made (arrival ∷ more) = ArrivedWhole items made arrival × AreWhole items made more
 
 abbrev pub ArriveWhole : Ends → World → Type 0
 ArriveWhole ends [] = Unit {0}

@@ -12,7 +12,7 @@ use Rattle.presentation_pdus.specs.Words.{written_ppdu}
 use Rattle.stub_tables.specs.declared.tables.Tables.{Tables}
 use Rattle.apdu_spelling.specs.Writing.{written_apdu, IsWritable}
 use Rattle.end_rules.specs.Base.{Base, Item}
-use Rattle.end_rules.specs.Messages.{Value, Word, OfData, OfMarks, DataWord, MarkWord, Values, AlterContext, AlterContextAck, Mark, MarkAck, Restart, RestartAck, Give, Please, GiveConfirm, GiveAck}
+use Rattle.end_rules.specs.Messages.{DataValue, Word, OfData, OfMarks, DataWord, MarkWord, Values, AlterContext, AlterContextAck, Mark, MarkAck, Restart, RestartAck, Give, Please, GiveConfirm, GiveAck}
 use Rattle.association_wire.specs.Values.{in_form}
 use Rattle.association_wire.specs.Written.{session_units, tsdu_of}
 use Rattle.association_reading.specs.Laws.{IsSendable}
@@ -132,11 +132,11 @@ module _ (tables : Tables) where
   marks-sent (Give tokens) i = subst (λ (t : Option ℕ). IsSendable tables (OfMarks (Give t))) (sym i) (sendable tables (OfMarks (Give (Some 4))) (alone (units.GiveTokens (Some 4)) refl giving))
   marks-sent (Please tokens values) i =
       subst (λ (t : Option ℕ). IsSendable tables (OfMarks (Please t values))) (sym i.0)
-      (subst (λ (vs : List Value). IsSendable tables (OfMarks (Please (Some 4) vs))) (sym i.1) (sendable tables (OfMarks (Please (Some 4) [])) (alone (units.PleaseTokens (Some 4) None) refl pleading)))
+      (subst (λ (vs : List DataValue). IsSendable tables (OfMarks (Please (Some 4) vs))) (sym i.1) (sendable tables (OfMarks (Please (Some 4) [])) (alone (units.PleaseTokens (Some 4) None) refl pleading)))
   marks-sent GiveConfirm i = absurd i
   marks-sent GiveAck i = absurd i
 
   pub data-sent : (base : Base) (word : DataWord) → base.tables ≡ tables → base.spellings.apdu ≡ written_apdu base.tables → IsModule base.tables → IsOfData base word → IsSendable tables (OfData word)
-  data-sent base (Values values) same its m i = subst (λ (vs : List Value). IsSendable tables (OfData (Values vs))) (sym i.is_one) (item-sent base i.item same its m i.transferable i.context)
+  data-sent base (Values values) same its m i = subst (λ (vs : List DataValue). IsSendable tables (OfData (Values vs))) (sym i.is_one) (item-sent base i.item same its m i.transferable i.context)
   data-sent base (AlterContext add delete) same its m i = alter-sent add delete i
   data-sent base (AlterContextAck answers) same its m i = ack-sent answers i

@@ -23,7 +23,7 @@ use Rattle.stub_tables.specs.declared.tables.Tables.{Tables}
 use Rattle.stub_tables.specs.declared.apdu.Apdu.{Apdu}
 use Rattle.apdu_spelling.specs.Writing.{written_apdu, IsWritable}
 use Rattle.end_rules.specs.Base.{Base, Item}
-use Rattle.end_rules.specs.Messages.{Value, Plea, Part, OfData, OfMarks, OfActivities, DataWord, Values, AlterContext, AlterContextAck, MarkWord, Mark, MarkAck, Restart, RestartAck, Give, Please, GiveConfirm, GiveAck, ActivityWord, Start, Resume, End, EndAck, Interrupt, InterruptAck, Discard, DiscardAck}
+use Rattle.end_rules.specs.Messages.{DataValue, Plea, Part, OfData, OfMarks, OfActivities, DataWord, Values, AlterContext, AlterContextAck, MarkWord, Mark, MarkAck, Restart, RestartAck, Give, Please, GiveConfirm, GiveAck, ActivityWord, Start, Resume, End, EndAck, Interrupt, InterruptAck, Discard, DiscardAck}
 use Rattle.association_wire.specs.Values.{in_form}
 use Rattle.association_reading.specs.Laws.{IsSendable}
 use Rattle.association_reading.specs.Transfers.{transferred}
@@ -118,13 +118,13 @@ plea-in priority h =
     record { writable = p.writable; octets = p.octets; few = omega arith }
 
 -- the octets that a part has
-pub record PartOctets (values : List Value) : Type 0 where
+pub record PartOctets (values : List DataValue) : Type 0 where
   pub octets : List ℕ
   pub is_one : values ≡ transfer_value (Part octets) ∷ []
   pub are : AreOctets octets
   pub few : length octets ≤ 262400
 
-pub part-octets : (base : Base) (values : List Value) → base.spellings.apdu ≡ written_apdu base.tables → base.spellings.transfer ≡ transferred base.tables → IsModule base.tables → IsPart base values → PartOctets values
+pub part-octets : (base : Base) (values : List DataValue) → base.spellings.apdu ≡ written_apdu base.tables → base.spellings.transfer ≡ transferred base.tables → IsModule base.tables → IsPart base values → PartOctets values
 part-octets base values its spelled m p =
     let i : IsContext p.item.id = (p.placed.low, p.placed.high) in
     let t = transfer-so base.tables m p.item i (transferables-writable base p.item.pair.transfer p.item.apdu its m p.transferable) in
@@ -211,7 +211,7 @@ module _ (tables : Tables) where
   pub parts-sent : (base : Base) (word : DataWord) → base.tables ≡ tables → base.spellings.apdu ≡ written_apdu base.tables → base.spellings.transfer ≡ transferred base.tables → IsModule base.tables → IsPartOrAlteration base word → IsSendable tables (OfData word)
   parts-sent base (Values values) same its spelled m i =
       let o = part-octets base values its spelled m i in
-      subst (λ (vs : List Value). IsSendable tables (OfData (Values vs))) (sym o.is_one) (part-sent o.octets o.are o.few)
+      subst (λ (vs : List DataValue). IsSendable tables (OfData (Values vs))) (sym o.is_one) (part-sent o.octets o.are o.few)
   parts-sent base (AlterContext add delete) same its spelled m i = alter-sent tables add delete i
   parts-sent base (AlterContextAck answers) same its spelled m i = ack-sent tables answers i
 
@@ -223,7 +223,7 @@ module _ (tables : Tables) where
   turn-sent (Give tokens) i = absurd i
   turn-sent (Please tokens values) i =
       subst (λ (t : Option ℕ). IsSendable tables (OfMarks (Please t values))) (sym i.0)
-      (subst (λ (vs : List Value). IsSendable tables (OfMarks (Please (Some 21) vs))) (sym i.1.is_one) (plea-sent i.1.priority i.1.few))
+      (subst (λ (vs : List DataValue). IsSendable tables (OfMarks (Please (Some 21) vs))) (sym i.1.is_one) (plea-sent i.1.priority i.1.few))
   turn-sent GiveConfirm i = sendable tables (OfMarks GiveConfirm) (alone units.GiveTokensConfirm refl giving-all)
   turn-sent GiveAck i = sendable tables (OfMarks GiveAck) (alone units.GiveTokensAck refl given)
 

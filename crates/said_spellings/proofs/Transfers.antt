@@ -218,7 +218,7 @@ plea-few priority h =
 
 pub plea-spelled : (priority : ℕ) → priority < 2 ^ 32 → SpelledRtse (rtse.TurnPlease priority) 10
 plea-spelled priority h =
-    made (rtse.TurnPlease priority) 10 (omega arith) (let l = low-limit (written_rtse (rtse.TurnPlease priority)) in omega (arith, l)) (lt-ltb priority 4294967296 (omega arith)) tt (plea-few priority h)
+    made (rtse.TurnPlease priority) 10 (omega arith) (let l = low-limit (written_rtse (rtse.TurnPlease priority)) in omega (arith, l)) (le-leb priority 4294967295 (omega arith)) tt (plea-few priority h)
 
 -- ---- association control with an APDU of reliable transfer for its user
 
@@ -271,7 +271,7 @@ module _ (id : ℕ) (os : List ℕ) (i : IsContext id) (s : Spelled os 150) wher
   user-carried =
       let low : 1 ≤ id = i.0 in
       let high : id ≤ 32767 = i.1 in
-      both (acse_written.is_id id) (is_whole os) (both (nat_lt 0 id) (nat_lt id 32768) (lt-ltb 0 id (omega arith)) (lt-ltb id 32768 (omega arith))) s.is_whole_one
+      both (acse_written.is_id id) (is_whole os) (both (nat_lt 0 id) (nat_le id 32767) (lt-ltb 0 id (omega arith)) (le-leb id 32767 high)) s.is_whole_one
 
   -- AARQ
   asking-few : length (written_acse (acse.AssociateRequest None reliable_context (carrying id os ∷ []))) ≤ 400

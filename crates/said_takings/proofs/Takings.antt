@@ -20,7 +20,7 @@ use Rattle.dialogue.specs.declared.indication.Indication.{Indication}
 use Rattle.end_rules.specs.Base.{Base, Spellings, Fault, Item}
 use Rattle.end_rules.specs.Sets.{Alteration, pair_of, is_fixed, below, next_number}
 use Rattle.end_rules.specs.State.{Body, Sets, Calls, OpenCall, NoAnswer, opened_with, is_up, is_carrying, is_joined, passes_over}
-use Rattle.end_rules.specs.Messages.{Message, Transport, Session, TransportUnit, ConnectionRequest, ConnectionConfirm, DisconnectRequest, TransportError, Value, Accepting}
+use Rattle.end_rules.specs.Messages.{Message, Transport, Session, TransportUnit, ConnectionRequest, ConnectionConfirm, DisconnectRequest, TransportError, DataValue, Accepting}
 use Rattle.end_rules.specs.Messages.{Word, OfAssociation, OfData, OfMarks, OfActivities, Connect, Accept, Refuse, Finish, Disconnect, Abort, AbortAccept, Values, AlterContext, AlterContextAck, Mark, MarkAck, Restart, RestartAck, Give, Please, GiveConfirm, GiveAck, unit_of}
 use Rattle.end_rules.specs.Writing.{acse_pair, session_connect, presentation_connect, connect_values, user_abort, proposals}
 use Rattle.end_rules.specs.Hearing.{Rejecting, with_reject, sent_on, hear, head_of_apdu}
@@ -106,7 +106,7 @@ not-up body y = go y.phase
     go (inr e) = ap is_up e
 
 -- what is on its way goes on loose contexts
-abbrev AllLoose : List ℕ → List SetItem → List Value → Type 0
+abbrev AllLoose : List ℕ → List SetItem → List DataValue → Type 0
 AllLoose name first [] = Unit {0}
 AllLoose name first (value ∷ values) = IsLoose name first value.id × AllLoose name first values
 
@@ -351,7 +351,7 @@ module _ (free : Free) (tables : Tables) (spellings : Spellings) (a b : Config) 
     accepts Initiator body h l = IsSure (opened-sure _ refl refl l refl)
     accepts Responder body h l = cc
 
-    accepted-does : (role : Role) (body : Body) (session : Accepting) (presentation : PresentationAccept) (values : List Value) → IsWord (base Initiator) (base Responder) (OfAssociation (Accept session presentation values)) → InPlace role body (OfAssociation (Accept session presentation values)) → OpensLoose tables.name_oid first body.calls.opens → WordDoes role body (OfAssociation (Accept session presentation values))
+    accepted-does : (role : Role) (body : Body) (session : Accepting) (presentation : PresentationAccept) (values : List DataValue) → IsWord (base Initiator) (base Responder) (OfAssociation (Accept session presentation values)) → InPlace role body (OfAssociation (Accept session presentation values)) → OpensLoose tables.name_oid first body.calls.opens → WordDoes role body (OfAssociation (Accept session presentation values))
     accepted-does role body session presentation values i in_place l =
         record {
           firm =

@@ -23,7 +23,7 @@ use Rattle.dialogue.specs.declared.call.CallRefusal.TheVariants as refusals
 use Rattle.end_rules.specs.Base.{Base, Spellings, Fault}
 use Rattle.end_rules.specs.Sets.{Alteration, pair_of, is_fixed}
 use Rattle.end_rules.specs.State.{Body, Link, Calls, Sending, OpenCall, Queued, Transfer, Encoded, Suspended, NoAnswer, opened_with, is_up, is_broken, is_carrying, is_joined, is_current, is_suspended, is_free, passes_over, on_current, highest, pieces_of, confirmed_of, joined}
-use Rattle.end_rules.specs.Messages.{Message, Session, TransportUnit, ConnectionRequest, ConnectionConfirm, DisconnectRequest, TransportError, ValueContent, Value, Association, Part, Plea, UserValues}
+use Rattle.end_rules.specs.Messages.{Message, Session, TransportUnit, ConnectionRequest, ConnectionConfirm, DisconnectRequest, TransportError, ValueContent, DataValue, Association, Part, Plea, UserValues}
 use Rattle.end_rules.specs.Messages.{Word, OfAssociation, OfData, OfMarks, OfActivities, AssociationWord, Connect, Accept, Refuse, Finish, Disconnect, Abort, AbortAccept, Values, AlterContext, AlterContextAck, Mark, MarkAck, Restart, RestartAck, Give, Please, GiveConfirm, GiveAck}
 use Rattle.end_rules.specs.Messages.{Start, Resume, End, EndAck, Interrupt, InterruptAck, Discard, DiscardAck, unit_of}
 use Rattle.end_rules.specs.Writing.{acse_pair, acse_context, rtse_context, rtse_value, session_connect, presentation_connect, connect_values, connection_data, connect_message, is_recovering, user_abort, proposals}
@@ -183,7 +183,7 @@ rejecting-leaves : (base : Base) (body : Body) (calls : Calls) (context : ℕ) (
 rejecting-leaves base body calls context None = record { link = refl; started = refl; current = refl }
 rejecting-leaves base body calls context (Some r) = record { link = refl; started = refl; current = refl }
 
-values-leave : (base : Base) (values : List Value) (body : Body) → Leaves body (take_values (at Reliable base) body values).body
+values-leave : (base : Base) (values : List DataValue) (body : Body) → Leaves body (take_values (at Reliable base) body values).body
 values-leave base [] body = record { link = refl; started = refl; current = refl }
 values-leave base (value ∷ values) body =
     let heard = hear (at Reliable base) body.calls value.id (head_of (at Reliable base) value) in
@@ -295,7 +295,7 @@ module _ (free : Free) (tables : Tables) (spellings : Spellings) (a b : Config) 
     -- a value on the context of reliable transfer
     on-three : (role : Role) (body : Body) (content : ValueContent) → Stood role body → rtse_value body content ≡ transfer_value content
     on-three role body content s =
-        let put : ℕ → Option Pair → Value = λ k p. record { id = k; pair = p; content = content } in
+        let put : ℕ → Option Pair → DataValue = λ k p. record { id = k; pair = p; content = content } in
         ap (λ (k : ℕ). put k (pair_of body.sets.held k)) (ap rtse_context s.accepted ∙ on-rtse tables spellings a b right ids) ∙ ap (put 3) (held-rtse role body s)
 
     -- ---- calls
@@ -368,7 +368,7 @@ module _ (free : Free) (tables : Tables) (spellings : Spellings) (a b : Config) 
         go the_calls.Mark i can f = let r = (called (base role) body the_calls.Mark answer can).rows in cc
         go the_calls.Give i can f = record { rooted = still role body _ s refl refl refl s.late s.started f; said = (tt, tt) }
         go (the_calls.Please priority) i can f =
-            record { rooted = IsStood s; said = ((refl, record { priority = priority; is_one = ap (λ (v : Value). v ∷ []) (on-three role body (Plea priority) s); few = i }), tt) }
+            record { rooted = IsStood s; said = ((refl, record { priority = priority; is_one = ap (λ (v : DataValue). v ∷ []) (on-three role body (Plea priority) s); few = i }), tt) }
         go (the_calls.Resync n) i can f = let r = (called (base role) body (the_calls.Resync n) answer can).rows in cc
         go the_calls.Interrupt i can f = record { rooted = still role body _ s refl refl refl s.late s.started f; said = (refl, tt) }
         go the_calls.Resume i can f =
@@ -430,7 +430,7 @@ module _ (free : Free) (tables : Tables) (spellings : Spellings) (a b : Config) 
           from = length (joined t.pieces);
           size = size;
           is_one =
-              ap (λ (v : Value). v ∷ []) (on-three role body (Part (take size (left_of t e))) s) ∙
+              ap (λ (v : DataValue). v ∷ []) (on-three role body (Part (take size (left_of t e))) s) ∙
               ap (λ (os : List ℕ). transfer_value (Part (take size (drop (length (joined t.pieces)) os))) ∷ []) g.octets;
         }
 
@@ -633,8 +633,8 @@ module _ (free : Free) (tables : Tables) (spellings : Spellings) (a b : Config) 
     stood-word role body (OfAssociation (Abort transport user)) i l f s = record { rooted = IsOver refl; said = tt }
     stood-word role body (OfAssociation AbortAccept) i l f s = absurd i
     stood-word role body (OfData (Values values)) i l f s =
-        subst (λ (vs : List Value). WordSays role body (OfData (Values vs))) (sym i.is_one)
-        (record { rooted = left-still role body _ s (record { link = refl; started = refl; current = refl }) (subst (λ (vs : List Value). Firm tables.name_oid first (after_word (base role) body (OfData (Values vs)))) i.is_one f); said = tt })
+        subst (λ (vs : List DataValue). WordSays role body (OfData (Values vs))) (sym i.is_one)
+        (record { rooted = left-still role body _ s (record { link = refl; started = refl; current = refl }) (subst (λ (vs : List DataValue). Firm tables.name_oid first (after_word (base role) body (OfData (Values vs)))) i.is_one f); said = tt })
     stood-word role body (OfData (AlterContext add delete)) i l f s =
         record { rooted = left-still role body _ s (record { link = refl; started = refl; current = refl }) f; said = (answers-so (base role) body (alteration add delete) i, tt) }
     stood-word role body (OfData (AlterContextAck answers)) i l f s = record { rooted = left-still role body _ s (settled-leaves body body.sets.own answers) f; said = tt }

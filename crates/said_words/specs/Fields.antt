@@ -6,10 +6,11 @@ use Rattle.osi_base.specs.declared.words.Proposal.{Proposal}
 use Rattle.osi_base.specs.declared.words.AddAnswer.{AddAnswer}
 use Rattle.osi_base.specs.declared.words.Answers.{Answers}
 use Rattle.osi_base.specs.declared.words.RestoredItem.{RestoredItem}
+use Rattle.osi_base.specs.Limits.{highest_context}
 use Rattle.said_words.specs.Calls.{AreNamed}
 
 abbrev pub IsContext : ℕ → Type 0
-IsContext k = (1 ≤ k) × (k ≤ 32767)
+IsContext k = (1 ≤ k) × (k ≤ highest_context)
 
 abbrev pub AreContexts : List ℕ → Type 0
 AreContexts [] = Unit {0}

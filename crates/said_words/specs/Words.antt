@@ -8,7 +8,7 @@ use Rattle.osi_base.specs.Limits.{most_marks, last_activity}
 use Rattle.dialogue.specs.declared.config.Mode.{Mode}
 use Rattle.dialogue.specs.declared.config.Mode.TheVariants.{Bare, Direct, Reliable}
 use Rattle.end_rules.specs.Base.{Base, Item, rtse_name, most_contexts}
-use Rattle.end_rules.specs.Messages.{TransportUnit, ConnectionRequest, ConnectionConfirm, DisconnectRequest, TransportError, ValueContent, Value, Remote, Plea, Part, UserValues, Word, OfAssociation, OfData, OfMarks, OfActivities, AssociationWord, Connect, Accept, Refuse, Finish, Disconnect, Abort, AbortAccept, DataWord, Values, AlterContext, AlterContextAck, MarkWord, Mark, MarkAck, Restart, RestartAck, Give, Please, GiveConfirm, GiveAck, ActivityWord, Start, Resume, End, EndAck, Interrupt, InterruptAck, Discard, DiscardAck, Message, Transport, Session}
+use Rattle.end_rules.specs.Messages.{TransportUnit, ConnectionRequest, ConnectionConfirm, DisconnectRequest, TransportError, ValueContent, DataValue, Remote, Plea, Part, UserValues, Word, OfAssociation, OfData, OfMarks, OfActivities, AssociationWord, Connect, Accept, Refuse, Finish, Disconnect, Abort, AbortAccept, DataWord, Values, AlterContext, AlterContextAck, MarkWord, Mark, MarkAck, Restart, RestartAck, Give, Please, GiveConfirm, GiveAck, ActivityWord, Start, Resume, End, EndAck, Interrupt, InterruptAck, Discard, DiscardAck, Message, Transport, Session}
 use Rattle.end_rules.specs.Writing.{acse_value, session_connect, presentation_connect, connect_values}
 use Rattle.end_rules.specs.Connecting.{acceptance_message}
 use Rattle.said_words.specs.Fields.{IsContext, IsAlteration, AreAnswers, AreRestored}
@@ -27,10 +27,10 @@ pub record IsRestart (number : ℕ) (list : Option (List RestoredItem)) : Type 0
 
 -- ---- data: one APDU on a context
 
-abbrev pub value_of_item : Item → Value
+abbrev pub value_of_item : Item → DataValue
 value_of_item item = record { id = item.id; pair = Some item.pair; content = Remote item.apdu }
 
-pub record IsData (base : Base) (values : List Value) : Type 0 where
+pub record IsData (base : Base) (values : List DataValue) : Type 0 where
   pub item : Item
   pub is_one : values ≡ value_of_item item ∷ []
   pub transferable : IsTransferable base item.apdu
@@ -41,11 +41,11 @@ pub record IsData (base : Base) (values : List Value) : Type 0 where
 abbrev pub rtse_pair : Pair
 rtse_pair = record { abstract_name = rtse_name; transfer = Ber }
 
-abbrev pub transfer_value : ValueContent → Value
+abbrev pub transfer_value : ValueContent → DataValue
 transfer_value content = record { id = 3; pair = Some rtse_pair; content = content }
 
 -- a part of the octets of the transfer of an item
-pub record IsPart (base : Base) (values : List Value) : Type 0 where
+pub record IsPart (base : Base) (values : List DataValue) : Type 0 where
   pub item : Item
   pub transferable : IsTransferable base item.apdu
   pub placed : IsPlaced base item
@@ -54,7 +54,7 @@ pub record IsPart (base : Base) (values : List Value) : Type 0 where
   pub is_one : values ≡ transfer_value (Part (take size (drop from (base.spellings.transfer item)))) ∷ []
 
 -- a plea, whose priority has 32 bits
-pub record IsPlea (values : List Value) : Type 0 where
+pub record IsPlea (values : List DataValue) : Type 0 where
   pub priority : ℕ
   pub is_one : values ≡ transfer_value (Plea priority) ∷ []
   pub few : priority < 2 ^ 32

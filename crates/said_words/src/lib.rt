@@ -1,4 +1,5 @@
-//! What two ends of direct mode, and two ends of reliable mode, say to each other.
+//! What two ends of direct mode, and two ends of reliable mode, say to each other: each message on
+//! its way is one that the rules make.
 #![tactic(auto)]
 
 mod laws;

@@ -8,7 +8,7 @@ use Rattle.dialogue.specs.declared.config.Config.{Config}
 use Rattle.end_rules.specs.Base.{Base, Item, acse_name}
 use Rattle.end_rules.specs.Sets.{same_name, pair_of, fit_proposals}
 use Rattle.end_rules.specs.State.{Body, is_carrying, is_joined}
-use Rattle.end_rules.specs.Messages.{Message, Transport, Session, Value, Word, OfAssociation, OfData, OfMarks, OfActivities, AssociationWord, Connect, Accept, Refuse, Finish, Disconnect, Abort, AbortAccept, Values, AlterContext, AlterContextAck, Mark, MarkAck, Restart, RestartAck, Give, Please, GiveConfirm, GiveAck, unit_of}
+use Rattle.end_rules.specs.Messages.{Message, Transport, Session, DataValue, Word, OfAssociation, OfData, OfMarks, OfActivities, AssociationWord, Connect, Accept, Refuse, Finish, Disconnect, Abort, AbortAccept, Values, AlterContext, AlterContextAck, Mark, MarkAck, Restart, RestartAck, Give, Please, GiveConfirm, GiveAck, unit_of}
 use Rattle.end_rules.specs.Writing.{acse_context, proposals, session_connect, presentation_connect, connect_values}
 use Rattle.end_rules.specs.Policy.{opening_policy}
 use Rattle.end_rules.specs.Connecting.{has_acse}
@@ -141,7 +141,7 @@ module _ (reads : Readings) (tables : Tables) (transfers : Transfers) (a b : Con
   word-meant : (role : Role) (body : Body) (word : Word) (start : ℕ) → (IsOfSession word → ⊥) → IsWord (base Initiator) (base Responder) word → IsTaken (base role) body word → is_in_place (base role) body (unit_of word) ≡ true → Meant role body word start
   word-meant role body (OfAssociation word) start late i t p = association-meant role body word start i t p
   word-meant role body (OfData (Values values)) start late i t p =
-      subst (λ (vs : List Value). Meant role body (OfData (Values vs)) start) (sym i.is_one)
+      subst (λ (vs : List DataValue). Meant role body (OfData (Values vs)) start) (sym i.is_one)
       (let on = t i.item i.is_one in value-meant role body i.item start i.transferable i.context on.there on.named)
   word-meant role body (OfData (AlterContext add delete)) start late i t p = alter-meant reads (base role) body start add delete i
   word-meant role body (OfData (AlterContextAck answers)) start late i t p = ack-meant reads (base role) body start answers i

@@ -11,7 +11,7 @@ use Rattle.dialogue.specs.declared.indication.Indication.{Indication}
 use Rattle.end_rules.specs.Base.{Base, rtse_name}
 use Rattle.end_rules.specs.Sets.{has_abstract, pair_of, fit_proposals}
 use Rattle.end_rules.specs.State.{Body, is_carrying, is_joined}
-use Rattle.end_rules.specs.Messages.{Message, Transport, Session, Transferring, Plea, Part, Value, Word, OfAssociation, OfData, OfMarks, OfActivities, AssociationWord, Connect, Accept, Refuse, Finish, Disconnect, Abort, AbortAccept, Values, AlterContext, AlterContextAck, Mark, MarkAck, Restart, RestartAck, Give, Please, GiveConfirm, GiveAck, unit_of}
+use Rattle.end_rules.specs.Messages.{Message, Transport, Session, Transferring, Plea, Part, DataValue, Word, OfAssociation, OfData, OfMarks, OfActivities, AssociationWord, Connect, Accept, Refuse, Finish, Disconnect, Abort, AbortAccept, Values, AlterContext, AlterContextAck, Mark, MarkAck, Restart, RestartAck, Give, Please, GiveConfirm, GiveAck, unit_of}
 use Rattle.end_rules.specs.Writing.{acse_context, rtse_context, proposals, session_connect, presentation_connect, connect_values, connection_data}
 use Rattle.end_rules.specs.Policy.{opening_policy}
 use Rattle.end_rules.specs.Connecting.{has_acse, has_rtse, is_on_rtse, agreed_checkpoint, answering_data}
@@ -89,17 +89,17 @@ module _ (reads : Readings) (tables : Tables) (a b : Config) (e : AreEndsIn Reli
   abbrev Meant : Role → Body → Word → ℕ → Type 0
   Meant role body word start = IsMeantAs (base role) body start word
 
-  part-meant : (role : Role) (body : Body) (values : List Value) (start : ℕ) → IsPart (base Initiator) values → pair_of body.sets.held 3 ≡ Some rtse_pair → Meant role body (OfData (Values values)) start
+  part-meant : (role : Role) (body : Body) (values : List DataValue) (start : ℕ) → IsPart (base Initiator) values → pair_of body.sets.held 3 ≡ Some rtse_pair → Meant role body (OfData (Values values)) start
   part-meant role body values start i there =
       let o = part-octets (base Initiator) values refl refl e.module_s i in
-      subst (λ (vs : List Value). Meant role body (OfData (Values vs)) start) (sym o.is_one)
+      subst (λ (vs : List DataValue). Meant role body (OfData (Values vs)) start) (sym o.is_one)
       (reads.data_words.values (base role) body start (transfer_value (Part o.octets)) [] (part-in o.octets o.are o.few).writable
       (record { pair = rtse_pair; has_pair = refl; in_set = there; carries = refl; content = reads.transfers.part tables rtse_pair o.octets (part-spelled o.octets o.are o.few).writable refl }, tt))
 
-  plea-meant : (role : Role) (body : Body) (tokens : Option ℕ) (values : List Value) (start : ℕ) → tokens ≡ Some 21 → IsPlea values → pair_of body.sets.held 3 ≡ Some rtse_pair → Meant role body (OfMarks (Please tokens values)) start
+  plea-meant : (role : Role) (body : Body) (tokens : Option ℕ) (values : List DataValue) (start : ℕ) → tokens ≡ Some 21 → IsPlea values → pair_of body.sets.held 3 ≡ Some rtse_pair → Meant role body (OfMarks (Please tokens values)) start
   plea-meant role body tokens values start t i there =
       subst (λ (x : Option ℕ). Meant role body (OfMarks (Please x values)) start) (sym t)
-      (subst (λ (vs : List Value). Meant role body (OfMarks (Please (Some 21) vs)) start) (sym i.is_one)
+      (subst (λ (vs : List DataValue). Meant role body (OfMarks (Please (Some 21) vs)) start) (sym i.is_one)
       (reads.data_words.please (base role) body start 21 (transfer_value (Plea i.priority)) [] (plea-in i.priority i.few).writable
       (record { pair = rtse_pair; has_pair = refl; in_set = there; carries = refl; content = reads.transfers.plea tables rtse_pair i.priority (plea-spelled i.priority i.few).writable refl }, tt)))
 

@@ -1,4 +1,4 @@
-//! The lines of schedules, scripts and books, the fields of a line, and how a line breaks the
+//! The lines of schedules: their fields, numbers, syntaxes and values, and how a line breaks the
 //! grammar of its text.
 #![tactic(auto)]
 

@@ -9,36 +9,36 @@ use Rattle.spdu_codec.specs.declared.parameters.Slot.{Slot}
 use Rattle.spdu_codec.specs.declared.parameters.Parameters.{Parameters}
 use Rattle.spdu_codec.specs.Tables.{row_of, parameters_of, items_of}
 use Rattle.spdu_codec.specs.Parameters.{none_yet, is_free, put}
-use Rattle.spdu_codec.specs.Reading.{Fault, at, ◌>>=◌, front, length_at, value_at, checked_free, filled, item_taken, inside, group_inside, parameter_taken, parameters_at, scan, known, unit_at}
+use Rattle.spdu_codec.specs.Reading.{UnitFault, at, ◌>>=◌, front, length_at, value_at, checked_free, filled, item_taken, inside, group_inside, parameter_taken, parameters_at, scan, known, unit_at}
 use Rattle.spdu_codec.specs.Wire.{IsOctets, IsLength, AreParameters, IsFree, AllPut, ItemPut, ParameterPut}
-use Rattle.spdu_codec.specs.Faults.{LacksValue, ValueFault, IsRepeated, CodeFault, ParametersFault, ItemFault, InsideFault, GroupFault, ParameterFault, UnitFault}
+use Rattle.spdu_codec.specs.Faults.{LacksValue, ValueFault, IsRepeated, CodeFault, ParametersFault, ItemFault, InsideFault, GroupFault, ParameterFault, HasUnitFault}
 use Rattle.spdu_codec.proofs.Results.{ok_is, chosen}
 use Rattle.spdu_codec.proofs.ScanLoop.{Taker, value_less}
 use Rattle.spdu_codec.proofs.WireLaws.{octets-behind, octets-before, octets-rest, length_again, value_found, value_again, free_found, free_again, item_found, item_again, parameter_found, parameter_again, known_found}
 
 -- ---- steps that fail
 
-abbrev pub bad : (A : Type 0) → Fault → Result A Fault
+abbrev pub bad : (A : Type 0) → UnitFault → Result A UnitFault
 bad A f = Err f
 
-pub err_is : (A : Type 0) (f g : Fault) → bad A f ≡ bad A g → f ≡ g
+pub err_is : (A : Type 0) (f g : UnitFault) → bad A f ≡ bad A g → f ≡ g
 err_is A f g e = cc
 
 -- the first step or the second one failed
-pub failed : {A B : Type 0} (r : Result A Fault) (k : A → Result B Fault) (f : Fault) → (r >>= k) ≡ Err f → (r ≡ Err f) ⊎ ((x : A) × (r ≡ Ok x) × (k x ≡ Err f))
+pub failed : {A B : Type 0} (r : Result A UnitFault) (k : A → Result B UnitFault) (f : UnitFault) → (r >>= k) ≡ Err f → (r ≡ Err f) ⊎ ((x : A) × (r ≡ Ok x) × (k x ≡ Err f))
 failed {A} {B} (Ok x) k f e = inr (x, refl, e)
 failed {A} {B} (Err g) k f e = inl (ap (bad A) (err_is B g f e))
 
-pub outcome : {A : Type 0} (r : Result A Fault) → ((x : A) × (r ≡ Ok x)) ⊎ ((f : Fault) × (r ≡ Err f))
+pub outcome : {A : Type 0} (r : Result A UnitFault) → ((x : A) × (r ≡ Ok x)) ⊎ ((f : UnitFault) × (r ≡ Err f))
 outcome (Ok x) = inl (x, refl)
 outcome (Err f) = inr (f, refl)
 
 -- ---- lengths and values
 
-abbrev gave : ℕ → List ℕ → Result (ℕ × List ℕ) Fault
+abbrev gave : ℕ → List ℕ → Result (ℕ × List ℕ) UnitFault
 gave n rest = Ok (n, rest)
 
-length_fault : (place : ℕ) (xs : List ℕ) (f : Fault) → length_at place xs ≡ Err f → f ≡ at place why.Length
+length_fault : (place : ℕ) (xs : List ℕ) (f : UnitFault) → length_at place xs ≡ Err f → f ≡ at place why.Length
 unfolding length_at
 length_fault place [] f e = sym (err_is (ℕ × List ℕ) (at place why.Length) f e)
 length_fault place (a ∷ []) f e =
@@ -51,7 +51,7 @@ length_fault place (a ∷ b ∷ c ∷ xs) f e =
 length_is : (place : ℕ) (xs : List ℕ) (n : ℕ) (len more : List ℕ) → IsLength n len → xs ≡ len ++ more → length_at place xs ≡ Ok (n, more)
 length_is place xs n len more is parts = ap (length_at place) parts ∙ length_again place n len more is
 
-value_fault : (end : ℕ) (xs : List ℕ) (f : Fault) → value_at end xs ≡ Err f → LacksValue xs × (f ≡ at (front end xs) why.Length)
+value_fault : (end : ℕ) (xs : List ℕ) (f : UnitFault) → value_at end xs ≡ Err f → LacksValue xs × (f ≡ at (front end xs) why.Length)
 unfolding value_at
 value_fault end xs f e =
     elim (failed (length_at (front end xs) xs) _ f e) [
@@ -83,14 +83,14 @@ value_lacks end xs fits lacks =
       | inr h ↦ h.1 ∙ ap (bad (List ℕ × List ℕ)) (value_fault end xs h.0 h.1).1
     ]
 
-value_inside : (Inside : ℕ → List ℕ → Fault → Type 0) (end : ℕ) (xs : List ℕ) (v : List ℕ × List ℕ) (f : Fault) → IsOctets xs → length xs ≤ end → value_at end xs ≡ Ok v
+value_inside : (Inside : ℕ → List ℕ → UnitFault → Type 0) (end : ℕ) (xs : List ℕ) (v : List ℕ × List ℕ) (f : UnitFault) → IsOctets xs → length xs ≤ end → value_at end xs ≡ Ok v
     → Inside (front (front end v.1) v.0) v.0 f → ValueFault Inside (front end xs) xs f
 value_inside Inside end xs v f fits le e there =
     let w = value_found end xs v fits e in
     let place : front (front end v.1) v.0 ≡ front end xs + length w.0 = omega (arith, ap length w.2, length-append w.0 (v.0 ++ v.1), length-append v.0 v.1) in
     inr (w.0, v.0, v.1, w.1, w.2, subst (λ (n : ℕ). Inside n v.0 f) place there)
 
-value_wrong : {X : Type 0} (Inside : ℕ → List ℕ → Fault → Type 0) (end : ℕ) (xs : List ℕ) (f : Fault) (k : List ℕ × List ℕ → Result X Fault) → IsOctets xs → length xs ≤ end
+value_wrong : {X : Type 0} (Inside : ℕ → List ℕ → UnitFault → Type 0) (end : ℕ) (xs : List ℕ) (f : UnitFault) (k : List ℕ × List ℕ → Result X UnitFault) → IsOctets xs → length xs ≤ end
     → ((v : List ℕ × List ℕ) → IsOctets v.0 → length v.0 ≤ front end v.1 → Inside (front (front end v.1) v.0) v.0 f → k v ≡ Err f) → ValueFault Inside (front end xs) xs f → (value_at end xs >>= k) ≡ Err f
 value_wrong {X} Inside end xs f k fits le fails (inl h) = ap (λ r. r >>= k) (value_lacks end xs fits h.0) ∙ ap (bad X) (sym h.1)
 value_wrong {X} Inside end xs f k fits le fails (inr h) =
@@ -103,7 +103,7 @@ value_wrong {X} Inside end xs f k fits le fails (inr h) =
 
 -- ---- parameters
 
-free_fault : (place : ℕ) (o : Option Slot) (p : Parameters) (f : Fault) → checked_free place o p ≡ Err f → IsRepeated o p × (f ≡ at place why.Extra)
+free_fault : (place : ℕ) (o : Option Slot) (p : Parameters) (f : UnitFault) → checked_free place o p ≡ Err f → IsRepeated o p × (f ≡ at place why.Extra)
 free_fault place None p f e = absurd cc
 free_fault place (Some slot) p f e =
     elim (chosen (is_free slot p) (Ok (Some slot)) (Err (at place why.Extra)) (Err f) e) [
@@ -116,12 +116,12 @@ free_wrong place None p h = absurd h
 free_wrong place (Some slot) p h = rw h refl
 
 abbrev Wrong : Type 1
-Wrong = Option Slot → Parameters → ℕ → List ℕ → Fault → Type 0
+Wrong = Option Slot → Parameters → ℕ → List ℕ → UnitFault → Type 0
 
 abbrev Right : Type 1
 Right = Option Slot → List ℕ → Parameters → Parameters → Type 0
 
-here : (Inside : Wrong) (One : Right) (table : List (ℕ × Slot)) (p : Parameters) (place x : ℕ) (xs : List ℕ) (f : Fault) → CodeFault Inside table p place x xs f
+here : (Inside : Wrong) (One : Right) (table : List (ℕ × Slot)) (p : Parameters) (place x : ℕ) (xs : List ℕ) (f : UnitFault) → CodeFault Inside table p place x xs f
     → ParametersFault Inside One table p place (x ∷ xs) f
 here Inside One table p place x xs f w = record {
   right = [];
@@ -135,7 +135,7 @@ here Inside One table p place x xs f w = record {
   wrong = (let z : place ≡ place + 0 = omega arith in subst (λ (n : ℕ). CodeFault Inside table p n x xs f) z w);
 }
 
-further : (Inside : Wrong) (One : Right) (table : List (ℕ × Slot)) (p r : Parameters) (place x : ℕ) (len v more : List ℕ) (f : Fault) → IsFree (row_of x table) p → IsLength (length v) len
+further : (Inside : Wrong) (One : Right) (table : List (ℕ × Slot)) (p r : Parameters) (place x : ℕ) (len v more : List ℕ) (f : UnitFault) → IsFree (row_of x table) p → IsLength (length v) len
     → One (row_of x table) v p r → ParametersFault Inside One table r (place + length (x ∷ len ++ v)) more f → ParametersFault Inside One table p place ((x ∷ len ++ v) ++ more) f
 further Inside One table p r place x len v more f free is one g =
     let first = x ∷ len ++ v in
@@ -153,8 +153,8 @@ further Inside One table p r place x len v more f free is one g =
 
 scan_fault : (t : Taker) (Inside : Wrong) (One : Right)
     → ((end : ℕ) (slot : Option Slot) (v : List ℕ) (p q : Parameters) → IsOctets v → t end slot v p ≡ Ok q → One slot v p q)
-    → ((end : ℕ) (slot : Option Slot) (v : List ℕ) (p : Parameters) (f : Fault) → IsOctets v → length v ≤ end → t end slot v p ≡ Err f → Inside slot p (front end v) v f)
-    → (table : List (ℕ × Slot)) (fuel end : ℕ) (p : Parameters) (xs : List ℕ) (f : Fault) → length xs ≤ fuel → length xs ≤ end → IsOctets xs → scan t table fuel end p xs ≡ Err f
+    → ((end : ℕ) (slot : Option Slot) (v : List ℕ) (p : Parameters) (f : UnitFault) → IsOctets v → length v ≤ end → t end slot v p ≡ Err f → Inside slot p (front end v) v f)
+    → (table : List (ℕ × Slot)) (fuel end : ℕ) (p : Parameters) (xs : List ℕ) (f : UnitFault) → length xs ≤ fuel → length xs ≤ end → IsOctets xs → scan t table fuel end p xs ≡ Err f
     → ParametersFault Inside One table p (front end xs) xs f
 unfolding scan
 scan_fault t Inside One takes fails table fuel end p [] f le me fits e = absurd cc
@@ -197,12 +197,12 @@ scan_fault t Inside One takes fails table (suc fuel) end p (x ∷ xs) f le me fi
           ])
     ]
 
-abbrev failing : Fault → Result Parameters Fault
+abbrev failing : UnitFault → Result Parameters UnitFault
 failing f = Err f
 
 scan_here : (t : Taker) (Inside : Wrong)
-    → ((end : ℕ) (slot : Option Slot) (v : List ℕ) (p : Parameters) (f : Fault) → IsOctets v → length v ≤ end → Inside slot p (front end v) v f → t end slot v p ≡ Err f)
-    → (table : List (ℕ × Slot)) (fuel end : ℕ) (p : Parameters) (x : ℕ) (xs : List ℕ) (f : Fault) → length (x ∷ xs) ≤ fuel → length (x ∷ xs) ≤ end → IsOctets (x ∷ xs)
+    → ((end : ℕ) (slot : Option Slot) (v : List ℕ) (p : Parameters) (f : UnitFault) → IsOctets v → length v ≤ end → Inside slot p (front end v) v f → t end slot v p ≡ Err f)
+    → (table : List (ℕ × Slot)) (fuel end : ℕ) (p : Parameters) (x : ℕ) (xs : List ℕ) (f : UnitFault) → length (x ∷ xs) ≤ fuel → length (x ∷ xs) ≤ end → IsOctets (x ∷ xs)
     → CodeFault Inside table p (front end (x ∷ xs)) x xs f → scan t table fuel end p (x ∷ xs) ≡ Err f
 unfolding scan
 scan_here t Inside fails table zero end p x xs f le me fits w = absurd (omega arith)
@@ -217,8 +217,8 @@ scan_here t Inside fails table (suc fuel) end p x xs f le me fits (inr h) =
 
 scan_wrong : (t : Taker) (Inside : Wrong) (One : Right)
     → ((end : ℕ) (slot : Option Slot) (v : List ℕ) (p q : Parameters) → One slot v p q → t end slot v p ≡ Ok q)
-    → ((end : ℕ) (slot : Option Slot) (v : List ℕ) (p : Parameters) (f : Fault) → IsOctets v → length v ≤ end → Inside slot p (front end v) v f → t end slot v p ≡ Err f)
-    → (table : List (ℕ × Slot)) (fuel end : ℕ) (p made : Parameters) (xs : List ℕ) (f : Fault) (ps : List (ℕ × List ℕ)) (before : List ℕ) (code : ℕ) (rest : List ℕ)
+    → ((end : ℕ) (slot : Option Slot) (v : List ℕ) (p : Parameters) (f : UnitFault) → IsOctets v → length v ≤ end → Inside slot p (front end v) v f → t end slot v p ≡ Err f)
+    → (table : List (ℕ × Slot)) (fuel end : ℕ) (p made : Parameters) (xs : List ℕ) (f : UnitFault) (ps : List (ℕ × List ℕ)) (before : List ℕ) (code : ℕ) (rest : List ℕ)
     → length xs ≤ fuel → length xs ≤ end → IsOctets xs → AreParameters ps before → AllPut One table ps p made → xs ≡ before ++ code ∷ rest
     → CodeFault Inside table made (front end xs + length before) code rest f → scan t table fuel end p xs ≡ Err f
 unfolding scan
@@ -252,56 +252,56 @@ scan_wrong t Inside One takes fails table (suc fuel) end p made xs f (x ∷ ps) 
 
 -- ---- what stands in a value
 
-filled_fault : (place : ℕ) (o : Option Parameters) (f : Fault) → filled place o ≡ Err f → (o ≡ None) × (f ≡ at place why.Content)
+filled_fault : (place : ℕ) (o : Option Parameters) (f : UnitFault) → filled place o ≡ Err f → (o ≡ None) × (f ≡ at place why.Content)
 filled_fault place None f e = (refl, sym (err_is Parameters (at place why.Content) f e))
 filled_fault place (Some p) f e = absurd cc
 
-item_fault : (end : ℕ) (slot : Option Slot) (v : List ℕ) (p : Parameters) (f : Fault) → IsOctets v → length v ≤ end → item_taken end slot v p ≡ Err f → ItemFault slot p (front end v) v f
+item_fault : (end : ℕ) (slot : Option Slot) (v : List ℕ) (p : Parameters) (f : UnitFault) → IsOctets v → length v ≤ end → item_taken end slot v p ≡ Err f → ItemFault slot p (front end v) v f
 item_fault end None v p f fits le e = absurd cc
 item_fault end (Some slot) v p f fits le e = filled_fault (front end v) (put slot v p) f e
 
-item_wrong : (end : ℕ) (slot : Option Slot) (v : List ℕ) (p : Parameters) (f : Fault) → IsOctets v → length v ≤ end → ItemFault slot p (front end v) v f → item_taken end slot v p ≡ Err f
+item_wrong : (end : ℕ) (slot : Option Slot) (v : List ℕ) (p : Parameters) (f : UnitFault) → IsOctets v → length v ≤ end → ItemFault slot p (front end v) v f → item_taken end slot v p ≡ Err f
 item_wrong end None v p f fits le w = absurd w
 item_wrong end (Some slot) v p f fits le w = ap (filled (front end v)) w.0 ∙ ap failing (sym w.1)
 
-inside_fault : (o : Option (List (ℕ × Slot))) (end : ℕ) (v : List ℕ) (p : Parameters) (f : Fault) → IsOctets v → length v ≤ end → inside o end v p ≡ Err f → InsideFault o p (front end v) v f
+inside_fault : (o : Option (List (ℕ × Slot))) (end : ℕ) (v : List ℕ) (p : Parameters) (f : UnitFault) → IsOctets v → length v ≤ end → inside o end v p ≡ Err f → InsideFault o p (front end v) v f
 inside_fault None end v p f fits le e = absurd cc
 inside_fault (Some table) end v p f fits le e = scan_fault item_taken ItemFault ItemPut item_found item_fault table (length v) end p v f (omega arith) le fits e
 
-inside_wrong : (o : Option (List (ℕ × Slot))) (end : ℕ) (v : List ℕ) (p : Parameters) (f : Fault) → IsOctets v → length v ≤ end → InsideFault o p (front end v) v f → inside o end v p ≡ Err f
+inside_wrong : (o : Option (List (ℕ × Slot))) (end : ℕ) (v : List ℕ) (p : Parameters) (f : UnitFault) → IsOctets v → length v ≤ end → InsideFault o p (front end v) v f → inside o end v p ≡ Err f
 inside_wrong None end v p f fits le w = absurd w
 inside_wrong (Some table) end v p f fits le w =
     scan_wrong item_taken ItemFault ItemPut item_again item_wrong table (length v) end p w.made v f w.right w.before w.code w.rest (omega arith) le fits w.spelled w.puts w.parts w.wrong
 
-group_fault : (end : ℕ) (slot : Option Slot) (v : List ℕ) (p : Parameters) (f : Fault) → IsOctets v → length v ≤ end → group_inside end slot v p ≡ Err f → GroupFault slot p (front end v) v f
+group_fault : (end : ℕ) (slot : Option Slot) (v : List ℕ) (p : Parameters) (f : UnitFault) → IsOctets v → length v ≤ end → group_inside end slot v p ≡ Err f → GroupFault slot p (front end v) v f
 group_fault end None v p f fits le e = absurd cc
 group_fault end (Some slot) v p f fits le e = inside_fault (items_of slot) end v p f fits le e
 
-group_wrong : (end : ℕ) (slot : Option Slot) (v : List ℕ) (p : Parameters) (f : Fault) → IsOctets v → length v ≤ end → GroupFault slot p (front end v) v f → group_inside end slot v p ≡ Err f
+group_wrong : (end : ℕ) (slot : Option Slot) (v : List ℕ) (p : Parameters) (f : UnitFault) → IsOctets v → length v ≤ end → GroupFault slot p (front end v) v f → group_inside end slot v p ≡ Err f
 group_wrong end None v p f fits le w = absurd w
 group_wrong end (Some slot) v p f fits le w = inside_wrong (items_of slot) end v p f fits le w
 
-parameter_fault : (end : ℕ) (slot : Option Slot) (v : List ℕ) (p : Parameters) (f : Fault) → IsOctets v → length v ≤ end → parameter_taken end slot v p ≡ Err f → ParameterFault slot p (front end v) v f
+parameter_fault : (end : ℕ) (slot : Option Slot) (v : List ℕ) (p : Parameters) (f : UnitFault) → IsOctets v → length v ≤ end → parameter_taken end slot v p ≡ Err f → ParameterFault slot p (front end v) v f
 parameter_fault end slot v p f fits le e =
     elim (failed (item_taken end slot v p) (group_inside end slot v) f e) [
       | inl h ↦ inl (item_fault end slot v p f fits le h)
       | inr h ↦ inr (h.0, item_found end slot v p h.0 fits h.1, group_fault end slot v h.0 f fits le h.2)
     ]
 
-parameter_wrong : (end : ℕ) (slot : Option Slot) (v : List ℕ) (p : Parameters) (f : Fault) → IsOctets v → length v ≤ end → ParameterFault slot p (front end v) v f → parameter_taken end slot v p ≡ Err f
+parameter_wrong : (end : ℕ) (slot : Option Slot) (v : List ℕ) (p : Parameters) (f : UnitFault) → IsOctets v → length v ≤ end → ParameterFault slot p (front end v) v f → parameter_taken end slot v p ≡ Err f
 parameter_wrong end slot v p f fits le (inl w) = ap (λ r. r >>= group_inside end slot v) (item_wrong end slot v p f fits le w)
 parameter_wrong end slot v p f fits le (inr w) = ap (λ r. r >>= group_inside end slot v) (item_again end slot v p w.0 w.1) ∙ group_wrong end slot v w.0 f fits le w.2
 
 -- ---- one unit
 
-known_fault : (place : ℕ) (o : Option SpduKind) (f : Fault) → known place o ≡ Err f → (o ≡ None) × (f ≡ at place why.Tag)
+known_fault : (place : ℕ) (o : Option SpduKind) (f : UnitFault) → known place o ≡ Err f → (o ≡ None) × (f ≡ at place why.Tag)
 known_fault place None f e = (refl, sym (err_is SpduKind (at place why.Tag) f e))
 known_fault place (Some kind) f e = absurd cc
 
-abbrev Body : SpduKind → ℕ → List ℕ → Fault → Type 0
+abbrev Body : SpduKind → ℕ → List ℕ → UnitFault → Type 0
 Body kind = ParametersFault ParameterFault ParameterPut (parameters_of kind) none_yet
 
-pub unit_fault : (table : List (ℕ × SpduKind)) (end : ℕ) (xs : List ℕ) (f : Fault) → IsOctets xs → length xs ≤ end → unit_at table end xs ≡ Err f → UnitFault table (front end xs) xs f
+pub unit_fault : (table : List (ℕ × SpduKind)) (end : ℕ) (xs : List ℕ) (f : UnitFault) → IsOctets xs → length xs ≤ end → unit_at table end xs ≡ Err f → HasUnitFault table (front end xs) xs f
 unfolding unit_at
 unit_fault table end [] f fits le e = (let z : end ≡ front end [] = omega arith in sym (err_is (SpduKind × Parameters × List ℕ) (at end why.Missing) f e) ∙ ap (λ (n : ℕ). at n why.Missing) z)
 unit_fault table end (x ∷ xs) f fits le e =
@@ -328,7 +328,7 @@ unit_fault table end (x ∷ xs) f fits le e =
           ])
     ]
 
-pub unit_wrong : (table : List (ℕ × SpduKind)) (end : ℕ) (xs : List ℕ) (f : Fault) → IsOctets xs → length xs ≤ end → UnitFault table (front end xs) xs f → unit_at table end xs ≡ Err f
+pub unit_wrong : (table : List (ℕ × SpduKind)) (end : ℕ) (xs : List ℕ) (f : UnitFault) → IsOctets xs → length xs ≤ end → HasUnitFault table (front end xs) xs f → unit_at table end xs ≡ Err f
 unfolding unit_at
 unit_wrong table end [] f fits le w = (let z : end ≡ front end [] = omega arith in ap (λ (n : ℕ). bad (SpduKind × Parameters × List ℕ) (at n why.Missing)) z ∙ ap (bad (SpduKind × Parameters × List ℕ)) (sym w))
 unit_wrong table end (x ∷ xs) f fits le (inl w) = rw w.0 (ap (bad (SpduKind × Parameters × List ℕ)) (sym w.1))

@@ -12,16 +12,16 @@ use Rattle.spdu_codec.specs.declared.kind.SpduKind.TheVariants as kinds
 use Rattle.spdu_codec.specs.declared.parameters.Parameters.{Parameters}
 use Rattle.spdu_codec.specs.Tables.{first_units, second_units}
 use Rattle.spdu_codec.specs.Words.{word_of, has_information, leads}
-use Rattle.spdu_codec.specs.Reading.{Gives, Fault, at, ◌>>=◌, front, unit_at, worded, last_word, is_first, second_at, behind_first, units_at}
+use Rattle.spdu_codec.specs.Reading.{Gives, UnitFault, at, ◌>>=◌, front, unit_at, worded, last_word, is_first, second_at, behind_first, units_at}
 use Rattle.spdu_codec.specs.Wire.{IsOctets, AreUnits}
-use Rattle.spdu_codec.specs.Faults.{UnitFault, EndFault, LastFault, SecondFault, FirstFault, IsFirstFault}
+use Rattle.spdu_codec.specs.Faults.{HasUnitFault, EndFault, LastFault, SecondFault, FirstFault, IsFirstFault}
 use Rattle.spdu_codec.proofs.Results.{chosen}
 use Rattle.spdu_codec.proofs.WireLaws.{octets-behind, unit_found, unit_again, worded_found, other, all_found, all_again}
 use Rattle.spdu_codec.proofs.FaultLaws.{bad, err_is, failed, outcome, unit_fault, unit_wrong}
 
 -- ---- the unit that stands last
 
-worded_fault : (place : ℕ) (o : Option SessionWord) (f : Fault) → worded place o ≡ Err f → (o ≡ None) × (f ≡ at place why.Missing)
+worded_fault : (place : ℕ) (o : Option SessionWord) (f : UnitFault) → worded place o ≡ Err f → (o ≡ None) × (f ≡ at place why.Missing)
 worded_fault place None f e = (refl, sym (err_is SessionWord (at place why.Missing) f e))
 worded_fault place (Some word) f e = absurd cc
 
@@ -33,7 +33,7 @@ are_some : (xs : List ℕ) → 0 < length xs → (length xs == 0) ≡ false
 are_some [] e = absurd (omega arith)
 are_some (x ∷ xs) e = other (length (x ∷ xs)) 0 (λ h. omega arith)
 
-last_fault : (end : ℕ) (kind : SpduKind) (p : Parameters) (behind : List ℕ) (f : Fault) → last_word end kind p behind ≡ Err f → EndFault kind p (front end behind) behind f
+last_fault : (end : ℕ) (kind : SpduKind) (p : Parameters) (behind : List ℕ) (f : UnitFault) → last_word end kind p behind ≡ Err f → EndFault kind p (front end behind) behind f
 last_fault end kind p behind f e =
     elim (failed (worded (front end behind) (word_of kind true p behind)) _ f e) [
       | inl h ↦ inl (worded_fault (front end behind) (word_of kind true p behind) f h)
@@ -46,7 +46,7 @@ last_fault end kind p behind f e =
           ])
     ]
 
-last_wrong : (end : ℕ) (kind : SpduKind) (p : Parameters) (behind : List ℕ) (f : Fault) → EndFault kind p (front end behind) behind f → last_word end kind p behind ≡ Err f
+last_wrong : (end : ℕ) (kind : SpduKind) (p : Parameters) (behind : List ℕ) (f : UnitFault) → EndFault kind p (front end behind) behind f → last_word end kind p behind ≡ Err f
 last_wrong end kind p behind f (inl h) = rw h.0 (ap (bad SessionWord) (sym h.1))
 last_wrong end kind p behind f (inr h) =
     let some = are_some behind h.3 in
@@ -55,7 +55,7 @@ last_wrong end kind p behind f (inr h) =
 
 -- ---- the unit that stands second
 
-second_fault : (end : ℕ) (xs : List ℕ) (f : Fault) → IsOctets xs → length xs ≤ end → second_at end xs ≡ Err f → LastFault second_units (front end xs) xs f
+second_fault : (end : ℕ) (xs : List ℕ) (f : UnitFault) → IsOctets xs → length xs ≤ end → second_at end xs ≡ Err f → LastFault second_units (front end xs) xs f
 second_fault end xs f fits le e =
     elim (failed (unit_at second_units end xs) (λ u. last_word end u.0 u.1 u.2) f e) [
       | inl h ↦ inl (unit_fault second_units end xs f fits le h)
@@ -74,7 +74,7 @@ second_fault end xs f fits le e =
           }))
     ]
 
-second_wrong : (end : ℕ) (xs : List ℕ) (f : Fault) → IsOctets xs → length xs ≤ end → LastFault second_units (front end xs) xs f → second_at end xs ≡ Err f
+second_wrong : (end : ℕ) (xs : List ℕ) (f : UnitFault) → IsOctets xs → length xs ≤ end → LastFault second_units (front end xs) xs f → second_at end xs ≡ Err f
 second_wrong end xs f fits le (inl w) = ap (λ r. r >>= λ u. last_word end u.0 u.1 u.2) (unit_wrong second_units end xs f fits le w)
 second_wrong end xs f fits le (inr w) =
     let place : front end xs + length w.unit ≡ front end w.behind = omega (arith, ap length w.parts, length-append w.unit w.behind) in
@@ -103,10 +103,10 @@ not_lead true behind (inr e) = ap (λ (l : List ℕ). not (length l == 0)) e
 first_true : (b : Bool) (behind : List ℕ) → (b && not (length behind == 0)) ≡ true → (b ≡ true) × (0 < length behind)
 first_true b behind e = (let g = and_parts b (not (length behind == 0)) e in (g.0, some_are behind (let i = g.1 in elim (cases_Bool (length behind == 0)) [ inl h ↦ absurd (let j : not true ≡ true = ap not (sym h) ∙ i in cc) | inr h ↦ h ])))
 
-abbrev failing : Fault → Result (List SessionWord) Fault
+abbrev failing : UnitFault → Result (List SessionWord) UnitFault
 failing f = Err f
 
-behind_fault : (end : ℕ) (kind : SpduKind) (p : Parameters) (behind : List ℕ) (f : Fault) → IsOctets behind → length behind ≤ end → behind_first end (kind, p, behind) ≡ Err f
+behind_fault : (end : ℕ) (kind : SpduKind) (p : Parameters) (behind : List ℕ) (f : UnitFault) → IsOctets behind → length behind ≤ end → behind_first end (kind, p, behind) ≡ Err f
     → SecondFault kind p (front end behind) behind f
 behind_fault end kind p behind f fits le e =
     elim (chosen (is_first kind behind) _ _ (Err f) e) [
@@ -129,7 +129,7 @@ behind_fault end kind p behind f fits le e =
           ])
     ]
 
-behind_wrong : (end : ℕ) (kind : SpduKind) (p : Parameters) (behind : List ℕ) (f : Fault) → IsOctets behind → length behind ≤ end → SecondFault kind p (front end behind) behind f
+behind_wrong : (end : ℕ) (kind : SpduKind) (p : Parameters) (behind : List ℕ) (f : UnitFault) → IsOctets behind → length behind ≤ end → SecondFault kind p (front end behind) behind f
     → behind_first end (kind, p, behind) ≡ Err f
 behind_wrong end kind p behind f fits le (inl w) =
     let some = are_some behind w.1 in
@@ -140,13 +140,13 @@ behind_wrong end kind p behind f fits le (inr w) =
     let alone : is_first kind behind ≡ false = not_lead (leads kind) behind w.0 in
     rw (alone, last_wrong end kind p behind f w.1) refl
 
-pub is_first_fault : (xs : List ℕ) (f : Fault) → IsOctets xs → units_at xs ≡ Err f → FirstFault xs f
+pub is_first_fault : (xs : List ℕ) (f : UnitFault) → IsOctets xs → units_at xs ≡ Err f → FirstFault xs f
 unfolding units_at
 is_first_fault xs f fits e =
     let end = length xs in
     let start : front end xs ≡ 0 = omega arith in
     elim (failed (unit_at first_units end xs) (behind_first end) f e) [
-      | inl h ↦ inl (subst (λ (n : ℕ). UnitFault first_units n xs f) start (unit_fault first_units end xs f fits (omega arith) h))
+      | inl h ↦ inl (subst (λ (n : ℕ). HasUnitFault first_units n xs f) start (unit_fault first_units end xs f fits (omega arith) h))
       | inr h ↦ (
           let u = h.0 in
           let g = unit_found first_units end xs u fits h.1 in
@@ -164,12 +164,12 @@ is_first_fault xs f fits e =
           }))
     ]
 
-pub first_is_given : (xs : List ℕ) (f : Fault) → IsOctets xs → FirstFault xs f → units_at xs ≡ Err f
+pub first_is_given : (xs : List ℕ) (f : UnitFault) → IsOctets xs → FirstFault xs f → units_at xs ≡ Err f
 unfolding units_at
 first_is_given xs f fits (inl w) =
     let end = length xs in
     let start : 0 ≡ front end xs = omega arith in
-    ap (λ r. r >>= behind_first end) (unit_wrong first_units end xs f fits (omega arith) (subst (λ (n : ℕ). UnitFault first_units n xs f) start w))
+    ap (λ r. r >>= behind_first end) (unit_wrong first_units end xs f fits (omega arith) (subst (λ (n : ℕ). HasUnitFault first_units n xs f) start w))
 first_is_given xs f fits (inr w) =
     let end = length xs in
     let n = ap length w.parts in
@@ -181,16 +181,16 @@ first_is_given xs f fits (inr w) =
 
 -- ---- what the laws say
 
-pub either : (xs : List ℕ) → IsOctets xs → ((words : List SessionWord) × AreUnits words xs) ⊎ ((f : Fault) × FirstFault xs f)
+pub either : (xs : List ℕ) → IsOctets xs → ((words : List SessionWord) × AreUnits words xs) ⊎ ((f : UnitFault) × FirstFault xs f)
 either xs fits = elim (outcome (units_at xs)) [ inl h ↦ inl (h.0, all_found xs h.0 fits h.1) | inr h ↦ inr (h.0, is_first_fault xs h.0 fits h.1) ]
 
-abbrev read : List SessionWord → Result (List SessionWord) Fault
+abbrev read : List SessionWord → Result (List SessionWord) UnitFault
 read words = Ok words
 
-pub never_both : (xs : List ℕ) (words : List SessionWord) (f : Fault) → IsOctets xs → AreUnits words xs → FirstFault xs f → ⊥
+pub never_both : (xs : List ℕ) (words : List SessionWord) (f : UnitFault) → IsOctets xs → AreUnits words xs → FirstFault xs f → ⊥
 never_both xs words f fits are is = (let e : read words ≡ failing f = sym (all_again xs words are) ∙ first_is_given xs f fits is in cc)
 
-pub one_first : (xs : List ℕ) (f g : Fault) → IsOctets xs → FirstFault xs f → FirstFault xs g → f ≡ g
+pub one_first : (xs : List ℕ) (f g : UnitFault) → IsOctets xs → FirstFault xs f → FirstFault xs g → f ≡ g
 one_first xs f g fits a b = err_is (List SessionWord) f g (sym (first_is_given xs f fits a) ∙ first_is_given xs g fits b)
 
 -- what a reader found, seen through its result

@@ -14,7 +14,7 @@ use Rattle.spdu_codec.specs.Tables.{row_of, first_units, second_units, parameter
 use Rattle.spdu_codec.specs.Values.{octet_of, number_of, pair_of, mark_of}
 use Rattle.spdu_codec.specs.Parameters.{none_yet, put, with_value, refusal}
 use Rattle.spdu_codec.specs.Words.{has_information, word_of, needed, leads}
-use Rattle.spdu_codec.specs.Reading.{Fault, front, value_at}
+use Rattle.spdu_codec.specs.Reading.{UnitFault, front, value_at}
 use Rattle.spdu_codec.specs.Wire.{AreParameters, AllPut, ItemPut, IsInside, GroupPut, ParameterPut, IsUnit, IsLast, IsFront, AreUnits}
 use Rattle.spdu_codec.specs.Places.{place, behind_code, placed, on_value, user_among, user_of, StandsAt, HoldUser, head, user_in, user_of_last, places, user_places}
 use Rattle.spdu_codec.proofs.PlaceLoop.{among, goes_on}
@@ -292,7 +292,7 @@ information_user _ alone p behind w h e = absurd cc
 
 -- ---- units
 
-quiet_value : (at : Option ℕ) (r : Result (List ℕ × List ℕ) Fault) (f : List ℕ × List ℕ → Option ℕ) → ((v : List ℕ × List ℕ) → f v ≡ at) → on_value at r f ≡ at
+quiet_value : (at : Option ℕ) (r : Result (List ℕ × List ℕ) UnitFault) (f : List ℕ × List ℕ → Option ℕ) → ((v : List ℕ × List ℕ) → f v ≡ at) → on_value at r f ≡ at
 quiet_value at (Err e) f h = refl
 quiet_value at (Ok v) f h = h v
 

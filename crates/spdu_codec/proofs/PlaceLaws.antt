@@ -11,7 +11,7 @@ use Rattle.spdu_codec.specs.Tables.{row_of, first_units, second_units, parameter
 use Rattle.spdu_codec.specs.Words.{has_information, leads}
 use Rattle.spdu_codec.specs.Reading.{front, value_at, is_first}
 use Rattle.spdu_codec.specs.Wire.{IsLength, AreParameters, IsUnit, IsLast, IsFront, AreUnits}
-use Rattle.spdu_codec.specs.Places.{place, placed, user_among, UserAmong, UserIn, UserOfLast, ArePlaced, Head, head, head_at, user_in, user_of_last, last_of, places, places_of, user_places}
+use Rattle.spdu_codec.specs.Places.{place, placed, user_among, UserAmong, UserIn, UserOfLast, ArePlaced, head, head_at, user_in, user_of_last, last_of, places, places_of, user_places}
 use Rattle.spdu_codec.proofs.PlaceLoop.{among, goes_on}
 use Rattle.spdu_codec.proofs.WireLaws.{value_again, not_first, last_some}
 

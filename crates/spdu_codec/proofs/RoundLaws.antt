@@ -7,6 +7,7 @@ use Rattle.std.proofs.lemmas.List.{append-nil, length-append}
 use Rattle.osi_base.specs.declared.session_word.SessionConnect.{SessionConnect}
 use Rattle.osi_base.specs.declared.session_word.SessionWord.{SessionWord}
 use Rattle.osi_base.specs.declared.session_word.SessionWord.TheVariants as words
+use Rattle.osi_base.specs.Limits.{last_activity}
 use Rattle.spdu_codec.specs.declared.kind.SpduKind.{SpduKind}
 use Rattle.spdu_codec.specs.declared.kind.SpduKind.TheVariants as kinds
 use Rattle.spdu_codec.specs.declared.parameters.Slot.{Slot}
@@ -408,13 +409,13 @@ same_number n = grind arith
 abbrev linked : ℕ → ℕ → Parameters
 linked activity mark = record none_yet { linking = true; old_activity = Some activity; old_mark = Some mark }
 
-linking_inside : (activity mark : ℕ) → IsNumber activity → mark < 1000000 → AllPut ItemPut linking_table ((41, numeral activity) ∷ (42, mark_numeral mark) ∷ []) (record none_yet { linking = true }) (linked activity mark)
-linking_inside activity mark h lt =
+linking_inside : (activity mark : ℕ) → IsNumber activity → mark ≤ last_activity → AllPut ItemPut linking_table ((41, numeral activity) ∷ (42, mark_numeral mark) ∷ []) (record none_yet { linking = true }) (linked activity mark)
+linking_inside activity mark h le =
     let p : Parameters = record none_yet { linking = true } in
     let q : Parameters = record p { old_activity = Some activity } in
     puts-append ItemPut linking_table ((41, numeral activity) ∷ []) ((42, mark_numeral mark) ∷ []) p q (linked activity mark)
     (one_puts ItemPut linking_table 41 OldActivity (numeral activity) p q refl refl (number_put OldActivity activity p q (λ v. refl) h refl))
-    (one_puts ItemPut linking_table 42 OldMark (mark_numeral mark) q (linked activity mark) refl refl (ap (λ o. with_value o (λ n. Some (record q { old_mark = Some n }))) (mark_again mark lt)))
+    (one_puts ItemPut linking_table 42 OldMark (mark_numeral mark) q (linked activity mark) refl refl (ap (λ o. with_value o (λ n. Some (record q { old_mark = Some n }))) (mark_again mark le)))
 
 resume_made : (activity mark : ℕ) → Fits (words.ActivityResume activity mark) → Made kinds.ActivityResume (parameters_written (words.ActivityResume activity mark)) (record (linked activity mark) { activity = Some activity })
 resume_made activity mark fits =

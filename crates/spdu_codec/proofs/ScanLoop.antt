@@ -8,7 +8,7 @@ use Rattle.spdu_codec.specs.declared.fault.SFault.TheVariants as faults
 use Rattle.spdu_codec.specs.declared.parameters.Slot.{Slot}
 use Rattle.spdu_codec.specs.declared.parameters.Parameters.{Parameters}
 use Rattle.spdu_codec.specs.Tables.{row_of}
-use Rattle.spdu_codec.specs.Reading.{Fault, at, FailsWith, front, length_at, value_at, checked_free, scan}
+use Rattle.spdu_codec.specs.Reading.{UnitFault, at, FailsWith, front, length_at, value_at, checked_free, scan}
 use Rattle.spdu_codec.proofs.Results.{ok_is, refused, chosen, bound, same_steps}
 
 -- a length takes at least one octet
@@ -37,7 +37,7 @@ value_less end xs v e =
     omega (arith, less, length-take n.0 n.1, length-drop n.0 n.1, ap length value, ap length rest)
 
 abbrev pub Taker : Type 0
-Taker = ℕ → Option Slot → List ℕ → Parameters → Result Parameters Fault
+Taker = ℕ → Option Slot → List ℕ → Parameters → Result Parameters UnitFault
 
 pub any_fuel : (t : Taker) (table : List (ℕ × Slot)) (f g end : ℕ) (p : Parameters) (xs : List ℕ) → length xs ≤ f → length xs ≤ g → scan t table f end p xs ≡ scan t table g end p xs
 unfolding scan
@@ -52,7 +52,7 @@ any_fuel t table (suc f) (suc g) end p (x ∷ xs) le me =
     any_fuel t table f g end next v.1 (omega arith) (omega arith))))
 
 -- with enough fuel
-abbrev pub scanned : Taker → List (ℕ × Slot) → ℕ → Parameters → List ℕ → Result Parameters Fault
+abbrev pub scanned : Taker → List (ℕ × Slot) → ℕ → Parameters → List ℕ → Result Parameters UnitFault
 scanned t table end p xs = scan t table (length xs) end p xs
 
 pub goes_on : (t : Taker) (table : List (ℕ × Slot)) (end : ℕ) (p next : Parameters) (x : ℕ) (xs : List ℕ) (slot : Option Slot) (v : List ℕ × List ℕ)
@@ -64,19 +64,19 @@ goes_on t table end p next x xs slot v a b c =
     rw (a, b, c) (any_fuel t table (length xs) (length v.1) end next v.1 (omega arith) (omega arith))
 
 -- a step that fails fails the whole
-pub fails_free : (e : SFault) (t : Taker) (table : List (ℕ × Slot)) (end : ℕ) (p : Parameters) (x : ℕ) (xs : List ℕ) (total : Result Parameters Fault)
+pub fails_free : (e : SFault) (t : Taker) (table : List (ℕ × Slot)) (end : ℕ) (p : Parameters) (x : ℕ) (xs : List ℕ) (total : Result Parameters UnitFault)
     → FailsWith e (checked_free (front end (x ∷ xs)) (row_of x table) p) → scanned t table end p (x ∷ xs) ≡ total → FailsWith e total
 unfolding scan
 fails_free faults.NoMemory t table end p x xs total h so_far = tt
 fails_free (faults.At o k) t table end p x xs total h so_far = sym so_far ∙ rw h refl
 
-pub fails_value : (e : SFault) (t : Taker) (table : List (ℕ × Slot)) (end : ℕ) (p : Parameters) (x : ℕ) (xs : List ℕ) (slot : Option Slot) (total : Result Parameters Fault)
+pub fails_value : (e : SFault) (t : Taker) (table : List (ℕ × Slot)) (end : ℕ) (p : Parameters) (x : ℕ) (xs : List ℕ) (slot : Option Slot) (total : Result Parameters UnitFault)
     → checked_free (front end (x ∷ xs)) (row_of x table) p ≡ Ok slot → FailsWith e (value_at end xs) → scanned t table end p (x ∷ xs) ≡ total → FailsWith e total
 unfolding scan
 fails_value faults.NoMemory t table end p x xs slot total a h so_far = tt
 fails_value (faults.At o k) t table end p x xs slot total a h so_far = sym so_far ∙ rw (a, h) refl
 
-pub fails_take : (e : SFault) (t : Taker) (table : List (ℕ × Slot)) (end : ℕ) (p : Parameters) (x : ℕ) (xs : List ℕ) (slot : Option Slot) (v : List ℕ × List ℕ) (total : Result Parameters Fault)
+pub fails_take : (e : SFault) (t : Taker) (table : List (ℕ × Slot)) (end : ℕ) (p : Parameters) (x : ℕ) (xs : List ℕ) (slot : Option Slot) (v : List ℕ × List ℕ) (total : Result Parameters UnitFault)
     → checked_free (front end (x ∷ xs)) (row_of x table) p ≡ Ok slot → value_at end xs ≡ Ok v → FailsWith e (t (front end v.1) slot v.0 p) → scanned t table end p (x ∷ xs) ≡ total → FailsWith e total
 unfolding scan
 fails_take faults.NoMemory t table end p x xs slot v total a b h so_far = tt
@@ -84,27 +84,27 @@ fails_take (faults.At o k) t table end p x xs slot v total a b h so_far = sym so
 
 -- ---- the same for octets that were taken apart
 
-pub loop_on : (t : Taker) (table : List (ℕ × Slot)) (end : ℕ) (p next : Parameters) (all : List ℕ) (x : ℕ) (xs : List ℕ) (slot : Option Slot) (v : List ℕ × List ℕ) (total : Result Parameters Fault)
+pub loop_on : (t : Taker) (table : List (ℕ × Slot)) (end : ℕ) (p next : Parameters) (all : List ℕ) (x : ℕ) (xs : List ℕ) (slot : Option Slot) (v : List ℕ × List ℕ) (total : Result Parameters UnitFault)
     → all ≡ x ∷ xs → checked_free (front end all) (row_of x table) p ≡ Ok slot → value_at end xs ≡ Ok v → t (front end v.1) slot v.0 p ≡ Ok next
     → scanned t table end p all ≡ total → scanned t table end next v.1 ≡ total
 loop_on t table end p next all x xs slot v total z a b c so_far =
     sym (goes_on t table end p next x xs slot v (subst (λ (w : List ℕ). checked_free (front end w) (row_of x table) p ≡ Ok slot) z a) b c) ∙ ap (scanned t table end p) (sym z) ∙ so_far
 
-pub loop_free : (e : SFault) (t : Taker) (table : List (ℕ × Slot)) (end : ℕ) (p : Parameters) (all : List ℕ) (x : ℕ) (xs : List ℕ) (total : Result Parameters Fault)
+pub loop_free : (e : SFault) (t : Taker) (table : List (ℕ × Slot)) (end : ℕ) (p : Parameters) (all : List ℕ) (x : ℕ) (xs : List ℕ) (total : Result Parameters UnitFault)
     → all ≡ x ∷ xs → FailsWith e (checked_free (front end all) (row_of x table) p) → scanned t table end p all ≡ total → FailsWith e total
 loop_free e t table end p all x xs total z h so_far =
     fails_free e t table end p x xs total (subst (λ (w : List ℕ). FailsWith e (checked_free (front end w) (row_of x table) p)) z h) (ap (scanned t table end p) (sym z) ∙ so_far)
 
-pub loop_value : (e : SFault) (t : Taker) (table : List (ℕ × Slot)) (end : ℕ) (p : Parameters) (all : List ℕ) (x : ℕ) (xs : List ℕ) (slot : Option Slot) (total : Result Parameters Fault)
+pub loop_value : (e : SFault) (t : Taker) (table : List (ℕ × Slot)) (end : ℕ) (p : Parameters) (all : List ℕ) (x : ℕ) (xs : List ℕ) (slot : Option Slot) (total : Result Parameters UnitFault)
     → all ≡ x ∷ xs → checked_free (front end all) (row_of x table) p ≡ Ok slot → FailsWith e (value_at end xs) → scanned t table end p all ≡ total → FailsWith e total
 loop_value e t table end p all x xs slot total z a h so_far =
     fails_value e t table end p x xs slot total (subst (λ (w : List ℕ). checked_free (front end w) (row_of x table) p ≡ Ok slot) z a) h (ap (scanned t table end p) (sym z) ∙ so_far)
 
-pub loop_take : (e : SFault) (t : Taker) (table : List (ℕ × Slot)) (end : ℕ) (p : Parameters) (all : List ℕ) (x : ℕ) (xs : List ℕ) (slot : Option Slot) (v : List ℕ × List ℕ) (total : Result Parameters Fault)
+pub loop_take : (e : SFault) (t : Taker) (table : List (ℕ × Slot)) (end : ℕ) (p : Parameters) (all : List ℕ) (x : ℕ) (xs : List ℕ) (slot : Option Slot) (v : List ℕ × List ℕ) (total : Result Parameters UnitFault)
     → all ≡ x ∷ xs → checked_free (front end all) (row_of x table) p ≡ Ok slot → value_at end xs ≡ Ok v → FailsWith e (t (front end v.1) slot v.0 p) → scanned t table end p all ≡ total → FailsWith e total
 loop_take e t table end p all x xs slot v total z a b h so_far =
     fails_take e t table end p x xs slot v total (subst (λ (w : List ℕ). checked_free (front end w) (row_of x table) p ≡ Ok slot) z a) b h (ap (scanned t table end p) (sym z) ∙ so_far)
 
-pub loop_end : (t : Taker) (table : List (ℕ × Slot)) (end : ℕ) (p : Parameters) (all : List ℕ) (total : Result Parameters Fault) → all ≡ [] → scanned t table end p all ≡ total → total ≡ Ok p
+pub loop_end : (t : Taker) (table : List (ℕ × Slot)) (end : ℕ) (p : Parameters) (all : List ℕ) (total : Result Parameters UnitFault) → all ≡ [] → scanned t table end p all ≡ total → total ≡ Ok p
 unfolding scan
 loop_end t table end p all total z so_far = sym so_far ∙ ap (scanned t table end p) z

@@ -8,6 +8,7 @@ use Rattle.std.proofs.lemmas.Int.Digits.{length-digits_of-le}
 use Rattle.osi_base.specs.declared.session_word.SessionConnect.{SessionConnect}
 use Rattle.osi_base.specs.declared.session_word.SessionWord.{SessionWord}
 use Rattle.osi_base.specs.declared.session_word.SessionWord.TheVariants as words
+use Rattle.osi_base.specs.Limits.{last_activity}
 use Rattle.spdu_codec.specs.Written.{written_length, coded, spelled, optional, group, octet, pair, numeral, mark_numeral, connect_data, identifier_items, connect_items, accept_items, reason_value, connection_parameters, transfer_parameters, parameters_written, IsNumber, AreFields, length_of, octets_in}
 use Rattle.spdu_codec.proofs.SpellingLaws.{spelled-append}
 
@@ -37,15 +38,15 @@ octet_size code o = value_size octet 1 code o (λ x _. omega arith)
 pair_size : (code : ℕ) (o : Option ℕ) → length (spelled (optional code (option_map pair o))) ≤ 6
 pair_size code o = value_size pair 2 code o (λ x _. omega arith)
 
-numeral_size : (n : ℕ) → n < 1000000 → length (numeral n) ≤ 6
-numeral_size n lt = omega (arith, length-digits_of-le 10 6 n (omega arith) lt, length-map (digits_of 10 n) (λ d. d + 48))
+numeral_size : (n : ℕ) → n ≤ last_activity → length (numeral n) ≤ 6
+numeral_size n le = omega (arith, length-digits_of-le 10 6 n (omega arith) (omega arith), length-map (digits_of 10 n) (λ d. d + 48))
 
-mark_size : (n : ℕ) → n < 1000000 → length (mark_numeral n) ≤ 6
-mark_size n lt = go (n == 0)
+mark_size : (n : ℕ) → n ≤ last_activity → length (mark_numeral n) ≤ 6
+mark_size n le = go (n == 0)
   where
     go : (b : Bool) → length (cond b (48 ∷ []) (numeral n)) ≤ 6
     go true = omega arith
-    go false = numeral_size n lt
+    go false = numeral_size n le
 
 initial_size : (o : Option ℕ) → IfSome o IsNumber → length (spelled (optional 23 (option_map numeral o))) ≤ 10
 initial_size o h = value_size numeral 6 23 o (λ x e. numeral_size x (let w : IfSome (Some x) IsNumber = subst (λ (n : Option ℕ). IfSome n IsNumber) e h in w.1))
@@ -106,12 +107,12 @@ reason_size reason (Some user) = omega (arith, value_size (reason_value (Some us
 one_number : (code n : ℕ) → IsNumber n → length (spelled ((code, numeral n) ∷ [])) ≤ 10
 one_number code n h = omega (arith, one_size code (numeral n), numeral_size n h.1)
 
-resume_size : (activity mark : ℕ) → IsNumber activity → mark < 1000000 → length (spelled (transfer_parameters (words.ActivityResume activity mark))) ≤ 80
-resume_size activity mark h lt =
+resume_size : (activity mark : ℕ) → IsNumber activity → mark ≤ last_activity → length (spelled (transfer_parameters (words.ActivityResume activity mark))) ≤ 80
+resume_size activity mark h le =
     let a : List (ℕ × List ℕ) = (41, numeral activity) ∷ [] in
     let m : List (ℕ × List ℕ) = (42, mark_numeral mark) ∷ [] in
     let items = two a m in
-    omega (arith, two ((33, spelled (a ++ m)) ∷ []) a, one_size 33 (spelled (a ++ m)), items, one_number 41 activity h, one_size 42 (mark_numeral mark), mark_size mark lt)
+    omega (arith, two ((33, spelled (a ++ m)) ∷ []) a, one_size 33 (spelled (a ++ m)), items, one_number 41 activity h, one_size 42 (mark_numeral mark), mark_size mark le)
 
 nothing_more : (ps : List (ℕ × List ℕ)) (n : ℕ) → length (spelled ps) ≤ n → length (spelled (ps ++ [])) ≤ n
 nothing_more ps n le = omega (arith, two ps [], le)

@@ -14,7 +14,7 @@ use Rattle.spdu_codec.specs.Parameters.{none_yet, is_free, put}
 use Rattle.spdu_codec.specs.Words.{word_of, has_information, leads}
 use Rattle.std.specs.Prelude.{IfOk}
 use Rattle.spdu_codec.specs.declared.fault.SFault.{SFault}
-use Rattle.spdu_codec.specs.Reading.{Gives, Fault, at, ◌>>=◌, front, length_at, value_at, checked_free, filled, item_taken, inside, group_inside, parameter_taken, parameters_at, scan, known, unit_at, worded, last_word, is_first, second_at, behind_first, units_at}
+use Rattle.spdu_codec.specs.Reading.{Gives, UnitFault, at, ◌>>=◌, front, length_at, value_at, checked_free, filled, item_taken, inside, group_inside, parameter_taken, parameters_at, scan, known, unit_at, worded, last_word, is_first, second_at, behind_first, units_at}
 use Rattle.spdu_codec.specs.Wire.{IsOctets, IsLength, AreParameters, IsFree, AllPut, ItemPut, IsInside, GroupPut, ParameterPut, IsUnit, IsLast, IsFront, AreUnits}
 use Rattle.spdu_codec.proofs.Results.{ok_is, refused, passed, chosen, bound}
 use Rattle.spdu_codec.proofs.ScanLoop.{Taker, value_less}
@@ -74,7 +74,7 @@ short_again place n [] e = rw e refl
 short_again place n (a ∷ []) e = rw e refl
 short_again place n (a ∷ b ∷ rest) e = rw e refl
 
-abbrev gives : ℕ → List ℕ → Result (ℕ × List ℕ) Fault
+abbrev gives : ℕ → List ℕ → Result (ℕ × List ℕ) UnitFault
 gives n rest = Ok (n, rest)
 
 long_again : (place n : ℕ) (rest : List ℕ) → length_at place (255 ∷ n / 256 ∷ n % 256 ∷ rest) ≡ Ok (n, rest)
@@ -113,7 +113,7 @@ pub free_again : (place : ℕ) (o : Option Slot) (p : Parameters) → IsFree o p
 free_again place None p e = refl
 free_again place (Some slot) p e = rw e refl
 
-abbrev fine : Parameters → Result Parameters Fault
+abbrev fine : Parameters → Result Parameters UnitFault
 fine p = Ok p
 
 pub scan_found : (t : Taker) (One : Option Slot → List ℕ → Parameters → Parameters → Type 0)
@@ -164,13 +164,13 @@ is_kind k = Some k
 abbrev is_word : SessionWord → Option SessionWord
 is_word w = Some w
 
-abbrev read_word : SessionWord → Result SessionWord Fault
+abbrev read_word : SessionWord → Result SessionWord UnitFault
 read_word w = Ok w
 
 word_is : (v w : SessionWord) → read_word v ≡ Ok w → v ≡ w
 word_is v w e = ok_is v w e
 
-abbrev read_words : List SessionWord → Result (List SessionWord) Fault
+abbrev read_words : List SessionWord → Result (List SessionWord) UnitFault
 read_words ws = Ok ws
 
 pub words_are : (v w : List SessionWord) → read_words v ≡ Ok w → v ≡ w

@@ -1,5 +1,6 @@
 -- The parameters of a unit, put in one after the other, each at most once (X.225 8.3).
 use Rattle.std.specs.Prelude.{ℕ, ◌==◌, Bool, true, false, not, List, [], ◌∷◌, length, Option, Some, None, is_none, nat_le, if◌then◌else◌}
+use Rattle.osi_base.specs.Limits.{most_connect_data}
 use Rattle.spdu_codec.specs.declared.parameters.Slot.{Slot}
 use Rattle.spdu_codec.specs.declared.parameters.Slot.TheVariants.{Identifier, ConnectItem, AcceptItem, Linking, CallingReference, CommonReference, Options, Version, Initial, TokenSetting, Requirements, CallingSelector, CalledSelector, ConnectData, ExtendedData, UserData, Transport, RefuseReason, ActivityReason, Tokens, ResyncType, Number, Activity, OldActivity, OldMark}
 use Rattle.spdu_codec.specs.declared.parameters.Parameters.{Parameters}
@@ -85,14 +86,18 @@ put_octet Tokens x p = Some (record p { tokens = Some x })
 put_octet ResyncType x p = if x == 0 then Some (record p { resync = true }) else None
 put_octet _ x p = None
 
+-- octets of user data of a CONNECT that stand in the parameter User Data; more of them stand in Extended User Data
+abbrev pub most_short_data : ℕ
+most_short_data = 512
+
 -- parameters of any octets
 abbrev pub put_octets : Slot → List ℕ → Parameters → Option Parameters
 put_octets CallingReference v p = Some (record p { calling_reference = Some v })
 put_octets CommonReference v p = Some (record p { common_reference = Some v })
 put_octets CallingSelector v p = Some (record p { calling = Some v })
 put_octets CalledSelector v p = Some (record p { called = Some v })
-put_octets ConnectData v p = if nat_le (length v) 512 then Some (record p { user = Some v }) else None
-put_octets ExtendedData v p = if nat_le (length v) 10240 then Some (record p { user = Some v }) else None
+put_octets ConnectData v p = if nat_le (length v) most_short_data then Some (record p { user = Some v }) else None
+put_octets ExtendedData v p = if nat_le (length v) most_connect_data then Some (record p { user = Some v }) else None
 put_octets UserData v p = Some (record p { user = Some v })
 put_octets _ v p = None
 

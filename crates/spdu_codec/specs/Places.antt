@@ -9,7 +9,7 @@ use Rattle.spdu_codec.specs.declared.places.UserPlaces.{UserPlaces}
 use Rattle.spdu_codec.specs.Tables.{row_of, first_units, second_units, parameters_of}
 use Rattle.spdu_codec.specs.Parameters.{refusal}
 use Rattle.spdu_codec.specs.Words.{has_information}
-use Rattle.spdu_codec.specs.Reading.{Fault, front, value_at, is_first}
+use Rattle.spdu_codec.specs.Reading.{UnitFault, front, value_at, is_first}
 use Rattle.spdu_codec.specs.Wire.{IsLength, AreParameters, IsUnit, IsLast, IsFront}
 
 abbrev pub place : ℕ → Option ℕ
@@ -97,7 +97,7 @@ HoldUser (first ∷ second ∷ third ∷ words) octets at = ⊥
 
 -- ---- from the left, as it is computed
 
-abbrev pub on_value : Option ℕ → Result (List ℕ × List ℕ) Fault → (List ℕ × List ℕ → Option ℕ) → Option ℕ
+abbrev pub on_value : Option ℕ → Result (List ℕ × List ℕ) UnitFault → (List ℕ × List ℕ → Option ℕ) → Option ℕ
 on_value at (Err f) next = at
 on_value at (Ok v) next = next v
 
@@ -109,40 +109,40 @@ user_among table (suc fuel) end at (code ∷ rest) =
     on_value at (value_at end rest) (λ v. user_among table fuel end (placed (row_of code table) v.0 (front end v.1 - length v.0) at) v.1)
 
 -- a unit of the table, the octets of its parameters, and those behind it
-pub record Head : Type 0 where
+pub record UnitHead : Type 0 where
   pub kind : SpduKind
   pub value : List ℕ
   pub behind : List ℕ
 
-abbrev pub head : SpduKind → List ℕ → List ℕ → Head
+abbrev pub head : SpduKind → List ℕ → List ℕ → UnitHead
 head kind value behind = record { kind = kind; value = value; behind = behind }
 
-abbrev pub head_of : SpduKind → Result (List ℕ × List ℕ) Fault → Option Head
+abbrev pub head_of : SpduKind → Result (List ℕ × List ℕ) UnitFault → Option UnitHead
 head_of kind (Err f) = None
 head_of kind (Ok v) = Some (head kind v.0 v.1)
 
-abbrev pub known_head : Option SpduKind → Result (List ℕ × List ℕ) Fault → Option Head
+abbrev pub known_head : Option SpduKind → Result (List ℕ × List ℕ) UnitFault → Option UnitHead
 known_head None v = None
 known_head (Some kind) v = head_of kind v
 
-unfoldable pub head_at : List (ℕ × SpduKind) → ℕ → List ℕ → Option Head
+unfoldable pub head_at : List (ℕ × SpduKind) → ℕ → List ℕ → Option UnitHead
 head_at table end [] = None
 head_at table end (code ∷ rest) = known_head (row_of code table) (value_at end rest)
 
-abbrev pub user_in : ℕ → Head → Option ℕ
+abbrev pub user_in : ℕ → UnitHead → Option ℕ
 user_in end u = user_among (parameters_of u.kind) (length u.value) (front end u.behind) None u.value
 
-abbrev pub user_of_last : ℕ → Head → Option ℕ
+abbrev pub user_of_last : ℕ → UnitHead → Option ℕ
 user_of_last end u = if has_information u.kind then place (front end u.behind) else user_in end u
 
-abbrev pub last_of : ℕ → Option Head → Option ℕ
+abbrev pub last_of : ℕ → Option UnitHead → Option ℕ
 last_of end None = None
 last_of end (Some u) = user_of_last end u
 
 abbrev pub places : Option ℕ → Option ℕ → UserPlaces
 places first second = record { first = first; second = second }
 
-abbrev pub places_of : ℕ → Option Head → UserPlaces
+abbrev pub places_of : ℕ → Option UnitHead → UserPlaces
 places_of end None = places None None
 places_of end (Some u) =
     if is_first u.kind u.behind then places (user_in end u) (last_of end (head_at second_units end u.behind)) else places (user_of_last end u) None

@@ -3,9 +3,11 @@ use Rattle.std.specs.Prelude.{◌≡◌, ℕ, ◌+◌, ◌/◌, ◌%◌, ◌<◌
 use Rattle.std.specs.Option.{option_map}
 use Rattle.std.specs.List.{flat_map}
 use Rattle.std.specs.Int.Digits.{digits_of}
+use Rattle.spdu_codec.specs.Parameters.{most_short_data}
 use Rattle.osi_base.specs.declared.session_word.SessionConnect.{SessionConnect}
 use Rattle.osi_base.specs.declared.session_word.SessionWord.{SessionWord}
 use Rattle.osi_base.specs.declared.session_word.SessionWord.TheVariants.{Connect, Accept, Refuse, Finish, Disconnect, Abort, AbortAccept, GiveTokens, PleaseTokens, GiveTokensConfirm, GiveTokensAck, TypedData, Data, Mark, MarkAck, Resynchronize, ResynchronizeAck, ActivityStart, ActivityResume, ActivityInterrupt, ActivityInterruptAck, ActivityDiscard, ActivityDiscardAck, ActivityEnd, ActivityEndAck}
+use Rattle.osi_base.specs.Limits.{last_activity, most_connect_data}
 
 -- a length below 65,536, in one octet where it can be
 abbrev pub written_length : ℕ → List ℕ
@@ -53,7 +55,7 @@ mark_numeral n = if n == 0 then 48 ∷ [] else numeral n
 
 -- user data of CN: in the extended parameter where they have more than 512 octets
 abbrev pub connect_data : List ℕ → List (ℕ × List ℕ)
-connect_data user = if nat_le (length user) 512 then (193, user) ∷ [] else (194, user) ∷ []
+connect_data user = if nat_le (length user) most_short_data then (193, user) ∷ [] else (194, user) ∷ []
 
 abbrev pub identifier_items : SessionConnect → List (ℕ × List ℕ)
 identifier_items c = optional 10 c.calling_reference ++ optional 11 c.common_reference
@@ -142,7 +144,7 @@ units_written words = flat_map unit_written words
 
 -- a serial number of a mark, or an activity's number
 abbrev pub IsNumber : ℕ → Type 0
-IsNumber n = (0 < n) × (n < 1000000)
+IsNumber n = (0 < n) × (n ≤ last_activity)
 
 -- user data of a refusal stand behind the code 2, and there are some
 abbrev pub IsRefusal : Option ℕ → Option (List ℕ) → Type 0
@@ -152,7 +154,7 @@ IsRefusal (Some code) (Some user) = (code ≡ 2) × (0 < length user)
 
 -- each field is one that is read
 abbrev pub AreFields : SessionWord → Type 0
-AreFields (Connect c) = IfSome c.initial IsNumber × (length c.user ≤ 10240)
+AreFields (Connect c) = IfSome c.initial IsNumber × (length c.user ≤ most_connect_data)
 AreFields (Accept options version initial requirements user) = IfSome initial IsNumber
 AreFields (Refuse transport reason user) = IsRefusal reason user
 AreFields (Mark number) = IsNumber number
@@ -160,7 +162,7 @@ AreFields (MarkAck number) = IsNumber number
 AreFields (Resynchronize number user) = IsNumber number
 AreFields (ResynchronizeAck number user) = IsNumber number
 AreFields (ActivityStart activity) = IsNumber activity
-AreFields (ActivityResume activity mark) = IsNumber activity × (mark < 1000000)
+AreFields (ActivityResume activity mark) = IsNumber activity × (mark ≤ last_activity)
 AreFields (ActivityEnd number) = IsNumber number
 AreFields (ActivityEndAck number) = IsNumber number
 AreFields _ = Unit {0}

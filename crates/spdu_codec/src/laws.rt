@@ -3,7 +3,7 @@
 ghost use Rattle.std.specs.Prelude.{◌≡◌, ◌≢◌, ◌≤◌, ◌+◌, ◌++◌, ◌⊎◌, ℕ, List, length, Ok};
 ghost use Rattle.osi_base.specs.declared.words.Kind.{Kind};
 ghost use Rattle.osi_base.specs.declared.session_word.SessionWord.{SessionWord};
-ghost use Rattle.spdu_codec.specs.Reading.{Fault, units_at};
+ghost use Rattle.spdu_codec.specs.Reading.{UnitFault, units_at};
 ghost use Rattle.spdu_codec.specs.Wire.{AreUnits, IsOctets};
 ghost use Rattle.spdu_codec.specs.Faults.{FirstFault};
 ghost use Rattle.spdu_codec.specs.Written.{spelled, parameters_written, units_written, AreFields, AreWritable, octets_in};
@@ -29,20 +29,20 @@ pub fn one_reading()
 /// Octets are units or have a first fault, and not both, and they have one first fault at most.
 pub fn units_or_fault()
     ensures either { (octets : List ℕ) → IsOctets octets
-        → ((words : List SessionWord) × AreUnits words octets) ⊎ ((f : Fault)
+        → ((words : List SessionWord) × AreUnits words octets) ⊎ ((f : UnitFault)
         × FirstFault octets f) }
-    ensures not_both { (octets : List ℕ) (words : List SessionWord) (f : Fault)
+    ensures not_both { (octets : List ℕ) (words : List SessionWord) (f : UnitFault)
         → IsOctets octets → AreUnits words octets → FirstFault octets f → ⊥ }
-    ensures one { (octets : List ℕ) (f g : Fault) → IsOctets octets → FirstFault octets f
+    ensures one { (octets : List ℕ) (f g : UnitFault) → IsOctets octets → FirstFault octets f
         → FirstFault octets g → f ≡ g }
 {}
 
 /// A first fault stands within the octets or right behind them. One of a code, of a value or of
 /// what is too much stands whatever follows; a length or a parameter that lacks may still come.
 pub fn where_a_fault_stands()
-    ensures within { (octets : List ℕ) (f : Fault) → FirstFault octets f
+    ensures within { (octets : List ℕ) (f : UnitFault) → FirstFault octets f
         → f.place ≤ length octets }
-    ensures stays { (octets more : List ℕ) (f : Fault) → f.kind ≢ Kind.Length
+    ensures stays { (octets more : List ℕ) (f : UnitFault) → f.kind ≢ Kind.Length
         → f.kind ≢ Kind.Missing → FirstFault octets f → FirstFault (octets ++ more) f }
 {}
 

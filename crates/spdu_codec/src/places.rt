@@ -23,7 +23,7 @@ pub struct UserPlaces {
 
 /// A unit's kind, the octets of its parameters, and those behind it.
 #[derive(Clone, Copy)]
-struct Head<'a> {
+struct UnitHead<'a> {
     kind: SpduKind,
     value: &'a [u8],
     behind: &'a [u8],
@@ -72,7 +72,7 @@ fn user_among(table: &[(u8, Slot)], end: usize, octets: &[u8]) -> Option<usize>
 
 /// A unit that stands in the table.
 #[tactic(auto, unfolding(crate::specs::Places::head_at))]
-fn head_at<'a>(table: &[(u8, SpduKind)], end: usize, octets: &'a [u8]) -> Option<Head<'a>>
+fn head_at<'a>(table: &[(u8, SpduKind)], end: usize, octets: &'a [u8]) -> Option<UnitHead<'a>>
     requires { length octets.now ≤ end }
     ensures within { IfSome result (λ u. length u.value.now + length u.behind.now < length
         octets.now) }
@@ -84,14 +84,14 @@ fn head_at<'a>(table: &[(u8, SpduKind)], end: usize, octets: &'a [u8]) -> Option
     let Ok((value, behind)) = value_at(end, rest) else {
         return None;
     };
-    Some(Head {
+    Some(UnitHead {
         kind,
         value,
         behind,
     })
 }
 
-fn user_in(end: usize, unit: Head<'_>) -> Option<usize>
+fn user_in(end: usize, unit: UnitHead<'_>) -> Option<usize>
     requires within { length unit.value.now + length unit.behind.now ≤ end }
     requires fits { end < 2 ^ 63 }
     ensures { result ≡ user_in end (head unit.entry.kind unit.entry.value.now
@@ -104,7 +104,7 @@ fn user_in(end: usize, unit: Head<'_>) -> Option<usize>
     )
 }
 
-fn user_of_last(end: usize, unit: Head<'_>) -> Option<usize>
+fn user_of_last(end: usize, unit: UnitHead<'_>) -> Option<usize>
     requires within { length unit.value.now + length unit.behind.now ≤ end }
     requires fits { end < 2 ^ 63 }
     ensures { result ≡ user_of_last end
@@ -116,7 +116,7 @@ fn user_of_last(end: usize, unit: Head<'_>) -> Option<usize>
     user_in(end, unit)
 }
 
-fn last_of(end: usize, unit: Option<Head<'_>>) -> Option<usize>
+fn last_of(end: usize, unit: Option<UnitHead<'_>>) -> Option<usize>
     requires within { ForSome unit (λ u. length u.value.now + length u.behind.now ≤ end) }
     requires fits { end < 2 ^ 63 }
     ensures { result ≡ last_of end (option_map (λ u. head u.kind u.value.now u.behind.now)

@@ -4,7 +4,7 @@ ghost use Rattle.std.specs.Prelude.{◌≡◌, ◌+◌, ◌≤◌, ◌<◌, List
 ghost use Rattle.osi_base.specs.declared.session_word.SessionWord.{SessionWord};
 ghost use Rattle.spdu_codec.specs.Wire.{AreUnits};
 ghost use Rattle.spdu_codec.specs.Faults.{FirstFault, IsFirstFault};
-ghost use Rattle.spdu_codec.specs.Reading.{Fault, Gives, GivesBy, unit_at, last_word, second_at, behind_first, units_at};
+ghost use Rattle.spdu_codec.specs.Reading.{UnitFault, Gives, GivesBy, unit_at, last_word, second_at, behind_first, units_at};
 
 use crate::fault::{SFault, fault};
 use crate::kind::{SpduKind, first_units, row_of, second_units};
@@ -120,7 +120,7 @@ pub fn read_spdus(alloc: Global, tsdu: &[u8]) -> Result<Spdus, SFault>
     // A fault is the first one.
     ensures first { IfErr result (IsFirstFault tsdu.now) }
     // The first fault is given, unless memory runs out.
-    ensures given { (f : Fault) → FirstFault tsdu.now f → Gives result (Err f) }
+    ensures given { (f : UnitFault) → FirstFault tsdu.now f → Gives result (Err f) }
     // What the octets are read as.
     ensures exact { Gives result (units_at tsdu.now) }
 {

@@ -3,6 +3,7 @@ use Rattle.std.specs.Prelude.{◌≡◌, ℕ, ◌≤ℤ◌, ℤ, pos, negsuc, Li
 use Rattle.std.specs.Option.{option_map}
 use Rattle.osi_base.specs.declared.syntax.Syntax.{Syntax}
 use Rattle.osi_base.specs.declared.syntax.Syntax.TheVariants as syntax
+use Rattle.osi_base.specs.Limits.{last_invocation}
 use Rattle.asn1_types.specs.declared.value.Val.{Val}
 use Rattle.asn1_types.specs.declared.table.TypeTable.{TypeTable}
 use Rattle.asn1_types.specs.declared.row.TypeId.{TypeId}
@@ -67,6 +68,17 @@ result_of operation = operation.result
 abbrev pub parameter_of : ErrorRow → Use
 parameter_of error = error.parameter
 
+abbrev pub returned_use : Tables → Option Returned → Option Use
+returned_use tables None = None
+returned_use tables (Some r) = option_map result_of (operation_coded tables r.code)
+
+-- how the value that an APDU carries is used, by the code of its operation or error
+abbrev pub use_in : Tables → Apdu → Option Use
+use_in tables (Invoke id linked code argument) = option_map argument_of (operation_coded tables code)
+use_in tables (Result id returned) = returned_use tables returned
+use_in tables (Error id code parameter) = option_map parameter_of (error_coded tables code)
+use_in tables (Reject id problem) = None
+
 -- These octets spell the value.
 abbrev pub TypedAs : TypeTable → Option TypeId → Val → List ℕ → Type 0
 TypedAs types None value octets = ⊥
@@ -84,8 +96,8 @@ CarriedAs types (Some use_) (Some value) None = ⊥
 
 -- identifiers of invocations are of 32 bits
 pub record IsIdentifier (id : ℤ) : Type 0 where
-  pub low : negsuc 2147483647 ≤ℤ id
-  pub high : id ≤ℤ pos 2147483647
+  pub low : negsuc last_invocation ≤ℤ id
+  pub high : id ≤ℤ pos last_invocation
 
 -- The head says that it is an invocation, a result, an error (X.882 9.2 to 9.4).
 pub record SaysInvoke (tables : Tables) (id : ℤ) (linked : Option ℤ) (code : Code) (argument : Option Val) (head : Value) : Type 0 where

@@ -1,6 +1,7 @@
 -- The heads of APDUs of remote operations as rows of types (X.880 9, X.882 9). What an operation or
 -- an error carries stands in them as one whole value of any type.
 use Rattle.std.specs.Prelude.{ℕ, ℤ, pos, negsuc, true, false, List, [], ◌∷◌, Option, Some, None, codes}
+use Rattle.osi_base.specs.Limits.{last_invocation}
 use Rattle.asn1_types.specs.declared.row.Part.{Part}
 use Rattle.asn1_types.specs.declared.row.Class.TheVariants.{Context}
 use Rattle.asn1_types.specs.declared.row.TypeRow.{TypeRow}
@@ -26,7 +27,7 @@ apdu_row = 13
 abbrev pub head_rows : List TypeRow
 head_rows =
     -- 0: an identifier of an invocation
-    Integer (negsuc 2147483647) (pos 2147483647)
+    Integer (negsuc last_invocation) (pos last_invocation)
     -- 1 to 3: a code
     ∷ Integer (negsuc 9223372036854775807) (pos 9223372036854775807)
     ∷ ObjectId

@@ -1,7 +1,7 @@
 -- Rows of types, items and parts: what is written comes back.
 use Rattle.std.proofs.Common.{◌≡◌, ℕ, zero, suc, ◌+◌, ◌^◌, ◌≤◌, ◌<◌, Bool, true, false, List, [], ◌∷◌, ◌++◌, length, Option, Some, None, Ok, Err, refl, sym, ap, ◌∙◌, subst, append_assoc, arith}
 use Rattle.std.specs.Prelude.{ℤ, pos, negsuc, option_map, nat_lt, if◌then◌else◌}
-use Rattle.std.proofs.lemmas.Bool.{le-ltb, ltb-false, lt-ltb}
+use Rattle.std.proofs.lemmas.Bool.{le-ltb, ltb-false, lt-ltb, le-leb}
 use Rattle.asn1_types.specs.declared.row.Item.{Item}
 use Rattle.asn1_types.specs.declared.row.Part.{Part}
 use Rattle.asn1_types.specs.declared.row.TypeId.{TypeId}
@@ -37,7 +37,7 @@ pub short_number : (n : ℕ) → IsShortNumber n → IsNumber (pos n)
 short_number n h = let le : nat_lt 9223372036854775807 n ≡ false = le-ltb 9223372036854775807 n (omega arith) in grind (arith, le)
 
 pub short_comes : (n : ℕ) → IsShortNumber n → number_32 (pos n) ≡ Some n
-short_comes n h = rw (lt-ltb n 4294967296 h) refl
+short_comes n h = rw (le-leb n 4294967295 h) refl
 
 pub number_back : (n : ℕ) (more : List ℕ) (p l : ℕ) → IsShortNumber n → Comes (integer_at (at p (number_file n ++ more) l)) (pos n) more l
 number_back n more p l h = integer_back (pos n) more p l (short_number n h)

@@ -1,7 +1,7 @@
 -- Rows of types, items and parts: what is read was written so.
 use Rattle.std.proofs.Common.{◌≡◌, ℕ, zero, suc, ◌+◌, ◌^◌, ◌≤◌, ◌<◌, Bool, true, false, cond, List, [], ◌∷◌, ◌++◌, length, Option, Some, None, Ok, Err, refl, sym, ap, ◌∙◌, subst, arith}
-use Rattle.std.specs.Prelude.{ℤ, pos, negsuc, option_map, nat_lt, if◌then◌else◌}
-use Rattle.std.proofs.lemmas.Bool.{ltb-true}
+use Rattle.std.specs.Prelude.{ℤ, pos, negsuc, option_map, nat_lt, nat_le, if◌then◌else◌}
+use Rattle.std.proofs.lemmas.Bool.{ltb-true, leb-true}
 use Rattle.asn1_types.specs.declared.row.Item.{Item}
 use Rattle.asn1_types.specs.declared.row.Part.{Part}
 use Rattle.asn1_types.specs.declared.row.TypeId.{TypeId}
@@ -44,10 +44,10 @@ ends_as {X} a b m t e = let same = ok_is {A = X × Spot} (a, m) (b, t) e in (ap 
 -- ---- numbers and names
 
 number_32_is : (z : ℤ) (n : ℕ) → number_32 z ≡ Some n → IsShortNumber n × (z ≡ pos n)
-number_32_is (pos k) n e = by (nat_lt k 4294967296) refl e
+number_32_is (pos k) n e = by (nat_le k 4294967295) refl e
   where
-    by : (b : Bool) → nat_lt k 4294967296 ≡ b → cond b (Some k) None ≡ Some n → IsShortNumber n × (pos k ≡ pos n)
-    by true t h = let is = some_is k n h in (subst (λ (y : ℕ). y < 4294967296) is (ltb-true k 4294967296 t), ap pos is)
+    by : (b : Bool) → nat_le k 4294967295 ≡ b → cond b (Some k) None ≡ Some n → IsShortNumber n × (pos k ≡ pos n)
+    by true t h = let is = some_is k n h in (subst (λ (y : ℕ). y ≤ 4294967295) is (leb-true k 4294967295 t), ap pos is)
     by false t h = absurd cc
 number_32_is (negsuc k) n e = absurd cc
 

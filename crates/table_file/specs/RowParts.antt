@@ -1,6 +1,7 @@
 -- The parts of rows. What has the right fields and breaks another rule (a name, a number) makes its row unsound: it is read to its end, and
 -- is nothing.
-use Rattle.std.specs.Prelude.{ℕ, ℤ, pos, negsuc, Bool, true, false, List, [], ◌∷◌, ◌++◌, Result, Ok, Err, Option, Some, None, option_map, nat_lt, if◌then◌else◌}
+use Rattle.std.specs.Prelude.{ℕ, ℤ, pos, negsuc, Bool, true, false, List, [], ◌∷◌, ◌++◌, Result, Ok, Err, Option, Some, None, option_map, nat_lt, if◌then◌else◌, nat_le}
+use Rattle.osi_base.specs.Limits.{most_32}
 use Rattle.asn1_types.specs.declared.row.Item.{Item}
 use Rattle.asn1_types.specs.declared.row.Part.{Part}
 use Rattle.asn1_types.specs.declared.row.TypeId.{TypeId}
@@ -12,7 +13,7 @@ use Rattle.table_file.specs.Fields.{many_at, truth_at, text_at, integer_at}
 
 -- a number of 32 bits
 abbrev pub number_32 : ℤ → Option ℕ
-number_32 (pos n) = if nat_lt n 4294967296 then Some n else None
+number_32 (pos n) = if nat_le n most_32 then Some n else None
 number_32 (negsuc n) = None
 
 -- a name that begins with a lower-case letter

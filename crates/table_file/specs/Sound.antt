@@ -1,5 +1,6 @@
 -- Tables that have a table file, row by row: names and numbers have their forms, and each row may stand behind those before it.
-use Rattle.std.specs.Prelude.{◌≡◌, ℕ, suc, ◌+◌, ◌<◌, ◌^◌, ℤ, pos, negsuc, Bool, true, false, ◌||◌, List, [], ◌∷◌, ◌++◌, length, Option, Some, None}
+use Rattle.std.specs.Prelude.{◌≡◌, ℕ, suc, ◌+◌, ◌<◌, ◌^◌, ℤ, pos, negsuc, Bool, true, false, ◌||◌, List, [], ◌∷◌, ◌++◌, length, Option, Some, None, ◌≤◌}
+use Rattle.osi_base.specs.Limits.{most_32}
 use Rattle.asn1_types.specs.declared.row.Item.{Item}
 use Rattle.asn1_types.specs.declared.row.Part.{Part}
 use Rattle.asn1_types.specs.declared.row.TypeId.{TypeId}
@@ -52,7 +53,7 @@ IsNumber z = integer_fits (negsuc 9223372036854775807) (pos 9223372036854775807)
 
 -- a number of 32 bits
 abbrev pub IsShortNumber : ℕ → Type 0
-IsShortNumber n = n < 4294967296
+IsShortNumber n = n ≤ most_32
 
 -- an object identifier of arcs of 32 bits
 abbrev pub AreArcs : List ℕ → Type 0

@@ -5,6 +5,7 @@ use Rattle.std.specs.List.{flat_map}
 use Rattle.std.proofs.lemmas.Bool.{lt-leb, ltb-false, le-ltb, leb-true, leb-false, le-leb, and_parts, or_parts}
 use Rattle.std.proofs.lemmas.List.{take-append-drop, length-append, length-take}
 use Rattle.osi_base.specs.declared.words.Kind.TheVariants as kinds
+use Rattle.osi_base.specs.Limits.{tsdu_limit}
 use Rattle.tpkt.specs.declared.packet.ConnectionFields.{ConnectionFields}
 use Rattle.tpkt.specs.declared.packet.Packet.{Packet}
 use Rattle.tpkt.specs.declared.packet.Packet.TheVariants.{Connect, Confirm, Disconnect, Problem, Tsdu}
@@ -13,7 +14,7 @@ use Rattle.tpkt.specs.declared.header.Header.TheVariants.{Control, Data}
 use Rattle.tpkt.specs.declared.parameters.Seen.{Seen}
 use Rattle.tpkt.specs.declared.header_stops.Stop.{Stop}
 use Rattle.tpkt.specs.declared.header_stops.Stop.TheVariants.{Short, At}
-use Rattle.tpkt.specs.Wire.{two, packet, header, mark, tsdu_limit, parameter, values, Whole, Spells, IsConnection, IsDisconnect, IsProblem, IsUnit, IsSize, IsSelector}
+use Rattle.tpkt.specs.Wire.{two, packet, header, mark, parameter, values, Whole, Spells, IsConnection, IsDisconnect, IsProblem, IsUnit, IsSize, IsSelector}
 use Rattle.tpkt.specs.Stream.{IsOctets}
 use Rattle.tpkt.specs.Header.{◌>>=◌, nothing_seen, or_empty, parameters_at, ends_at, passed_at, mark_at, data_at, fills, code_at, indicator_at, length_at, header_at}
 use Rattle.tpkt.proofs.Results.{ok_is, refused, passed, chosen, bound}

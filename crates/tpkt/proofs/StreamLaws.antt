@@ -11,7 +11,7 @@ use Rattle.tpkt.specs.declared.header.Header.{Header}
 use Rattle.tpkt.specs.declared.header.Header.TheVariants.{Control, Data}
 use Rattle.tpkt.specs.declared.header_stops.Stop.{Stop}
 use Rattle.tpkt.specs.declared.header_stops.Stop.TheVariants.{Short, At}
-use Rattle.tpkt.specs.Wire.{packet, tsdu_limit, Tpdu, Whole, Part, IsUnit, Splits, begun_after, begun_by, handed_for, handed}
+use Rattle.tpkt.specs.Wire.{packet, Tpdu, Whole, Part, IsUnit, Splits, begun_after, begun_by, handed_for, handed}
 use Rattle.tpkt.specs.Header.{header_at}
 use Rattle.tpkt.specs.Reader.{ReaderProgress, on, between, closed, opened, judged, taken, after, reading, nothing}
 use Rattle.tpkt.specs.Stream.{IsOctets, unit_at, IsInFront, OneHolds, IsStop, ReadsAsPackets, HasRead}
@@ -20,6 +20,7 @@ use Rattle.tpkt.proofs.UnitLaws.{part_packet, part_unit, unit_found, unit_again,
 use Rattle.tpkt.proofs.ReaderLaws.{short_empty, still_open, after-append, after_fault}
 use Rattle.tpkt.proofs.Results.{ok_is}
 use Rattle.osi_base.specs.declared.words.Kind.{Kind}
+use Rattle.osi_base.specs.Limits.{tsdu_limit}
 
 abbrev pub fed : List Packet → Held → ReaderProgress
 fed packets held = record { packets = packets; held = held }

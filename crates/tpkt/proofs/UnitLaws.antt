@@ -3,11 +3,12 @@ use Rattle.std.proofs.Common.{◌≡◌, ℕ, ◌+◌, ◌<◌, ◌≤◌, Bool,
 use Rattle.std.proofs.lemmas.Bool.{ltb-false, le-ltb, lt-ltb}
 use Rattle.std.proofs.lemmas.List.{take-append-drop, length-append, length-take, take_at, drop_at}
 use Rattle.osi_base.specs.declared.words.Kind.{Kind}
+use Rattle.osi_base.specs.Limits.{tsdu_limit}
 use Rattle.tpkt.specs.declared.header.Header.{Header}
 use Rattle.tpkt.specs.declared.header.Header.TheVariants.{Control, Data}
 use Rattle.tpkt.specs.declared.header_stops.Stop.{Stop}
 use Rattle.tpkt.specs.declared.header_stops.Stop.TheVariants.{Short, At}
-use Rattle.tpkt.specs.Wire.{two, packet, mark, tsdu_limit, Tpdu, Whole, Part, IsUnit}
+use Rattle.tpkt.specs.Wire.{two, packet, mark, Tpdu, Whole, Part, IsUnit}
 use Rattle.tpkt.specs.Header.{◌>>=◌, header_at}
 use Rattle.tpkt.specs.Stream.{IsOctets, stated_length, unit_behind, unit_at}
 use Rattle.tpkt.proofs.Results.{ok_is, refused, bound}

@@ -5,9 +5,10 @@ use Rattle.std.specs.List.{flat_map}
 use Rattle.std.proofs.lemmas.Bool.{le-leb, lt-leb, cases_lt}
 use Rattle.std.proofs.lemmas.Grind.{flat_map-append}
 use Rattle.std.proofs.lemmas.List.{append-nil, take-append-drop, length-append, length-take, length-drop}
+use Rattle.osi_base.specs.Limits.{tsdu_limit}
 use Rattle.tpkt.specs.declared.packet.ConnectionFields.{ConnectionFields}
 use Rattle.tpkt.specs.declared.packet.Packet.TheVariants.{Connect, Confirm, Disconnect, Problem, Tsdu}
-use Rattle.tpkt.specs.Wire.{parameter, two, header, mark, tsdu_limit, values, Tpdu, Whole, Part, IsUnit, IsTwo, IsConnection, IsSize, IsSelector, Splits, handed}
+use Rattle.tpkt.specs.Wire.{parameter, two, header, mark, values, Tpdu, Whole, Part, IsUnit, IsTwo, IsConnection, IsSize, IsSelector, Splits, handed}
 use Rattle.tpkt.specs.Stream.{IsOctets}
 use Rattle.tpkt.specs.Written.{cut, parts_of, part_packet, written_tsdu, size_parameter, selector_parameter, parameters_of, connection_fields, HasRoom}
 use Rattle.tpkt.proofs.StreamLaws.{octets_join}

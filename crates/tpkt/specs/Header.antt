@@ -1,6 +1,7 @@
 -- Reading the header of a packet from left to right, with the first field that breaks the grammar.
 use Rattle.std.specs.Prelude.{◌≡◌, ℕ, zero, suc, ◌+◌, ◌-◌, ◌*◌, ◌==◌, ◌&&◌, ◌||◌, Bool, true, false, List, [], ◌∷◌, length, take, drop, Option, Some, None, Result, Ok, Err, nat_lt, nat_le, is_none, if◌then◌else◌}
 use Rattle.osi_base.specs.declared.words.Kind.TheVariants as kinds
+use Rattle.osi_base.specs.Limits.{tsdu_limit}
 use Rattle.tpkt.specs.declared.packet.ConnectionFields.{ConnectionFields}
 use Rattle.tpkt.specs.declared.packet.Packet.{Packet}
 use Rattle.tpkt.specs.declared.packet.Packet.TheVariants.{Connect, Confirm, Disconnect, Problem}
@@ -11,7 +12,6 @@ use Rattle.tpkt.specs.declared.header_stops.Stop.{Stop}
 use Rattle.tpkt.specs.declared.header_stops.Stop.TheVariants.{Short, At}
 use Rattle.tpkt.specs.declared.header_stops.Halt.{Halt}
 use Rattle.tpkt.specs.declared.header_stops.Halt.TheVariants as halts
-use Rattle.tpkt.specs.Wire.{tsdu_limit}
 
 infixl 10 ◌>>=◌
 abbrev pub ◌>>=◌ : {A B : Type 0} → Result A Stop → (A → Result B Stop) → Result B Stop

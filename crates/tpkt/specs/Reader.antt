@@ -1,5 +1,6 @@
 -- A reader takes the octets of a stream one by one, so it is all one how the stream is cut.
 use Rattle.std.specs.Prelude.{◌≡◌, ℕ, ◌+◌, ◌-◌, ◌^◌, ◌<◌, ◌≤◌, ◌==◌, min, Bool, true, false, List, [], ◌∷◌, ◌++◌, length, Option, Some, None, Result, Ok, Err, if◌then◌else◌}
+use Rattle.osi_base.specs.Limits.{tsdu_limit}
 use Rattle.tpkt.specs.declared.packet.Packet.{Packet}
 use Rattle.tpkt.specs.declared.packet.Packet.TheVariants.{Tsdu}
 use Rattle.tpkt.specs.declared.packet.TFault.{TFault}
@@ -10,8 +11,8 @@ use Rattle.tpkt.specs.declared.header.Header.{Header}
 use Rattle.tpkt.specs.declared.header.Header.TheVariants.{Control, Data}
 use Rattle.tpkt.specs.declared.header_stops.Stop.{Stop}
 use Rattle.tpkt.specs.declared.header_stops.Stop.TheVariants.{Short, At}
-use Rattle.tpkt.specs.Wire.{tsdu_limit}
 use Rattle.tpkt.specs.Header.{header_at}
+use Rattle.tpkt.specs.Wire.{unit_most}
 
 -- what a reader holds, and the packets that it has handed up
 pub record ReaderProgress : Type 0 where
@@ -87,5 +88,5 @@ pub record IsSoundReader (held : Held) : Type 0 where
 
 -- at most one packet and one TSDU
 pub record IsKept (held : Held) : Type 0 where
-  pub packet : length held.unread ≤ 65535
+  pub packet : length held.unread ≤ unit_most + 4
   pub tsdu : length held.tsdu ≤ tsdu_limit

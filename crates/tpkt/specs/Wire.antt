@@ -1,6 +1,7 @@
 -- Packets, and the transport units in them, as octets (RFC 1006 6; X.224 13, class 0).
 use Rattle.std.specs.Prelude.{◌≡◌, ℕ, ◌+◌, ◌/◌, ◌%◌, ◌<◌, ◌≤◌, ◌==◌, Bool, true, false, List, [], ◌∷◌, ◌++◌, length, Option, Some, None, if◌then◌else◌}
 use Rattle.std.specs.List.{flat_map}
+use Rattle.osi_base.specs.Limits.{tsdu_limit}
 use Rattle.tpkt.specs.declared.packet.ConnectionFields.{ConnectionFields}
 use Rattle.tpkt.specs.declared.packet.Packet.{Packet}
 use Rattle.tpkt.specs.declared.packet.Packet.TheVariants.{Connect, Confirm, Disconnect, Problem, Tsdu}
@@ -91,10 +92,6 @@ abbrev pub begun_after : List ℕ → Tpdu → List ℕ
 begun_after begun (Whole p) = begun
 begun_after begun (Part true octets) = []
 begun_after begun (Part false octets) = begun ++ octets
-
--- a TSDU has at most this many octets
-abbrev pub tsdu_limit : ℕ
-tsdu_limit = 1048576
 
 -- the least size of a unit that both ends can agree on (X.224 13.3.4)
 abbrev pub unit_least : ℕ

@@ -1,7 +1,7 @@
 //! The header of a packet, as far as its octets are there (RFC 1006 6; X.224 13).
 
 ghost use Rattle.std.specs.Prelude.{◌≡◌, ◌≤◌, ◌<◌, ◌-◌, length};
-ghost use Rattle.tpkt.specs.Wire.{tsdu_limit};
+ghost use Rattle.osi_base.specs.Limits.{tsdu_limit};
 ghost use Rattle.tpkt.specs.Header.{Gives, or_empty, ends_at, passed_at, data_at, mark_at, code_at, indicator_at, length_at, header_at};
 
 use crate::header_stops::{Halt, fault, short};

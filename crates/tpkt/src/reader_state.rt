@@ -1,7 +1,7 @@
 //! What a reader holds of a stream, octet by octet.
 
 ghost use Rattle.std.specs.Prelude.{◌≡◌, ◌+◌, ◌≤◌, ◌<◌, [], length, take, IfOk};
-ghost use Rattle.tpkt.specs.Wire.{tsdu_limit};
+ghost use Rattle.osi_base.specs.Limits.{tsdu_limit};
 ghost use Rattle.tpkt.specs.Reader.{on, between, opened, taken, after, IsSoundReader};
 
 use crate::header::{Header, header_at};

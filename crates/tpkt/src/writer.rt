@@ -11,7 +11,7 @@ use osi_base::{NoMemory, Octets};
 use std::alloc::Global;
 
 fn push_part(out: &mut Octets, octets: &[u8], last: bool) -> Result<(), NoMemory>
-    requires { length octets.now ≤ 65528 }
+    requires { length octets.now + 3 ≤ unit_most }
     ensures { OnOk result (out.new ≡ out.old ++ part_packet (last, octets.now)) }
 {
     out.extend(&[3, 0])?;

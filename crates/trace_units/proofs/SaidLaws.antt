@@ -6,7 +6,7 @@ use Rattle.osi_base.specs.declared.words.Kind.{Kind}
 use Rattle.osi_base.specs.declared.session_word.SessionWord.{SessionWord}
 use Rattle.osi_base.specs.declared.presentation_word.PresentationWord as units
 use Rattle.spdu_codec.specs.declared.places.UserPlaces.{UserPlaces}
-use Rattle.spdu_codec.specs.Reading.{Fault, at, units_at}
+use Rattle.spdu_codec.specs.Reading.{UnitFault, at, units_at}
 use Rattle.spdu_codec.specs.Wire.{AreUnits}
 use Rattle.spdu_codec.specs.Places.{user_of, user_places}
 use Rattle.presentation_pdus.specs.declared.place.PpduPlace.{PpduPlace}
@@ -15,8 +15,8 @@ use Rattle.presentation_pdus.specs.declared.place.PpduFault.TheVariants as fault
 use Rattle.presentation_pdus.specs.Units.{ppdu_at}
 use Rattle.stub_tables.specs.declared.tables.Tables.{Tables}
 use Rattle.trace_values.specs.Values.{ArePdvsText, Puts}
-use Rattle.trace_units.specs.declared.said.Said.{Said}
-use Rattle.trace_units.specs.declared.said.Said.TheVariants as said
+use Rattle.trace_units.specs.declared.said_text.Said.{Said}
+use Rattle.trace_units.specs.declared.said_text.Said.TheVariants as said
 use Rattle.trace_units.specs.Names.{fault_text, spdu_name, ppdu_name}
 use Rattle.trace_units.specs.Units.{carrier_of, values_of, IsUnitText, on, UnitSaid, place_in, CarriedSaid, WordSaid, ClosedSaid, OneSaid, two_names, TwoSaid, WordsSaid, ReadSaid, TsduSaid, WasPut, IsOneOrTwo}
 
@@ -97,8 +97,8 @@ two_there tables words rest more first second places result e f h t =
 
 pub read_ok : (tables : Tables) (tsdu : List ℕ) (words : List SessionWord) (places : UserPlaces) (result : Said) → units_at tsdu ≡ Ok words → places ≡ user_places tsdu → WordsSaid tables words places result → TsduSaid tables tsdu result
 read_ok tables tsdu words places result e f h =
-    subst (λ (r : Result (List SessionWord) Fault). ReadSaid tables (user_places tsdu) r result) (sym e) (subst (λ (p : UserPlaces). WordsSaid tables words p result) f h)
+    subst (λ (r : Result (List SessionWord) UnitFault). ReadSaid tables (user_places tsdu) r result) (sym e) (subst (λ (p : UserPlaces). WordsSaid tables words p result) f h)
 
 pub read_err : (tables : Tables) (tsdu : List ℕ) (place : ℕ) (kind : Kind) (text : List ℕ) → units_at tsdu ≡ Err (at place kind) → text ≡ fault_text (codes "session") place kind → TsduSaid tables tsdu (said.Fault text)
 read_err tables tsdu place kind text e f =
-    subst (λ (r : Result (List SessionWord) Fault). ReadSaid tables (user_places tsdu) r (said.Fault text)) (sym e) (ap (λ (l : List ℕ). said.Fault l) f)
+    subst (λ (r : Result (List SessionWord) UnitFault). ReadSaid tables (user_places tsdu) r (said.Fault text)) (sym e) (ap (λ (l : List ℕ). said.Fault l) f)

@@ -6,7 +6,7 @@ use Rattle.osi_base.specs.declared.presentation_word.Pdv.{Pdv}
 use Rattle.osi_base.specs.declared.presentation_word.PresentationWord as units
 use Rattle.osi_base.specs.declared.presentation_word.PresentationWord.TheVariants as unit
 use Rattle.spdu_codec.specs.declared.places.UserPlaces.{UserPlaces}
-use Rattle.spdu_codec.specs.Reading.{Fault, units_at}
+use Rattle.spdu_codec.specs.Reading.{UnitFault, units_at}
 use Rattle.spdu_codec.specs.Places.{user_of, user_places}
 use Rattle.presentation_pdus.specs.declared.place.PpduPlace.{PpduPlace}
 use Rattle.presentation_pdus.specs.declared.place.PpduPlace.TheVariants as carriers
@@ -15,8 +15,8 @@ use Rattle.presentation_pdus.specs.declared.place.PpduFault.TheVariants as fault
 use Rattle.presentation_pdus.specs.Units.{ppdu_at}
 use Rattle.stub_tables.specs.declared.tables.Tables.{Tables}
 use Rattle.trace_values.specs.Values.{ArePdvsText}
-use Rattle.trace_units.specs.declared.said.Said.{Said}
-use Rattle.trace_units.specs.declared.said.Said.TheVariants as said
+use Rattle.trace_units.specs.declared.said_text.Said.{Said}
+use Rattle.trace_units.specs.declared.said_text.Said.TheVariants as said
 use Rattle.trace_units.specs.Names.{fault_text, spdu_name, ppdu_name}
 
 -- the kind of a session unit that may carry a unit of the presentation protocol
@@ -103,7 +103,7 @@ WordsSaid tables (word ∷ []) places result = OneSaid tables word places.first 
 WordsSaid tables (first ∷ second ∷ []) places result = TwoSaid tables first second places result
 WordsSaid tables (first ∷ second ∷ third ∷ more) places result = ⊥
 
-abbrev pub ReadSaid : Tables → UserPlaces → Result (List SessionWord) Fault → Said → Type 0
+abbrev pub ReadSaid : Tables → UserPlaces → Result (List SessionWord) UnitFault → Said → Type 0
 ReadSaid tables places (Ok words) result = WordsSaid tables words places result
 ReadSaid tables places (Err fault) result = result ≡ said.Fault (fault_text (codes "session") fault.place fault.kind)
 

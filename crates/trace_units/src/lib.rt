@@ -3,10 +3,10 @@
 #![tactic(auto)]
 
 mod names;
-mod said;
+mod said_text;
+mod said_units;
 mod units;
-mod words;
 
 pub use names::direction_word;
-pub use said::{Said, fault_text};
-pub use words::Viewer;
+pub use said_text::{Said, fault_text};
+pub use said_units::Viewer;

@@ -18,7 +18,7 @@ use Rattle.dialogue.specs.declared.call.Call.TheVariants as the_calls
 use Rattle.dialogue.specs.declared.indication.Indication.{Indication}
 use Rattle.end_rules.specs.Base.{Base, Spellings, Fault, Head}
 use Rattle.end_rules.specs.Sets.{Alteration}
-use Rattle.end_rules.specs.Messages.{Message, Transport, Session, Value, Word, OfAssociation, OfData, OfMarks, OfActivities, TransportUnit, ConnectionRequest, ConnectionConfirm, DisconnectRequest, TransportError}
+use Rattle.end_rules.specs.Messages.{Message, Transport, Session, DataValue, Word, OfAssociation, OfData, OfMarks, OfActivities, TransportUnit, ConnectionRequest, ConnectionConfirm, DisconnectRequest, TransportError}
 use Rattle.end_rules.specs.Messages.{Connect, Accept, Refuse, Finish, Disconnect, Abort, AbortAccept, Values, AlterContext, AlterContextAck, Mark, Give, Start, End, unit_of}
 use Rattle.end_rules.specs.State.{Body, OpenCall, Queued, Octets, opened_with, is_up, is_broken, passes_over}
 use Rattle.end_rules.specs.Faults.{transport_fault}
@@ -81,7 +81,7 @@ settled-before : (own : List Alteration) (answers : Answers) (body : Body) → B
 settled-before [] answers body h = h
 settled-before (a ∷ own) answers body h = h
 
-parts-before : (values : List Value) (body : Body) → Before body (with_parts values body)
+parts-before : (values : List DataValue) (body : Body) → Before body (with_parts values body)
 parts-before [] body h = h
 parts-before (value ∷ values) body h = parts-before values (record body { receiving = record body.receiving { pieces = Octets (part_in value.content) ∷ body.receiving.pieces } }) h
 
@@ -136,11 +136,11 @@ module _ (free : Free) (tables : Tables) (spellings : Spellings) (a b : Config) 
   head-before : (body : Body) (context : ℕ) (head : Head) → Before body (take_head base body context head).body
   head-before body context head h = reject-before (record body { calls = (hear base body.calls context head).calls }) context (hear base body.calls context head).reject h
 
-  values-before : (values : List Value) (body : Body) → Before body (take_values base body values).body
+  values-before : (values : List DataValue) (body : Body) → Before body (take_values base body values).body
   values-before [] body h = h
   values-before (value ∷ values) body h = head-before body value.id (head_of base value) (values-before values (take_head base body value.id (head_of base value)).body h)
 
-  connect-before : (body : Body) (session : SessionConnect) (presentation : PresentationConnect) (values : List Value) (r : Bool) → Before body (if r then refused_connect body else accepted_connect base body session presentation values)
+  connect-before : (body : Body) (session : SessionConnect) (presentation : PresentationConnect) (values : List DataValue) (r : Bool) → Before body (if r then refused_connect body else accepted_connect base body session presentation values)
   connect-before body session presentation values true h = absurd (clash (is_early (if is_broken body.link.phase then phases.Broken else phases.Over)) h (refused-late (is_broken body.link.phase)))
   connect-before body session presentation values false h = absurd (clash false h refl)
 
@@ -234,7 +234,7 @@ module _ (free : Free) (tables : Tables) (spellings : Spellings) (a b : Config) 
   -- ---- an opening that is taken
 
   -- it is refused, or recovers; or no association stood
-  abbrev pub Opens : Two → SessionConnect → PresentationConnect → List Value → Type 0
+  abbrev pub Opens : Two → SessionConnect → PresentationConnect → List DataValue → Type 0
   Opens two session presentation values = ((is_refused base two.b session presentation values || recovers_in base values) ≡ true) ⊎ (is_early two.b.link.phase ≡ true)
 
   or-true : (p q : Bool) → q ≡ true → (p || q) ≡ true
@@ -244,10 +244,10 @@ module _ (free : Free) (tables : Tables) (spellings : Spellings) (a b : Config) 
   recovers-again : recovers_in base (connect_values (base_at Initiator common) true) ≡ true
   recovers-again = refl
 
-  abbrev opening : SessionConnect → PresentationConnect → List Value → Message
+  abbrev opening : SessionConnect → PresentationConnect → List DataValue → Message
   opening session presentation values = Session (OfAssociation (Connect session presentation values))
 
-  module _ (two : Two) (session : SessionConnect) (presentation : PresentationConnect) (values : List Value) (left : List Message) (body : Body) (answers : List Message) (shown : List Indication) where
+  module _ (two : Two) (session : SessionConnect) (presentation : PresentationConnect) (values : List DataValue) (left : List Message) (body : Body) (answers : List Message) (shown : List Indication) where
     none : two.to_b ≡ opening session presentation values ∷ left → two.to_b ≡ [] → ⊥
     none e n = let same : [] ≡ opening session presentation values ∷ left = sym n ∙ e in cc
 
@@ -294,7 +294,7 @@ module _ (free : Free) (tables : Tables) (spellings : Spellings) (a b : Config) 
     opening-keeps k e r = connecting e r k.opened
 
   -- an initiator takes none
-  pub no-opening : (two : Two) (session : SessionConnect) (presentation : PresentationConnect) (values : List Value) (body : Body) (answers : List Message) (shown : List Indication) → react (base_at Initiator common) two.a (opening session presentation values) ≡ Takes body answers shown → ⊥
+  pub no-opening : (two : Two) (session : SessionConnect) (presentation : PresentationConnect) (values : List DataValue) (body : Body) (answers : List Message) (shown : List Indication) → react (base_at Initiator common) two.a (opening session presentation values) ≡ Takes body answers shown → ⊥
   no-opening two session presentation values body answers shown r =
       let t = took-word (base_at Initiator common) two.a (OfAssociation (Connect session presentation values)) body answers shown r in
       let p : is_in_place (base_at Initiator common) two.a (unit_of (OfAssociation (Connect session presentation values))) ≡ true = in-place (base_at Initiator common) two.a (OfAssociation (Connect session presentation values)) t.fine in

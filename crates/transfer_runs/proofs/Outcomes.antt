@@ -16,7 +16,7 @@ use Rattle.dialogue.specs.declared.event.Event.{Event}
 use Rattle.dialogue.specs.declared.event.Entry.{Entry}
 use Rattle.dialogue.specs.declared.indication.Indication.{Indication}
 use Rattle.end_rules.specs.Base.{Base, Spellings, Fault, Item, Arrived, Whole}
-use Rattle.end_rules.specs.Messages.{Message, Transport, Session, Word, Value, OfAssociation, OfData, OfMarks, OfActivities, Connect, Values, AlterContext, AlterContextAck, End}
+use Rattle.end_rules.specs.Messages.{Message, Transport, Session, Word, DataValue, OfAssociation, OfData, OfMarks, OfActivities, Connect, Values, AlterContext, AlterContextAck, End}
 use Rattle.end_rules.specs.State.{Body, Queued}
 use Rattle.end_rules.specs.Connecting.{is_refused, recovers_in, set_for, agreed_for, begun_with, joined_with, refused_connect}
 use Rattle.end_rules.specs.Units.{selected_with, manages_with}
@@ -389,7 +389,7 @@ module _ (free : Free) (tables : Tables) (spellings : Spellings) (a b : Config) 
 
     -- ---- the queue
 
-    connect-queue : (body : Body) (session : SessionConnect) (presentation : PresentationConnect) (values : List Value) (started : List Queued) (c r : Bool) → ((c || r) ≡ true) ⊎ (started ≡ []) →
+    connect-queue : (body : Body) (session : SessionConnect) (presentation : PresentationConnect) (values : List DataValue) (started : List Queued) (c r : Bool) → ((c || r) ≡ true) ⊎ (started ≡ []) →
         QueueTook body (if c then refused_connect body else joined_with (base Responder) (set_for (base Responder) presentation) (selected_with Reliable session.requirements)
         (manages_with presentation.requirements (selected_with Reliable session.requirements)) (agreed_for (base Responder) values) (if r then body else begun_with (base Responder) session)) started
     connect-queue body session presentation values started true r h = inl (record { more = []; rejects = tt; queue = sym (append-nil body.sending.queue); made = refl })
@@ -510,7 +510,7 @@ module _ (free : Free) (tables : Tables) (spellings : Spellings) (a b : Config) 
             (one-sees (deeds_of (other role) ledger.deeds).started (deeds_of role ledger.deeds).arrived (pairs.body_at role two).receiving.last x.item.apdu _ (falls d) x.is_of
             (value-ids (base role) (received (λ x. record x { was_handed = true; active = false }) (pairs.body_at role two)) x.item))
 
-    arrived-same : (role : Role) (body : Body) (deeds : Deeds) (session : SessionConnect) (presentation : PresentationConnect) (values : List Value) → KeepsAll (base role) body deeds (took (Session (OfAssociation (Connect session presentation values)))) → arrived_by (base role) body (Session (OfAssociation (Connect session presentation values))) deeds.arrived ≡ deeds.arrived
+    arrived-same : (role : Role) (body : Body) (deeds : Deeds) (session : SessionConnect) (presentation : PresentationConnect) (values : List DataValue) → KeepsAll (base role) body deeds (took (Session (OfAssociation (Connect session presentation values)))) → arrived_by (base role) body (Session (OfAssociation (Connect session presentation values))) deeds.arrived ≡ deeds.arrived
     arrived-same role body deeds session presentation values k = anew-same (is_refused (base role) body session presentation values || recovers_in (base role) values) deeds.arrived (second-half k)
 
     hears : (role : Role) (two : Two) (ledger : Ledger) (left : List Message) (later : Body) (answers : List Message) (shown : List Indication) → Goes common two ledger → (message : Message) → KeepsAll (base role) (pairs.body_at role two) (deeds_of role ledger.deeds) (took message) → coming_to role two ≡ message ∷ left → react (base role) (pairs.body_at role two) message ≡ Takes later answers shown → Hears role two ledger message

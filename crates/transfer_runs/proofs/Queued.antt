@@ -17,7 +17,7 @@ use Rattle.dialogue.specs.declared.call.Call.TheVariants as the_calls
 use Rattle.dialogue.specs.declared.call.CallRefusal.TheVariants as refusals
 use Rattle.end_rules.specs.Base.{Base}
 use Rattle.end_rules.specs.Sets.{Alteration}
-use Rattle.end_rules.specs.Messages.{Value, Session, Word, OfAssociation, OfData, OfMarks, OfActivities, TransportUnit, ConnectionRequest, ConnectionConfirm, DisconnectRequest, TransportError}
+use Rattle.end_rules.specs.Messages.{DataValue, Session, Word, OfAssociation, OfData, OfMarks, OfActivities, TransportUnit, ConnectionRequest, ConnectionConfirm, DisconnectRequest, TransportError}
 use Rattle.end_rules.specs.Messages.{Connect, Accept, Refuse, Finish, Disconnect, Abort, AbortAccept, Values, AlterContext, AlterContextAck, Mark, MarkAck, Restart, RestartAck, Give, Please, GiveConfirm, GiveAck}
 use Rattle.end_rules.specs.Messages.{Start, Resume, End, EndAck, Interrupt, InterruptAck, Discard, DiscardAck}
 use Rattle.end_rules.specs.State.{Body, Calls, OpenCall, Octets, Queued, opened_with, is_carrying}
@@ -240,7 +240,7 @@ reject-queues : (base : Base) (body : Body) (calls : Calls) (context : ℕ) (r :
 reject-queues base body calls context None m = queues-same body _ refl m
 reject-queues base body calls context (Some r) m = record { more = record { context = context; apdu = reject_apdu r } ∷ []; rejects = (tt, tt); queue = refl; made = m }
 
-values-queue : (base : Base) (values : List Value) (body : Body) → Queues body (take_values (at Reliable base) body values).body
+values-queue : (base : Base) (values : List DataValue) (body : Body) → Queues body (take_values (at Reliable base) body values).body
 values-queue base [] body = queues-same body body refl refl
 values-queue base (value ∷ values) body =
     let head = head_of (at Reliable base) value in
@@ -248,7 +248,7 @@ values-queue base (value ∷ values) body =
     let one : Body = (take_head (at Reliable base) body value.id head).body in
     then-queues body one (take_values (at Reliable base) one values).body (reject-queues base body heard.calls value.id heard.reject (hear-made (at Reliable base) body.calls value.id head)) (values-queue base values one)
 
-parts-queue : (values : List Value) (body : Body) → Queues body (with_parts values body)
+parts-queue : (values : List DataValue) (body : Body) → Queues body (with_parts values body)
 parts-queue [] body = queues-same body body refl refl
 parts-queue (value ∷ values) body =
     let one : Body = record body { receiving = record body.receiving { pieces = Octets (part_in value.content) ∷ body.receiving.pieces } } in

@@ -7,7 +7,7 @@ use Rattle.osi_base.specs.declared.words.SetItem.{SetItem}
 use Rattle.end_rules.specs.Base.{Base}
 use Rattle.end_rules.specs.Sets.{Alteration, Saved, pair_of, is_fixed, altered, below, newest}
 use Rattle.end_rules.specs.Policy.{policy, is_faulty_proposal}
-use Rattle.end_rules.specs.Messages.{Message, Value}
+use Rattle.end_rules.specs.Messages.{Message, DataValue}
 use Rattle.end_rules.specs.State.{Body, Piece, Octets, Marked, Transfer, Queued, Sending, from_mark, highest, pieces_of, on_current, on_transfer}
 use Rattle.end_rules.specs.Requesting.{begun}
 use Rattle.end_rules.specs.World.{Shared, saved_of, saving}
@@ -127,7 +127,7 @@ altered-keeps first base body a proposes h set s k e =
 
 -- its values stand with the pairs that the set gives their contexts
 abbrev pub IsRight : List SetItem → Message → Type 0
-IsRight set message = map (λ (v : Value). pair_of set v.id) (values_in message) ≡ map (λ (v : Value). v.pair) (values_in message)
+IsRight set message = map (λ (v : DataValue). pair_of set v.id) (values_in message) ≡ map (λ (v : DataValue). v.pair) (values_in message)
 
 abbrev pub AllRight : List SetItem → List Message → Type 0
 AllRight set [] = Unit {0}

@@ -23,7 +23,7 @@ use Rattle.dialogue.specs.declared.indication.Indication.{Indication}
 use Rattle.end_rules.specs.Base.{Base, Spellings}
 use Rattle.end_rules.specs.Sets.{Alteration, Saved, pair_of, is_fixed, altered, below, newest}
 use Rattle.end_rules.specs.Policy.{policy, is_faulty_proposal}
-use Rattle.end_rules.specs.Messages.{Message, Transport, Session, TransportUnit, ConnectionRequest, ConnectionConfirm, DisconnectRequest, TransportError, Value, Word, OfAssociation, OfData, OfMarks, OfActivities, AssociationWord}
+use Rattle.end_rules.specs.Messages.{Message, Transport, Session, TransportUnit, ConnectionRequest, ConnectionConfirm, DisconnectRequest, TransportError, DataValue, Word, OfAssociation, OfData, OfMarks, OfActivities, AssociationWord}
 use Rattle.end_rules.specs.Messages.{Connect, Accept, Refuse, Finish, Disconnect, Abort, AbortAccept, Values, AlterContext, AlterContextAck, Mark, MarkAck, Restart, RestartAck, Give, Please, GiveConfirm, GiveAck, Accepting}
 use Rattle.end_rules.specs.Messages.{Start, Resume, End, EndAck, Interrupt, InterruptAck, Discard, DiscardAck, Information}
 use Rattle.end_rules.specs.State.{Body, Calls, OpenCall, Octets, Marked, Suspended, Ending, Transfer, Sending, opened_with, from_mark, up_to, highest, pieces_of, confirmed_of, on_current, on_transfer, is_carrying, is_broken, passes_over}
@@ -83,7 +83,7 @@ reject-current : (base : Base) (body : Body) (calls : Calls) (context : ℕ) (r 
 reject-current base body calls context None = refl
 reject-current base body calls context (Some r) = refl
 
-value-current : (base : Base) (values : List Value) (body : Body) → (take_values (at Reliable base) body values).body.sending.current ≡ body.sending.current
+value-current : (base : Base) (values : List DataValue) (body : Body) → (take_values (at Reliable base) body values).body.sending.current ≡ body.sending.current
 value-current base [] body = refl
 value-current base (value ∷ values) body =
     let heard = hear (at Reliable base) body.calls value.id (head_of (at Reliable base) value) in
@@ -368,7 +368,7 @@ module _ (free : Free) (tables : Tables) (spellings : Spellings) (a b : Config) 
       word-stands (OfAssociation (Disconnect values)) i l above s h = stays-none _ (inl (inr refl))
       word-stands (OfAssociation (Abort transport user)) i l above s h = stays-none _ (inl (inr refl))
       word-stands (OfAssociation AbortAccept) i l above s h = absurd i
-      word-stands (OfData (Values values)) i l above s h = subst (λ (vs : List Value). WordDoes (OfData (Values vs))) (sym i.is_one) (silent _ refl h)
+      word-stands (OfData (Values values)) i l above s h = subst (λ (vs : List DataValue). WordDoes (OfData (Values vs))) (sym i.is_one) (silent _ refl h)
       word-stands (OfData (AlterContext add delete)) i l above s h =
           let proposes : is_faulty_proposal (not (is_initiator role)) body.sets.held add ≡ false =
           no-fault (is_faulty_proposal (not (is_initiator role)) body.sets.held add) invalid_ppdu
@@ -420,7 +420,7 @@ module _ (free : Free) (tables : Tables) (spellings : Spellings) (a b : Config) 
       refused-held alive (IsOver q) h = absurd (not-over body alive q)
       refused-held alive (IsStood x) h = still _ refl (standing role body shared x (not-over body alive) h)
 
-      accepted-does : (session : Accepting) (presentation : PresentationAccept) (values : List Value) → passes_over body.link.phase ≡ false → Rooted role body → Held role body shared → Keeping first shared → WordDoes (OfAssociation (Accept session presentation values))
+      accepted-does : (session : Accepting) (presentation : PresentationAccept) (values : List DataValue) → passes_over body.link.phase ≡ false → Rooted role body → Held role body shared → Keeping first shared → WordDoes (OfAssociation (Accept session presentation values))
       accepted-does session presentation values alive r h k = stays-none _ (joins-held _ shared refl refl k alive r h)
 
     -- the responder answers a CN
@@ -469,7 +469,7 @@ module _ (free : Free) (tables : Tables) (spellings : Spellings) (a b : Config) 
     -- ---- what comes next
 
     -- an opening that recovers nothing comes from an end without an association
-    module _ (two : Two) (session : SessionConnect) (presentation : PresentationConnect) (values : List Value) (left : List Message) (later : Body) (answers : List Message) (shown : List Indication) where
+    module _ (two : Two) (session : SessionConnect) (presentation : PresentationConnect) (values : List DataValue) (left : List Message) (later : Body) (answers : List Message) (shown : List Indication) where
       abbrev cn : Message
       cn = Session (OfAssociation (Connect session presentation values))
 

@@ -5,13 +5,14 @@ use Rattle.osi_base.specs.declared.syntax.Syntax.TheVariants.{Ber, Der, Packed}
 use Rattle.osi_base.specs.declared.presentation_word.Pdv.{Pdv}
 use Rattle.osi_base.specs.declared.presentation_word.PdvContent.{PdvContent}
 use Rattle.osi_base.specs.declared.presentation_word.PdvContent.TheVariants as forms
+use Rattle.osi_base.specs.Limits.{highest_context}
 use Rattle.packed_codec.specs.Laws.{HasNoAny}
 use Rattle.rtse_apdus.specs.Transfer.{IsTransfer}
 use Rattle.stub_tables.specs.declared.tables.Tables.{Tables}
 use Rattle.stub_tables.specs.declared.apdu.Apdu.{Apdu}
 use Rattle.stub_tables.specs.Readable.{IsReadable}
 use Rattle.apdu_spelling.specs.Writing.{written_apdu, IsWritable}
-use Rattle.end_rules.specs.Base.{Base, highest_context}
+use Rattle.end_rules.specs.Base.{Base}
 use Rattle.reliable_model.specs.Codecs.{IsTransferable}
 
 -- A module's tables: they are readable, and no type of it is any type, as the notation has none.

@@ -1,4 +1,5 @@
-//! Values of types as texts, in the value notation of X.680: printed, and read.
+//! Values of types printed as texts, in the value notation of X.680, by their types and by their
+//! form; decimal numbers printed and read; a text that grows.
 #![tactic(auto)]
 
 mod decimal;

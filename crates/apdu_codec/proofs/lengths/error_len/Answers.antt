@@ -9,7 +9,7 @@ use Rattle.apdu_codec.proofs.lengths.error_len.Goals as goal
 
 pub returns : goal.returns
 returns c =
-    let carried = c.carried_len-carried.ensures ∙ ap (λ used. saturated (length (or_none (written_carried c.args.syntax c.args.tables.now.types used c.args.parameter.now)))) c.parameter_use-used.ensures in
+    let carried = c.carried_len-carried.ensures ∙ ap (λ used. saturated (length (or_none (written_carried c.args.syntax c.args.tables.now.types used c.args.parameter.now)))) c.requires in
     let id = rw (to_z-of_z w64 c.args.id c.ranges.id) at c.integer_len.ensures in
     error_told c.args.syntax c.args.id c.args.code.now _ _ _ _ _ _ _ _ id carried c.code_len.ensures c.marked_len.ensures c.saturating_add-behind.ensures c.saturating_add-contents.ensures
     c.held_len.ensures

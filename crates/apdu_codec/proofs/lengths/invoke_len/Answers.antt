@@ -9,7 +9,7 @@ use Rattle.apdu_codec.proofs.lengths.invoke_len.Goals as goal
 
 pub returns : goal.returns
 returns c =
-    let carried = c.carried_len-carried.ensures ∙ ap (λ used. saturated (length (or_none (written_carried c.args.syntax c.args.tables.now.types used c.args.argument.now)))) c.argument_use-used.ensures in
+    let carried = c.carried_len-carried.ensures ∙ ap (λ used. saturated (length (or_none (written_carried c.args.syntax c.args.tables.now.types used c.args.argument.now)))) c.requires in
     let id = rw (to_z-of_z w64 c.args.id c.ranges.id) at c.integer_len.ensures in
     invoke_told c.args.syntax c.args.id c.args.linked c.args.code.now _ _ _ _ _ _ _ _ _ _ id c.linked_len.ensures c.saturating_add-front.ensures carried c.code_len.ensures c.marked_len.ensures
     c.saturating_add-behind.ensures c.saturating_add-contents.ensures c.held_len.ensures

@@ -3,7 +3,7 @@ use Rattle.std.specs.Prelude.{MatchOption}
 use Rattle.end_rules.specs.Messages.{OfActivities, End}
 use Rattle.association_words.specs.declared.words.Word.{Word}
 use Rattle.association_words.specs.Seen.{seen_word, seen_activities}
-use Rattle.association_reacting.specs.Ends.{is_end_word}
+use Rattle.association_reacting.specs.ActivityEnds.{is_end_word}
 use Rattle.association_end.proofs.Units.{ending_so}
 use Rattle.association_end.proofs.reading.ending.Goals as goal
 

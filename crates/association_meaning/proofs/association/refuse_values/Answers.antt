@@ -1,7 +1,7 @@
 use Rattle.std.proofs.Common.{List, Result, Ok, sym, subst, ◌∙◌}
 use Rattle.osi_base.specs.declared.words.SetItem.{SetItem}
 use Rattle.end_rules.specs.Base.{Fault}
-use Rattle.end_rules.specs.Messages.{Value}
+use Rattle.end_rules.specs.Messages.{DataValue}
 use Rattle.association_reading.specs.Values.{and_informed}
 use Rattle.association_reading.specs.Places.{pdv_places}
 use Rattle.association_reading.specs.Association.{is_response, unasked_values, set_refused, refuse_values}
@@ -16,5 +16,5 @@ returns-in_err-values c =
 
 pub returns : goal.returns
 returns c =
-    subst (λ (r : Result (List Value) Fault). GivesAs seen_values c.and_informed.result (and_informed (association_base c.args.basis.now.tables.now c.args.basis.now.config.now) (set_refused (association_base c.args.basis.now.tables.now c.args.basis.now.config.now) c.args.presentation.now) is_response r)) (sym (rw c.as_slice.ensures at c.in_ok-values.ensures))
+    subst (λ (r : Result (List DataValue) Fault). GivesAs seen_values c.and_informed.result (and_informed (association_base c.args.basis.now.tables.now c.args.basis.now.config.now) (set_refused (association_base c.args.basis.now.tables.now c.args.basis.now.config.now) c.args.presentation.now) is_response r)) (sym (rw c.as_slice.ensures at c.in_ok-values.ensures))
     (subst (λ (s : List SetItem). GivesAs seen_values c.and_informed.result (and_informed (association_base c.args.basis.now.tables.now c.args.basis.now.config.now) s is_response (Ok (seen_values c.in_ok-values.values)))) (c.as_slice-2.ensures ∙ c.in_ok-set.ensures) c.and_informed.ensures)

@@ -9,7 +9,7 @@ use Rattle.association_words.specs.declared.words.Word.{Word}
 use Rattle.association_words.specs.Seen.{seen_association, seen_word}
 use Rattle.association_state.specs.Seen.{base_in, seen}
 use Rattle.association_answers.specs.Reacted.{TakenAs}
-use Rattle.association_reacting.specs.Ends.{is_end_word}
+use Rattle.association_reacting.specs.ActivityEnds.{is_end_word}
 use Rattle.association_reacting.proofs.Reactions.{nothing_later}
 use Rattle.association_reacting.proofs.taking.take_word.Goals as goal
 

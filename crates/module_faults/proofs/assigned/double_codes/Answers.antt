@@ -2,7 +2,7 @@ use Rattle.std.proofs.Common.{◌≡◌, ◌++◌, Some, refl, sym, ap, ◌∙�
 use Rattle.std.specs.Option.{option_copied}
 use Rattle.module_faults.specs.declared.kind.TableKind.TheVariants as kinds
 use Rattle.module_faults.specs.Least.{fault, if_so, least_from}
-use Rattle.module_faults.specs.Seen.{has_code}
+use Rattle.module_faults.specs.Met.{has_code}
 use Rattle.module_faults.specs.Locals.{own_code, code_faults, and_code, double_codes}
 use Rattle.module_faults.proofs.Loops.{rest_of, loop_step, loop_end}
 use Rattle.module_faults.proofs.assigned.double_codes.Goals as goal

@@ -1,7 +1,7 @@
 use Rattle.std.proofs.Common.{◌≡◌, length}
 use Rattle.module_faults.specs.Least.{least_from}
 use Rattle.module_faults.specs.Locals.{double_codes}
-use Rattle.module_faults.specs.Seen.{no_codes}
+use Rattle.module_faults.specs.Met.{no_codes}
 use Rattle.module_faults.proofs.assigned.double_codes.Given as goal
 
 abbrev pub invariant-loop-rest : goal.invariant-loop-rest

@@ -1,5 +1,5 @@
 use Rattle.std.proofs.Common.{List, sym, ap, subst, ◌∙◌}
-use Rattle.module_faults.specs.declared.survey.Standing.{Standing}
+use Rattle.module_faults.specs.declared.reach_search.Standing.{Standing}
 use Rattle.module_faults.specs.Least.{least_from}
 use Rattle.module_faults.specs.Standings.{says, AreShown}
 use Rattle.module_faults.specs.Facts.{env_of}

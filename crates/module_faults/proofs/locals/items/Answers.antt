@@ -3,7 +3,7 @@ use Rattle.std.specs.Prelude.{◌||◌}
 use Rattle.std.proofs.lemmas.Grind.{common_steps}
 use Rattle.module_faults.specs.declared.kind.TableKind.TheVariants as kinds
 use Rattle.module_faults.specs.Least.{at_name, if_so, least_from}
-use Rattle.module_faults.specs.Seen.{has_list, has_number, with_number}
+use Rattle.module_faults.specs.Met.{has_list, has_number, with_number}
 use Rattle.module_faults.specs.Locals.{item_faults}
 use Rattle.module_faults.proofs.Loops.{rest_of, loop_step, loop_end}
 use Rattle.module_faults.proofs.locals.items.Goals as goal

@@ -2,7 +2,7 @@ use Rattle.std.proofs.Common.{◌++◌, refl, sym, ap, ◌∙◌}
 use Rattle.operation_notation.specs.TreeView.{parts_of as trees}
 use Rattle.module_faults.specs.declared.kind.TableKind.TheVariants as kinds
 use Rattle.module_faults.specs.Least.{at_name, if_so, least_from}
-use Rattle.module_faults.specs.Seen.{has_list}
+use Rattle.module_faults.specs.Met.{has_list}
 use Rattle.module_faults.specs.Locals.{part_faults}
 use Rattle.module_faults.proofs.Loops.{rest_of, loop_step, loop_end}
 use Rattle.module_faults.proofs.locals.part_names.Goals as goal

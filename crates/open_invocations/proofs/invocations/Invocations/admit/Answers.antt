@@ -22,7 +22,7 @@ invariant_of-self c =
     let i = c.self.inside in
     let p = c.set_context.new.self in
     admitted_kept c.args.tables.now i.forest c.admit.new.forest i.invoker p c.admit.new.self c.args.id.now c.args.called.operation p.context c.args.linked
-    (subst (λ (x : Performing). AreKept i.forest i.invoker x.kept) (sym c.set_context.ensures) c.self.invariant) (c.admit.ensures.own i.invoker c.self.invariant.own) c.admit.ensures.peer c.admit.result c.admit.ensures.admitted c.admit.ensures.err
+    (subst (λ (x : Performing). AreKept i.forest i.invoker x.kept) (sym c.set_context.ensures) c.self.invariant) (c.admit.ensures.open.others i.invoker.kept c.self.invariant.own) c.admit.ensures.open.these c.admit.result c.admit.ensures.admitted c.admit.ensures.err
 
 pub returns-clause-admitted : goal.returns-clause-admitted
 returns-clause-admitted c =

@@ -8,5 +8,5 @@ pub invariant_of-self : goal.invariant_of-self
 invariant_of-self c =
     let i = c.self.inside in
     let before = calls_of i.forest i.invoker i.performer.kept in
-    quiet_kept i.forest c.close.new.forest i.invoker c.close.new.self i.performer.kept i.performer.kept c.self.invariant c.close.ensures.own (c.close.ensures.peer i.performer.kept c.self.invariant.peer)
+    quiet_kept i.forest c.close.new.forest i.invoker c.close.new.self i.performer.kept i.performer.kept c.self.invariant c.close.ensures.open.these (c.close.ensures.open.others i.performer.kept c.self.invariant.peer)
     (subst (λ (k : Calls). Quiet before k) (sym (c.close.ensures.closed i.performer.kept)) (quiet_closed true c.args.id.now before))

@@ -15,10 +15,12 @@ returns-clause-closed c = λ performed.
     ∙ ap (λ (i : Invoking). ends.closed true c.args.id.now (opens_in c.args.forest.now i.kept performed)) c.self.view_is in
     let y = ap (λ (i : Invoking). i.made) c.self.view_is in λ k. record { opens = x k; made = y k }
 
-pub returns-clause-own : goal.returns-clause-own
-returns-clause-own c =
-    left_after c.args.id.now c.self.inside.kept.entries c.leave.new.kept.entries (λ q. c.leave.ensures.kept q ∙ ap (λ (k : Key). cond (int_eq k.id q) None (called q c.self.inside.kept.entries)) c.key_of-key.ensures) c.args.forest.now c.leave.new.forest true (apart c.args.forest.now c.is_forest.ensures) (c.leave.ensures.forest ∙ ap (λ (k : Key). closed k c.args.forest.now) c.key_of-key.ensures)
-    (subst (λ (i : Invoking). AreOpen true c.args.forest.now i.kept) (sym c.self.view_is) c.requires)
-
-pub returns-clause-peer : goal.returns-clause-peer
-returns-clause-peer c = λ performed h. beside_after true false c.args.id.now c.args.forest.now c.leave.new.forest refl (c.leave.ensures.forest ∙ ap (λ (k : Key). closed k c.args.forest.now) c.key_of-key.ensures) performed h
+pub returns-clause-open : goal.returns-clause-open
+returns-clause-open c =
+    record {
+      these =
+          left_after c.args.id.now c.self.inside.kept.entries c.leave.new.kept.entries (λ q. c.leave.ensures.kept q ∙ ap (λ (k : Key). cond (int_eq k.id q) None (called q c.self.inside.kept.entries)) c.key_of-key.ensures) c.args.forest.now c.leave.new.forest true (apart c.args.forest.now c.is_forest.ensures) (c.leave.ensures.forest ∙ ap (λ (k : Key). closed k c.args.forest.now) c.key_of-key.ensures)
+          (subst (λ (i : Invoking). AreOpen true c.args.forest.now i.kept) (sym c.self.view_is) c.requires);
+      others = λ performed h.
+          beside_after true false c.args.id.now c.args.forest.now c.leave.new.forest refl (c.leave.ensures.forest ∙ ap (λ (k : Key). closed k c.args.forest.now) c.key_of-key.ensures) performed h;
+    }

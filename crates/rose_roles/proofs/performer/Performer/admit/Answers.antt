@@ -3,6 +3,7 @@ use Rattle.std.specs.Option.{option_map}
 use Rattle.std.specs.Ordering.{int_eq}
 use Rattle.linked_ops.specs.declared.key.Key.{Key}
 use Rattle.linked_ops.specs.Entries.{is_open, is_open_or_none}
+use Rattle.rose_roles.specs.declared.invoked_with.InvokedWith.{InvokedWith}
 use Rattle.rose_roles.specs.Calls.{Performing, key_of, called, AreOpen, opens_in, calls_of}
 use Rattle.rose_roles.proofs.Hearings.{not_admitted, admitted}
 use Rattle.rose_roles.proofs.Changes.{not_open, opens_peer, their_after, ours_after}
@@ -36,12 +37,14 @@ returns-clause-admitted c = λ base own same.
     ∙ admitted base c.args.tables.now same (record { own = false; id = c.args.id.now; operation = c.args.place; context = c.args.self.now.context; parent = c.args.linked })
     (calls_of c.args.forest.now own c.args.self.now.kept) (sym c.is_silent_at.ensures ∙ c.if-is_silent_at.false)
 
-pub returns-clause-peer : goal.returns-clause-peer
-returns-clause-peer c =
-    their_after c.args.id.now (record { operation = c.args.place; context = c.self.inside.context }) c.args.linked c.self.inside.kept.entries c.enter.new.kept.entries (λ q. c.in_ok-enter.ensures.updated q ∙ ap (λ (k : Key). cond (int_eq k.id q) (Some (record { operation = c.args.place; context = c.self.inside.context })) (called q c.self.inside.kept.entries)) c.key_of-key.ensures) c.args.forest.now c.enter.new.forest
-    (c.in_ok-enter.ensures.forest ∙ ap (λ (k : Key). c.args.forest.now ++ (k, option_map (key_of (not k.own)) c.args.linked) ∷ []) c.key_of-key.ensures) (subst (λ (p : Performing). AreOpen false c.args.forest.now p.kept) (sym c.self.view_is) c.requires.peer)
-
-pub returns-clause-own : goal.returns-clause-own
-returns-clause-own c = λ own h.
-    ours_after c.args.id.now (record { operation = c.args.place; context = c.self.inside.context }) c.args.linked c.self.inside.kept.entries c.enter.new.kept.entries (λ q. c.in_ok-enter.ensures.updated q ∙ ap (λ (k : Key). cond (int_eq k.id q) (Some (record { operation = c.args.place; context = c.self.inside.context })) (called q c.self.inside.kept.entries)) c.key_of-key.ensures) c.args.forest.now c.enter.new.forest
-    (c.in_ok-enter.ensures.forest ∙ ap (λ (k : Key). c.args.forest.now ++ (k, option_map (key_of (not k.own)) c.args.linked) ∷ []) c.key_of-key.ensures) own.kept h
+pub returns-clause-open : goal.returns-clause-open
+returns-clause-open c =
+    let call : InvokedWith = record { operation = c.args.place; context = c.self.inside.context } in
+    let updated = λ q. c.in_ok-enter.ensures.updated q ∙ ap (λ (k : Key). cond (int_eq k.id q) (Some call) (called q c.self.inside.kept.entries)) c.key_of-key.ensures in
+    let opened = c.in_ok-enter.ensures.forest ∙ ap (λ (k : Key). c.args.forest.now ++ (k, option_map (key_of (not k.own)) c.args.linked) ∷ []) c.key_of-key.ensures in
+    record {
+      these =
+          their_after c.args.id.now call c.args.linked c.self.inside.kept.entries c.enter.new.kept.entries updated c.args.forest.now c.enter.new.forest opened
+          (subst (λ (p : Performing). AreOpen false c.args.forest.now p.kept) (sym c.self.view_is) c.requires.peer);
+      others = λ own h. ours_after c.args.id.now call c.args.linked c.self.inside.kept.entries c.enter.new.kept.entries updated c.args.forest.now c.enter.new.forest opened own h;
+    }

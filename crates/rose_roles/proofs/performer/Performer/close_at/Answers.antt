@@ -16,13 +16,13 @@ returns-clause-closed c = λ invoked.
     ∙ ap (λ (i : Performing). ends.closed false c.args.id.now (opens_in c.args.forest.now invoked.kept i.kept)) c.self.view_is in
     λ k. record { opens = x k; made = invoked.made }
 
-pub returns-clause-peer : goal.returns-clause-peer
-returns-clause-peer c =
+pub returns-clause-open : goal.returns-clause-open
+returns-clause-open c =
     let key_is = c.key_of-key.ensures in
-    left_after c.args.id.now c.self.inside.kept.entries c.leave.new.kept.entries (λ q. c.leave.ensures.kept q ∙ ap (λ (k : Key). cond (int_eq k.id q) None (called q c.self.inside.kept.entries)) key_is) c.args.forest.now c.leave.new.forest false (apart c.args.forest.now c.is_forest.ensures) (c.leave.ensures.forest ∙ ap (λ (k : Key). closed k c.args.forest.now) key_is)
-    (subst (λ (i : Performing). AreOpen false c.args.forest.now i.kept) (sym c.self.view_is) c.requires)
-
-pub returns-clause-own : goal.returns-clause-own
-returns-clause-own c = λ invoked h.
-    let key_is = c.key_of-key.ensures in
-    beside_after false true c.args.id.now c.args.forest.now c.leave.new.forest refl (c.leave.ensures.forest ∙ ap (λ (k : Key). closed k c.args.forest.now) key_is) invoked.kept h
+    let shut = c.leave.ensures.forest ∙ ap (λ (k : Key). closed k c.args.forest.now) key_is in
+    record {
+      these =
+          left_after c.args.id.now c.self.inside.kept.entries c.leave.new.kept.entries (λ q. c.leave.ensures.kept q ∙ ap (λ (k : Key). cond (int_eq k.id q) None (called q c.self.inside.kept.entries)) key_is) c.args.forest.now c.leave.new.forest false (apart c.args.forest.now c.is_forest.ensures) shut
+          (subst (λ (i : Performing). AreOpen false c.args.forest.now i.kept) (sym c.self.view_is) c.requires);
+      others = λ invoked h. beside_after false true c.args.id.now c.args.forest.now c.leave.new.forest refl shut invoked h;
+    }

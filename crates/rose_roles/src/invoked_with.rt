@@ -1,0 +1,10 @@
+//! What is kept of an open invocation beside its key.
+
+/// What an open invocation was invoked with.
+#[derive(Clone, Copy, Debug, PartialEq, Eq)]
+pub struct InvokedWith {
+    /// Its operation, as a place in the table of operations.
+    pub operation: u32,
+    /// The presentation context on which it was invoked.
+    pub context: u32,
+}
