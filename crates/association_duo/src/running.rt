@@ -12,19 +12,25 @@ use dialogue::{Call, CallRefusal, Carried, Entries, Entry, Event, Events, Transc
 use osi_base::{Copied, ListOf, NoMemory, Side};
 use std::alloc::Global;
 
-/// Makes a call. A refusal by want of memory is no answer, but the error of the run.
-fn call_end(end: &mut End<'_>, call: &Call) -> Result<Result<Option<i64>, CallRefusal>, NoMemory>
+/// Makes a call like this one.
+fn call_end(
+    alloc: Global,
+    end: &mut End<'_>,
+    call: &Call,
+) -> Result<Result<Option<i64>, CallRefusal>, NoMemory>
     ensures { IfOk result (λ answer. AnsweredTo call.now answer end.old end.new) }
 {
-    let answer = end.call(call);
+    let made = call.copy(alloc)?;
+    let answer = end.call(made);
     if matches!(answer, Err(CallRefusal::NoMemory)) {
         return Err(NoMemory);
     }
     Ok(answer)
 }
 
-/// Makes a call at one of two ends.
+/// Makes a call like this one at one of two ends.
 fn answer_at(
+    alloc: Global,
     a: &mut End<'_>,
     b: &mut End<'_>,
     side: Side,
@@ -33,8 +39,8 @@ fn answer_at(
     ensures { IfOk result (λ answer. AnsweredAt side call.now answer a.old b.old a.new b.new) }
 {
     match side {
-        Side::A => call_end(a, call),
-        Side::B => call_end(b, call),
+        Side::A => call_end(alloc, a, call),
+        Side::B => call_end(alloc, b, call),
     }
 }
 
@@ -50,7 +56,7 @@ fn run_call(
         b.new) }
 {
     let kept = call.copy(alloc)?;
-    let answer = answer_at(a, b, side, call)?;
+    let answer = answer_at(alloc, a, b, side, call)?;
     Ok(Entry::Call {
         side,
         call: kept,

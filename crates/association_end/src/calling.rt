@@ -70,11 +70,8 @@ impl<'t> End<'t> {
         Ok(answer)
     }
 
-    /// Makes a call. A refusal is the first row of the conditions that fails, and changes nothing;
-    /// but after a refusal by want of memory the end is dead, and answers `Dead` from then on. An
-    /// accepted invocation is answered by its identifier, all else by `None`; then the end sends
-    /// all that it sends by itself.
-    pub fn call(&mut self, asked: &Call) -> Result<Option<i64>, CallRefusal>
+    /// Makes a call; where memory is refused, the end dies.
+    fn call_or_die(&mut self, asked: &Call) -> Result<Option<i64>, CallRefusal>
         ensures { MatchBool (is_memory result) (DiedCalled self.old self.new asked.now)
             (Answered self.old self.new asked.now result) }
     {
@@ -83,6 +80,19 @@ impl<'t> End<'t> {
             self.body.link.phase = Phase::Dead;
             return answer;
         }
+        answer
+    }
+
+    /// Makes a call. A refusal is the first row of the conditions that fails, and changes nothing;
+    /// but after a refusal by want of memory the end is dead, and answers `Dead` from then on. An
+    /// accepted invocation is answered by its identifier, all else by `None`; then the end sends
+    /// all that it sends by itself.
+    pub fn call(&mut self, call: Call) -> Result<Option<i64>, CallRefusal>
+        ensures { MatchBool (is_memory result) (DiedCalled self.old self.new call)
+            (Answered self.old self.new call result) }
+    {
+        let answer = self.call_or_die(&call);
+        drop(call);
         answer
     }
 }

@@ -89,15 +89,17 @@ impl<'t> End<'t> {
     /// Makes a call. A refusal is the first row of the conditions that fails, and changes nothing;
     /// but after a refusal by want of memory the end is dead, and answers `Dead` from then on. An
     /// accepted invocation is answered by its identifier, all else by `None`.
-    pub fn call(&mut self, call: &Call) -> Result<Option<i64>, CallRefusal>
+    pub fn call(&mut self, call: Call) -> Result<Option<i64>, CallRefusal>
         ensures answer { MatchBool (is_memory result) (Died self.old self.new)
-            (Answered (can_call (base self.old) (body self.old) call.now) self.old self.new call.now
+            (Answered (can_call (base self.old) (body self.old) call) self.old self.new call
             result) }
         // Where the end stood for a history, it stands for it with the steps of the call.
         ensures history { (h : History) → StandsFor self.old h →
             OnFalse (is_memory result) (StandsFor self.new
-            (going_on h (call_steps (base self.old) (end_of (base self.old) h).body call.now))) }
+            (going_on h (call_steps (base self.old) (end_of (base self.old) h).body call))) }
     {
-        self.call_or_die(call)
+        let answer = self.call_or_die(&call);
+        drop(call);
+        answer
     }
 }

@@ -4,7 +4,7 @@ use Rattle.association_end.specs.Called.{is_memory, BeganCall, DiedCalled}
 use Rattle.association_end.proofs.Inside.{view_in}
 use Rattle.association_end.proofs.Sounds.{sound_dead}
 use Rattle.association_end.proofs.Calls.{died_called, dead_so, alive_so}
-use Rattle.association_end.proofs.end.End.call.Goals as goal
+use Rattle.association_end.proofs.end.End.call_or_die.Goals as goal
 
 pub invariant_of-self : goal.invariant_of-self
 invariant_of-self c = sound_dead (view_in c.self.inside) c.self.invariant
