@@ -21,7 +21,8 @@ use std::alloc::Global;
 ///
 /// # Errors
 ///
-/// Where memory is refused.
+/// Where memory is refused; and if the search for types that reach themselves were to settle one of
+/// them wrongly, which no test has seen, and of which it isn't proved that it never comes.
 pub fn least_fault(alloc: Global, assignments: &[Assignment]) -> Result<Option<Found>, NoMemory>
     ensures { IfOk result (λ found. IsLeastFault assignments.now found) }
 {
