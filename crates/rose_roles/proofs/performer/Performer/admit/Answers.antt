@@ -1,4 +1,5 @@
 use Rattle.std.proofs.Common.{false, sym, ap, subst, ◌∙◌, ◌∷◌, ◌++◌, [], Some, cond, not}
+use Rattle.std.specs.Prelude.{ℤ}
 use Rattle.std.specs.Option.{option_map}
 use Rattle.std.specs.Ordering.{int_eq}
 use Rattle.linked_ops.specs.declared.key.Key.{Key}
@@ -40,7 +41,7 @@ returns-clause-admitted c = λ base own same.
 pub returns-clause-open : goal.returns-clause-open
 returns-clause-open c =
     let call : InvokedWith = record { operation = c.args.place; context = c.self.inside.context } in
-    let updated = λ q. c.in_ok-enter.ensures.updated q ∙ ap (λ (k : Key). cond (int_eq k.id q) (Some call) (called q c.self.inside.kept.entries)) c.key_of-key.ensures in
+    let updated = λ (q : ℤ). c.in_ok-enter.ensures.updated q ∙ ap (λ (k : Key). cond (int_eq k.id q) (Some call) (called q c.self.inside.kept.entries)) c.key_of-key.ensures in
     let opened = c.in_ok-enter.ensures.forest ∙ ap (λ (k : Key). c.args.forest.now ++ (k, option_map (key_of (not k.own)) c.args.linked) ∷ []) c.key_of-key.ensures in
     record {
       these =
