@@ -1,4 +1,4 @@
-//! Invocations.
+//! What an invocation that is heard does at the end: it is admitted and shown, or rejected.
 
 ghost use Rattle.std.specs.Prelude.{◌≡◌, IfOk};
 ghost use Rattle.end_rules.specs.Hearing.{carried_in, hear_invoke};

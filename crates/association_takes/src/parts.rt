@@ -1,4 +1,4 @@
-//! Parts of transfers.
+//! The values of a message by their contents, and the parts of a transfer that they carry.
 
 ghost use Rattle.std.specs.Prelude.{◌≡◌, ◌≤◌, ◌+◌, ◌++◌, ◌∷◌, min, length, nat_lt, not, OnOk, option_map};
 ghost use Rattle.std.specs.List.{list_any};

@@ -59,8 +59,9 @@ impl<'t> End<'t> {
     ghost use Rattle.end_rules.specs.History.{History, gave, broke};
     ghost use Rattle.bare_end.specs.View.{EndView, body, Stepped, StandsFor};
 
-    /// An end of bare mode with these tables and this configuration, up at once. Ends of the other
-    /// modes aren't built yet. Refused is what `check_config` refuses, and want of memory.
+    /// An end of bare mode with these tables and this configuration, up at once. Refused is what
+    /// `check_config` refuses, and want of memory. Ends of the other modes are those of
+    /// `association_end`.
     pub fn new(alloc: Global, tables: &'t Tables, config: Config) -> Result<End<'t>, ConfigRefusal>
         requires bare { config.mode ≡ modes.Bare }
         ensures made { IfOk result (λ end. end ≡ record {

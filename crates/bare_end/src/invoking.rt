@@ -1,4 +1,4 @@
-//! Invocations.
+//! The call that invokes an operation: what refuses it, and what it sends and keeps.
 
 ghost use Rattle.std.specs.Prelude.{◌≡◌, ◌<◌, ◌≤◌, ◌+◌, ℕ, ℤ, true, false, not, ◌&&◌, nat_le, length, Some, None, Ok, Err, pos, IfOk, OnOk, OnErr, if◌then◌else◌, suc};
 ghost use Rattle.osi_base.specs.declared.syntax.Syntax.TheVariants as syntaxes;

@@ -13,7 +13,7 @@ use Rattle.trace_text.specs.Trace.{TraceTextOf}
 use Rattle.osi_commands.specs.declared.answers.Answer.{Answer}
 use Rattle.osi_commands.specs.Answers.{script_answer, done_answer}
 
--- the kind of fault in a script as which a fault of a recording is told
+-- the kind of fault of a schedule as which a fault of a recording is told
 abbrev pub script_kind : RecordingKind → ScriptKind
 script_kind recording_kinds.BadField = kinds.BadField
 script_kind recording_kinds.TooMany = kinds.TooMany

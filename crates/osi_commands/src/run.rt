@@ -102,7 +102,8 @@ fn run_words<F: Files, O: Sink>(alloc: Global, words: &Words, files: &mut F, out
 /// - `ModuleRefused`: the module has a fault, and the text says where.
 /// - `ScriptRefused`: a line of the schedule, or of the recording, breaks its grammar.
 /// - `WriteFault`: the sink failed; a beginning of the text was written.
-/// - `NoMemory`: an allocation was refused; a beginning of the text, or none of it, was written.
+/// - `NoMemory`: want of memory, whose cause no clause tells; a beginning of the text, or none of
+///   it, was written.
 ///
 /// The words come first, then the module, the second file and the run: the first fault decides. A
 /// file that isn't due isn't asked for, and one that failed isn't read again. A write that failed is
