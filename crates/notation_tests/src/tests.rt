@@ -95,134 +95,165 @@ const DEFAULTS_SHOWN: &str =
 /// A text with the place and kind of its first fault.
 type Row = (&'static [u8], u32, u32, NotationKind);
 
+/// Texts with their first faults. A place is that of the first octet of what can't stand there, and
+/// each label says how many octets of its line stand before it: its column is one more. A line ends
+/// at its line feed, and a text that ends too early is at fault behind its last octet.
 const FAULTS: [Row; 28] = [
+    // REAL, a word that isn't supported, behind 24 octets of line 2
     (
         b"M {2 999 7 2} DEFINITIONS ::= BEGIN\na OPERATION ::= {RESULT REAL}\nEND\n",
         2,
         25,
         NotationKind::Unsupported,
     ),
+    // an octet that begins no token, behind 22 octets of line 2
     (
         b"M {2 999 7 2} DEFINITIONS ::= BEGIN\na OPERATION ::= {CODE $}\nEND\n",
         2,
         23,
         NotationKind::BadCharacter,
     ),
+    // a text that ends behind the module's name: the place behind its one octet
     (b"M", 1, 2, NotationKind::UnexpectedToken),
+    // a code of -0, which writes no integer, behind 60 octets
     (
         b"M {2 999} DEFINITIONS ::= BEGIN a OPERATION ::= {CODE local:-0} END",
         1,
         61,
         NotationKind::UnexpectedToken,
     ),
+    // END where the type of a SET OF should stand, behind 45 octets
     (
         b"M {2 999} DEFINITIONS ::= BEGIN T ::= SET OF END",
         1,
         46,
         NotationKind::UnexpectedToken,
     ),
+    // a default of an alternative of a CHOICE: DEFAULT, behind 53 octets
     (
         b"M {2 999} DEFINITIONS ::= BEGIN T ::= CHOICE {a NULL DEFAULT 1} END",
         1,
         54,
         NotationKind::UnexpectedToken,
     ),
+    // a default behind OPTIONAL: DEFAULT, behind 64 octets
     (
         b"M {2 999} DEFINITIONS ::= BEGIN T ::= SEQUENCE {a NULL OPTIONAL DEFAULT 1} END",
         1,
         65,
         NotationKind::UnexpectedToken,
     ),
+    // DEFAULT, a word of the grammar's own, where a type should stand, behind 38 octets
     (
         b"M {2 999} DEFINITIONS ::= BEGIN T ::= DEFAULT END",
         1,
         39,
         NotationKind::UnexpectedToken,
     ),
+    // a brace behind the name of a type, which isn't supported, behind 40 octets
     (
         b"M {2 999} DEFINITIONS ::= BEGIN T ::= B {} END",
         1,
         41,
         NotationKind::Unsupported,
     ),
+    // an import of another name than OPERATION and ERROR, behind 40 octets
     (
         b"M {2 999} DEFINITIONS ::= BEGIN IMPORTS X FROM Y; END",
         1,
         41,
         NotationKind::Unsupported,
     ),
+    // another name that follows ERROR among the imports: x, behind 47 octets
     (
         b"M {2 999} DEFINITIONS ::= BEGIN IMPORTS ERROR, x FROM Y; END",
         1,
         48,
         NotationKind::Unsupported,
     ),
+    // a number where an import should stand, behind 40 octets
     (
         b"M {2 999} DEFINITIONS ::= BEGIN IMPORTS 7 FROM Y; END",
         1,
         41,
         NotationKind::UnexpectedToken,
     ),
+    // no import: the semicolon, behind 40 octets
     (
         b"M {2 999} DEFINITIONS ::= BEGIN IMPORTS ; END",
         1,
         41,
         NotationKind::UnexpectedToken,
     ),
+    // no import: FROM, behind 40 octets
     (
         b"M {2 999} DEFINITIONS ::= BEGIN IMPORTS FROM Y; END",
         1,
         41,
         NotationKind::UnexpectedToken,
     ),
+    // 2^63 as the end of a range, one above the greatest, behind 50 octets
     (
         b"M {2 999} DEFINITIONS ::= BEGIN T ::= INTEGER (0..9223372036854775808) END",
         1,
         51,
         NotationKind::UnexpectedToken,
     ),
+    // a default that is neither TRUE, FALSE, an integer nor a name: NULL, behind 63 octets
     (
         b"M {2 999} DEFINITIONS ::= BEGIN T ::= SEQUENCE {a NULL DEFAULT NULL} END",
         1,
         64,
         NotationKind::UnexpectedToken,
     ),
+    // 33 arcs, one too many: the last of them, behind 67 octets
     (
         b"M {1 2 3 4 5 6 7 8 9 0 1 2 3 4 5 6 7 8 9 0 1 2 3 4 5 6 7 8 9 0 1 2 3}",
         1,
         68,
         NotationKind::UnexpectedToken,
     ),
+    // a second arc without its number: the brace in its place, behind 18 octets
     (
         b"M {iso member-body} DEFINITIONS",
         1,
         19,
         NotationKind::UnexpectedToken,
     ),
+    // a first arc of 3, where 2 is the greatest (X.690 8.19.4), behind 3 octets
     (b"M {3 1}", 1, 4, NotationKind::UnexpectedToken),
+    // a second arc of 40 below 1, where 39 is the greatest (X.690 8.19.4), behind 5 octets
     (b"M {1 40}", 1, 6, NotationKind::UnexpectedToken),
+    // one arc alone, where a second should stand: the brace, behind 4 octets
     (b"M {2}", 1, 5, NotationKind::UnexpectedToken),
+    // 2^32 as an arc, one above the greatest, behind 5 octets
     (b"M {2 4294967296}", 1, 6, NotationKind::UnexpectedToken),
+    // an arc with a leading zero, behind 5 octets
     (b"M {2 01}", 1, 6, NotationKind::UnexpectedToken),
+    // a hyphen at the end of a name, which begins no token, behind one octet
     (b"M- {2 999}", 1, 2, NotationKind::BadCharacter),
+    // behind a comment that its two hyphens end, an octet that begins no token, behind 23 octets
     (
         b"M -- to the next -- {2 $",
         1,
         24,
         NotationKind::BadCharacter,
     ),
+    // behind a comment that its line ends, an octet that begins no token, behind 3 of line 2
     (
         b"M -- to the line's end\n{2 $",
         2,
         4,
         NotationKind::BadCharacter,
     ),
+    // a token behind the module's END, behind 36 octets
     (
         b"M {2 999} DEFINITIONS ::= BEGIN END END",
         1,
         37,
         NotationKind::UnexpectedToken,
     ),
+    // ERRORS behind LINKED, where it may stand in front alone, behind 60 octets
     (
         b"M {2 999} DEFINITIONS ::= BEGIN a OPERATION ::= {LINKED {b} ERRORS {c}} END",
         1,
