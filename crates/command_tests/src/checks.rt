@@ -11,7 +11,9 @@ use osi_commands::osi_run;
 use std::alloc::Global;
 use std::test::Fail;
 
-/// The module with neither operations nor errors, as a table file.
+/// The module with neither operations nor errors, as a table file of version 2: `OTAB`, the
+/// version, the module's name and its object identifier, each behind its length, and three counts
+/// of 0: of types, of errors and of operations.
 const EMPTY_FILE: [u8; 31] = [
     0x4F, 0x54, 0x41, 0x42, 0, 2, 0, 0, 0, 1, 0x45, 0, 0, 0, 4, 0x88, 0x37, 7, 3, 0, 0, 0, 0, 0, 0,
     0, 0, 0, 0, 0, 0,
@@ -54,42 +56,51 @@ const EMPTY: &str = "E {2 999 7 3} DEFINITIONS ::= BEGIN END\n";
 #[test]
 fn checks_modules(rt: HostRuntime) -> Result<(), Fail> {
     let rows: [(&[u8], &[&str], Status, &[u8]); 7] = [
+        // a module with four operations and an error: a line for each, operations first, and their
+        // counts
         (
             CALC_MODULE.as_bytes(),
             &["module"],
             Status::Done,
             CALC_LISTING.as_bytes(),
         ),
+        // a code that two operations have: that of the second, behind 22 octets of line 3
         (
             DOUBLE_CODE.as_bytes(),
             &["module"],
             Status::ModuleRefused,
             b"module refused 3 23 DoubleCode\n",
         ),
+        // a module without assignments: its counts alone
         (
             EMPTY.as_bytes(),
             &["module"],
             Status::Done,
             b"checked 0 operations 0 errors\n",
         ),
+        // the same module, written as a table file
         (
             EMPTY.as_bytes(),
             &["--table", "module"],
             Status::Done,
             &EMPTY_FILE,
         ),
+        // that table file, read: the counts of the module's text
         (
             &EMPTY_FILE,
             &["module"],
             Status::Done,
             b"checked 0 operations 0 errors\n",
         ),
+        // that table file without its last octet: line 0, as of each table file, and the place
+        // behind its 30 octets
         (
             &EMPTY_FILE[..30],
             &["module"],
             Status::ModuleRefused,
             b"module refused 0 30 Missing\n",
         ),
+        // a name that no file has
         (
             &EMPTY_FILE,
             &["gone"],

@@ -34,20 +34,29 @@ A>B 01 05 06 04 88 37 07 01 30 04 06 02 51 01 88 02 06 C0 61 11 30 0F 02 01 01 A
 #[test]
 fn traces_recordings(rt: HostRuntime) -> Result<(), Fail> {
     let rows = [
+        // an invocation with the identifier 1, on context 5: a session unit GIVE TOKENS in front of
+        // its DATA TRANSFER
         (
             "A>B 03 00 00 1F 02 F0 80 01 00 01 00 61 12 30 10 02 01 05 A0 0B A1 09 02 01 01 02 01 01 02 01 05\n",
             "A>B GT+DT 5:invoke 1 add\n",
         ),
+        // a CONNECT with its CP, whose AARQ on context 1 has 10 octets; its packet stands in three
+        // lines
         (CONNECT, "A>B CN CP 1:value 10\n"),
+        // a packet's length of 6, which has no room for a unit of the transport: the place of the
+        // length, behind two octets
         ("A>B 03 00 00 06\n", "A>B fault transport 2 Length\n"),
+        // TYPED DATA with an alteration, AC, which deletes context 5; and with its answer, ACA
         (
             "A>B 03 00 00 10 02 F0 80 21 00 A0 05 A1 03 02 01 05\nA>B 03 00 00 10 02 F0 80 21 00 A1 05 A1 03 02 01 00\n",
             "A>B TD AC\nA>B TD ACA\n",
         ),
+        // RESYNCHRONIZE behind GIVE TOKENS, with the unit RS and its list of two contexts
         (
             "B>A 03 00 00 29 02 F0 80 01 00 35 1E 1B 01 00 2A 01 32 C1 16 30 14 A0 12 30 07 02 01 01 06 02 51 01 30 07 02 01 05 06 02 51 01\n",
             "B>A GT+RS RS\n",
         ),
+        // RESYNCHRONIZE ACK behind GIVE TOKENS, with the unit RSA and the same list
         (
             "A>B 03 00 00 26 02 F0 80 01 00 22 1B 2A 01 32 C1 16 30 14 A0 12 30 07 02 01 01 06 02 51 01 30 07 02 01 05 06 02 51 01\n",
             "A>B GT+RA RSA\n",
