@@ -1,5 +1,7 @@
-//! APDUs of association control (X.227 9) by the octets that are worked out: each is read and
-//! written back, with fields that are passed over left out, and each fault stands where it should.
+//! APDUs of association control: each is read and written back, with fields that are passed over
+//! left out, and each fault stands where it should. Their octets are laid out by X.227 9, in the
+//! basic encoding (X.690 8), and the APDUs of reliable transfer in user information by X.228 9. The
+//! place of a fault is counted in the octets of its row.
 
 use acse::{AcseFault, read_acse, write_acse};
 use osi_base::{Acse, Diagnostic, External, Kind, NoMemory};
@@ -65,6 +67,7 @@ fn are_refused(alloc: Global, rows: &[(&'static str, usize, Kind)]) -> Result<bo
 
 #[test]
 fn associations_are_read_and_written(rt: HostRuntime) -> Result<(), Fail> {
+    // X.227 9: AARQ (the tag 60) and AARE (61), whose result is 0 or 1
     let rows = [
         // request
         "60 08 A1 06 06 04 88 37 05 03",
@@ -79,6 +82,8 @@ fn associations_are_read_and_written(rt: HostRuntime) -> Result<(), Fail> {
 
 #[test]
 fn associations_of_reliable_transfer_are_read_and_written(rt: HostRuntime) -> Result<(), Fail> {
+    // X.227 9: AARQ and AARE, whose user information carries RTORQ (the tag B0), RTOAC (B1) or
+    // RTORJ (B2) of X.228 9
     let rows = [
         // request of reliable transfer
         "60 22 A1 06 06 04 88 37 05 04 BE 18 28 16 02 01 03 A0 11 B0 0F 80 01 01 81 01 02 82 01 01 A3 04 A0 02 05 00",
@@ -97,6 +102,7 @@ fn associations_of_reliable_transfer_are_read_and_written(rt: HostRuntime) -> Re
 
 #[test]
 fn releases_and_aborts_are_read_and_written(rt: HostRuntime) -> Result<(), Fail> {
+    // X.227 9: RLRQ (the tag 62), RLRE (63) and ABRT (64), the last with RTAB (B6) of X.228 9
     let rows = [
         // release
         "62 03 80 01 00",

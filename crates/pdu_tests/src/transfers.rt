@@ -1,6 +1,7 @@
-//! APDUs of reliable transfer (X.228 9) by the octets that are worked out: each is read and written
-//! back, and says its fields. The lengths of a transfer and of its first part are those of a worked
-//! one, whose invocation stores 2,975 octets and whose checkpoint is 1.
+//! APDUs of reliable transfer: each is read and written back, and says its fields. Their octets are
+//! laid out by X.228 9, in the basic encoding (X.690 8). The place of a fault is counted in the
+//! octets of its row. The lengths of a transfer and of its first part are those of a worked one,
+//! whose invocation stores 2,975 octets and whose checkpoint is 1.
 
 use fixed_tables::PduFault;
 use osi_base::{ConnectionData, Kind, NoMemory, Octets, Pdv, PdvContent, Rtse};
@@ -67,6 +68,8 @@ fn are_refused(alloc: Global, rows: &[(&'static str, usize, Kind)]) -> Result<bo
 
 #[test]
 fn openings_are_read_and_written(rt: HostRuntime) -> Result<(), Fail> {
+    // X.228 9: RTORQ (the tag B0), RTOAC (B1), RTORJ (B2), RTAB (B6), RTTP (an INTEGER, 02) and
+    // RTTR (an OCTET STRING, 04)
     let rows = [
         // an opening
         "B0 0F 80 01 01 81 01 02 82 01 01 A3 04 A0 02 05 00",
@@ -89,6 +92,7 @@ fn openings_are_read_and_written(rt: HostRuntime) -> Result<(), Fail> {
 
 #[test]
 fn a_recovery_is_read_and_written(rt: HostRuntime) -> Result<(), Fail> {
+    // X.228 9: RTORQ and RTOAC, with the name of a session connection instead of an opening's data
     let rows = [
         // a recovery
         "B0 22 80 01 01 81 01 02 82 01 01 A3 17 A1 15 04 04 72 65 66 31 17 0D 32 36 30 31 30 31 30 30 30 30 30 30 5A",
@@ -102,7 +106,7 @@ fn a_recovery_is_read_and_written(rt: HostRuntime) -> Result<(), Fail> {
 #[test]
 fn defaults_are_written(rt: HostRuntime) -> Result<(), Fail> {
     let rows = [
-        // X.228 9: an opening without checkpoint, window and mode
+        // an opening without checkpoint, window and mode, whose defaults are those of X.228 9
         (
             "B0 06 A3 04 A0 02 05 00",
             "B0 0F 80 01 00 81 01 03 82 01 00 A3 04 A0 02 05 00",
@@ -214,7 +218,8 @@ fn zeros(alloc: Global, count: usize) -> Result<Octets, NoMemory> {
     Ok(Octets::from_vec(vec![in alloc; 0_u8; count]?))
 }
 
-/// The invocation that stores 2,975 octets, on context 5.
+/// The invocation that stores 2,975 octets (X.882 9), on context 5. A transfer of it is a data
+/// value with its context (X.226 8.4.2).
 fn stored(alloc: Global) -> Result<Pdv, NoMemory> {
     let mut octets = octets_of(alloc, "A1 82 0B A9 02 01 01 02 01 02 04 82 0B 9F")?;
     octets.extend(zeros(alloc, 2_975)?.as_slice())?;
