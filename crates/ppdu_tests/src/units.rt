@@ -1,6 +1,8 @@
-//! Units of the presentation protocol (X.226 8) by the octets that are worked out: each is read and
-//! written back, with fields that are passed over left out, and each fault stands where it should.
-//! The units of dialogues are those of worked dialogues; the others are laid out by hand.
+//! Units of the presentation protocol (X.226 8): each is read and written back, with fields that
+//! are passed over left out, and each fault stands where it should. The units of dialogues are
+//! those of worked dialogues; the others are laid out by hand: the units by X.226 8.2, the data
+//! values in them by X.226 8.4.2, and what these carry by X.227 9, X.228 9 and X.882 9, in the
+//! basic encoding (X.690 8). The place of a fault is counted in the octets of its row.
 
 use osi_base::{Kind, NoMemory};
 use presentation_pdus::{PpduFault, PpduPlace, read_ppdu, write_ppdu};
@@ -78,6 +80,7 @@ fn are_refused(
 
 #[test]
 fn openings_and_refusals_are_read_and_written(rt: HostRuntime) -> Result<(), Fail> {
+    // X.226 8.2: CP and CPA (each a SET, 31) and CPR (a SEQUENCE, 30), with AARQ or AARE of X.227 9
     let rows = [
         // the opening's CP
         (
@@ -113,6 +116,7 @@ fn openings_and_refusals_are_read_and_written(rt: HostRuntime) -> Result<(), Fai
 
 #[test]
 fn openings_of_reliable_transfer_are_read_and_written(rt: HostRuntime) -> Result<(), Fail> {
+    // X.226 8.2: CP, CPA and CPR, with RTORQ, RTOAC or RTORJ of X.228 9 in the AARQ or AARE
     let rows = [
         // an opening of reliable transfer
         (
@@ -146,6 +150,8 @@ fn openings_of_reliable_transfer_are_read_and_written(rt: HostRuntime) -> Result
 
 #[test]
 fn data_are_read_and_written(rt: HostRuntime) -> Result<(), Fail> {
+    // X.226 8.4.2: data values with their contexts (the tag 61), which carry APDUs of X.882 9 (A1,
+    // A2 and A4), an RTTP of X.228 9 (02) and octets of other syntaxes (81, 82)
     let rows = [
         // an invocation
         (
@@ -186,6 +192,7 @@ fn data_are_read_and_written(rt: HostRuntime) -> Result<(), Fail> {
 
 #[test]
 fn alterations_are_read_and_written(rt: HostRuntime) -> Result<(), Fail> {
+    // X.226 8.2: AC (the tag A0) and ACA (A1), in typed data
     let rows = [
         // a deletion
         (PpduPlace::Td, "A0 05 A1 03 02 01 05"),
@@ -217,6 +224,7 @@ fn alterations_are_read_and_written(rt: HostRuntime) -> Result<(), Fail> {
 
 #[test]
 fn restarts_are_read_and_written(rt: HostRuntime) -> Result<(), Fail> {
+    // X.226 8.2: RS and RSA
     let rows = [
         // a restart with its list
         (
@@ -237,6 +245,7 @@ fn restarts_are_read_and_written(rt: HostRuntime) -> Result<(), Fail> {
 
 #[test]
 fn releases_and_aborts_are_read_and_written(rt: HostRuntime) -> Result<(), Fail> {
+    // X.226 8.4.2 with RLRQ and RLRE of X.227 9; X.226 8.2: ARU (the tag A0) with ABRT, ARP (30)
     let rows = [
         // a release
         (PpduPlace::Fn, "61 0C 30 0A 02 01 01 A0 05 62 03 80 01 00"),
