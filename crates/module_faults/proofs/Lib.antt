@@ -2,6 +2,7 @@ pub mod LeastLaws
 pub mod FoundNames
 pub mod SeenLists
 pub mod Recursing
+pub mod Reached
 pub mod Settling
 pub mod OneFault
 pub mod Whole

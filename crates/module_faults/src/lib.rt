@@ -11,6 +11,7 @@ mod locals;
 mod names;
 mod places;
 mod reach_search;
+mod reach_sets;
 mod recursion;
 mod seen_names;
 mod tags;

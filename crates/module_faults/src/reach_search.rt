@@ -176,7 +176,7 @@ impl<'u> Search<'u> {
             return Ok(false);
         };
         let mark = self.mark(place);
-        if let Some(named) = self.uses.at(place).get(mark.next as usize) {
+        if let Some(named) = self.uses.at(place as usize).get(mark.next as usize) {
             let named = *named;
             self.path.push(place)?;
             self.advance(place, named)?;
