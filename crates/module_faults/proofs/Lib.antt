@@ -4,6 +4,7 @@ pub mod SeenLists
 pub mod Recursing
 pub mod Reached
 pub mod Settling
+pub mod AllLearned
 pub mod OneFault
 pub mod Whole
 pub mod Steps

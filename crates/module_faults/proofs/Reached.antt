@@ -2,13 +2,13 @@
 use Rattle.std.proofs.Common.{◌≡◌, ℕ, zero, suc, ◌<◌, ◌≤◌, Bool, true, false, List, [], ◌∷◌, ◌++◌, ◌+◌, length, take, drop, replicate, Option, Some, None, refl, sym, ap, subst, ◌∙◌, arith, inl, inr}
 use Rattle.std.specs.Prelude.{◌⊎◌, ◌||◌, nat_eq, slice_get, slice_set, if◌then◌else◌}
 use Rattle.std.specs.List.{list_any}
-use Rattle.std.proofs.Math.Seq.{take-append_seam}
 use Rattle.std.proofs.lemmas.Bool.{eqb-true, eq-eqb, cases_lt}
 use Rattle.std.proofs.lemmas.Option.{slice_get_within}
 use Rattle.module_faults.specs.declared.reach_search.Standing.{Standing}
 use Rattle.module_faults.specs.Recursion.{list_at, Uses, Reaches, at_once, over}
 use Rattle.module_faults.specs.Standings.{flag, says}
 use Rattle.module_faults.specs.ReachSets.{lacks, is_in, first_out, first_from, IsNext, IsClosed, outs, AreReached, IsReach, IsToldBySet, AreTold}
+use Rattle.module_faults.proofs.Loops.{written_back}
 use Rattle.module_faults.proofs.Recursing.{either, right, place_in, flagged_within, ways}
 
 -- ---- sets
@@ -50,9 +50,7 @@ in_within (x ∷ xs) (suc q) h = let r : q < length xs = in_within xs q h in ome
 
 -- what is put, as a vector has it
 pub put_back : (items written : List Bool) (n to : ℕ) → n ≡ length items → written ≡ slice_set items to true → take n (written ++ drop (length written) items) ≡ slice_set items to true
-put_back items written n to long e =
-    let long_too : n ≡ length written = long ∙ sym (ap length e ∙ put_length items to) in
-    ap (λ (k : ℕ). take k (written ++ drop (length written) items)) long_too ∙ take-append_seam written (drop (length written) items) ∙ e
+put_back items written n to long e = written_back items written n long (ap length e ∙ put_length items to) ∙ e
 
 -- ---- the first that a set lacks
 

@@ -6,6 +6,7 @@ mod facts;
 mod faults;
 mod kind;
 mod laws;
+mod learning;
 mod least;
 mod locals;
 mod names;
