@@ -20,8 +20,12 @@ use std::alloc::Global;
 ///
 /// # Errors
 ///
-/// Where memory is refused, and where there are more than 2^32 assignments, whose places aren't
-/// counted.
+/// Where memory is refused, and where there are 2^32 assignments or more, whose places aren't
+/// counted. No other cause stands in the code: only `place_of`, `double_names` and
+/// `first_recursive` refuse by themselves, and their clauses `refused` say that there are so many
+/// assignments then. What the search for types that reach themselves says is checked, and what
+/// doesn't pass is found another way; that either is so is proved (`told`), and that all types are
+/// learned by it (`learn_all`).
 pub fn least_fault(alloc: Global, assignments: &[Assignment]) -> Result<Option<Found>, NoMemory>
     ensures { IfOk result (λ found. IsLeastFault assignments.now found) }
 {
