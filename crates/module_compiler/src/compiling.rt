@@ -59,9 +59,8 @@ fn tabled_module(alloc: Global, text: &ModuleText) -> Result<Tables, TableFault>
 /// # Errors
 ///
 /// `At` where the module has a fault: the least one by line, column and the order of kinds.
-/// `NoMemory` where an allocation is refused. The code answers so too if the search for types that
-/// reach themselves were to settle one of them wrongly, or if the table were to refuse a row of the
-/// module. No test has seen either; that neither comes isn't proved.
+/// `NoMemory` where an allocation is refused. The code answers so too if the table were to refuse a
+/// row of the module. No test has seen that; that it never comes isn't proved.
 #[tactic(auto, using(crate::proofs::Least::no_fault_of))]
 pub fn compile(alloc: Global, text: &ModuleText) -> Result<Tables, TableFault>
     ensures found { IfOk result (λ tables. AreTablesOf text.now tables) }

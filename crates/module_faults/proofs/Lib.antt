@@ -2,7 +2,9 @@ pub mod LeastLaws
 pub mod FoundNames
 pub mod SeenLists
 pub mod Recursing
+pub mod Reached
 pub mod Settling
+pub mod AllLearned
 pub mod OneFault
 pub mod Whole
 pub mod Steps

@@ -1,5 +1,6 @@
 -- One more of a list, and its end.
 use Rattle.std.proofs.Common.{◌≡◌, ℕ, zero, suc, ◌-◌, ◌<◌, ◌≤◌, List, [], ◌∷◌, ◌++◌, length, take, drop, get_or, Option, refl, sym, ap, ◌∙◌, arith}
+use Rattle.std.proofs.Math.Seq.{take-append_seam}
 use Rattle.module_faults.specs.declared.least.Found.{Found}
 use Rattle.module_faults.specs.Least.{least_from}
 use Rattle.module_faults.proofs.LeastLaws.{least_append, least_none}
@@ -27,3 +28,8 @@ loop_step {X = X} f xs x a b s m w lt is e h i =
 pub loop_end : {X : Type 0} (f : List X → List Found) (xs : List X) (s w : Option Found) → length xs < 1 → f [] ≡ [] → least_from s (f xs) ≡ w → s ≡ w
 loop_end f [] s w lt e i = least_none s ∙ ap (λ (z : List Found). least_from s z) (sym e) ∙ i
 loop_end f (y ∷ ys) s w lt e i = absurd (omega arith)
+
+-- what is written to a vector's elements is what it has then
+pub written_back : {X : Type 0} (items written : List X) (n : ℕ) → n ≡ length items → length written ≡ length items → take n (written ++ drop (length written) items) ≡ written
+written_back items written n long same =
+    ap (λ (k : ℕ). take k (written ++ drop (length written) items)) (long ∙ sym same) ∙ take-append_seam written (drop (length written) items)

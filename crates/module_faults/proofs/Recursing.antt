@@ -8,23 +8,28 @@ use Rattle.operation_notation.specs.declared.module.Assignment.{Assignment}
 use Rattle.module_faults.specs.declared.reach_search.Standing.{Standing}
 use Rattle.module_faults.specs.Recursion.{bodies_uses, list_by, list_at, Uses, Reaches, at_once, over, SaysRecursion}
 use Rattle.module_faults.specs.Standings.{flag, says, falls_to, all_fall, is_lower, leads_to, goes_on, is_earlier, is_place, comes_from, is_shown_by, is_shown_at, is_shown, AreShown}
+use Rattle.module_faults.specs.ReachSets.{AreTold}
 
 -- ---- tests
 
-both : (a b : Bool) → (a && b) ≡ true → (a ≡ true) × (b ≡ true)
+pub both : (a b : Bool) → (a && b) ≡ true → (a ≡ true) × (b ≡ true)
 both true b h = (refl, h)
 both false b h = absurd cc
 
-either : (a b : Bool) → (a || b) ≡ true → (a ≡ true) ⊎ (b ≡ true)
+pub either : (a b : Bool) → (a || b) ≡ true → (a ≡ true) ⊎ (b ≡ true)
 either true b h = inl refl
 either false b h = inr h
+
+pub right : (a b : Bool) → b ≡ true → (a || b) ≡ true
+right true b h = refl
+right false b h = h
 
 implied : (a b : Bool) → (not a || b) ≡ true → a ≡ true → b ≡ true
 implied true b h e = h
 implied false b h e = absurd cc
 
 -- what a list has passes a test that all of it pass
-all_any : (t : ℕ → Bool) (q : ℕ) (us : List ℕ) → list_all t us ≡ true → list_any (nat_eq q) us ≡ true → t q ≡ true
+pub all_any : (t : ℕ → Bool) (q : ℕ) (us : List ℕ) → list_all t us ≡ true → list_any (nat_eq q) us ≡ true → t q ≡ true
 all_any t q [] a u = absurd cc
 all_any t q (x ∷ us) a u =
     let k = both (t x) (list_all t us) a in
@@ -34,15 +39,18 @@ any_at : (us : List ℕ) (i q : ℕ) → slice_get us i ≡ Some q → list_any 
 any_at [] i q e = absurd cc
 any_at (x ∷ us) zero q e = let s : x ≡ q = cc in ap (λ (b : Bool). b || list_any (nat_eq q) us) (eq-eqb q x (sym s))
 any_at (x ∷ us) (suc i) q e = let r = any_at us i q e in right (nat_eq q x) (list_any (nat_eq q) us) r
-  where
-    right : (a b : Bool) → b ≡ true → (a || b) ≡ true
-    right true b h = refl
-    right false b h = h
 
-place_in : (lists : List (List ℕ)) (p q : ℕ) → Uses lists p q → p < length lists
+pub place_in : (lists : List (List ℕ)) (p q : ℕ) → Uses lists p q → p < length lists
 place_in [] p q u = absurd cc
 place_in (l ∷ lists) zero q u = omega arith
 place_in (l ∷ lists) (suc p) q u = let r : p < length lists = place_in lists p q u in omega arith
+
+flagged : (o : Option Standing) → flag o ≡ true → (s : Standing) × (o ≡ Some s) × (s.is_recursive ≡ true)
+flagged None h = absurd cc
+flagged (Some s) h = (s, refl, h)
+
+pub flagged_within : (standings : List Standing) (p : ℕ) → says standings p ≡ true → p < length standings
+flagged_within standings p h = let k = flagged (slice_get standings p) h in slice_get_within standings p k.0 k.1
 
 -- ---- ways
 
@@ -195,10 +203,6 @@ module _ (lists : List (List ℕ)) (standings : List Standing) (shown : AreShown
                 by_use s.before s.root (subst (λ (z : ℕ). (s.before ≡ z) ⊎ Reaches lists z s.before) k.3 (more s.before k.0 k.1 k.2 small)) u
           ]
 
-  flagged : (o : Option Standing) → flag o ≡ true → (s : Standing) × (o ≡ Some s) × (s.is_recursive ≡ true)
-  flagged None h = absurd cc
-  flagged (Some s) h = (s, refl, h)
-
   pub sound : (p : ℕ) → says standings p ≡ true → Reaches lists p p
   sound p h =
       let k = flagged (slice_get standings p) h in
@@ -210,7 +214,16 @@ module _ (lists : List (List ℕ)) (standings : List Standing) (shown : AreShown
       close p root a (inl same) = subst (λ (z : ℕ). Reaches lists p z) (sym same) a
       close p root a (inr b) = ways lists p root p a b
 
-pub says_recursion : (all : List Assignment) (lists : List (List ℕ)) (standings : List Standing) → lists ≡ bodies_uses all all → AreShown lists standings → SaysRecursion all (says standings)
-says_recursion all lists standings e shown =
-    let right : AreShown (bodies_uses all all) standings = subst (λ (z : List (List ℕ)). AreShown z standings) e shown in
-    record { sound = sound (bodies_uses all all) standings right; whole = whole (bodies_uses all all) standings right }
+-- what is checked is told
+pub shown_told : (lists : List (List ℕ)) (standings : List Standing) → AreShown lists standings → AreTold lists standings
+shown_told lists standings shown = record {
+  sound = sound lists standings shown;
+  whole = whole lists standings shown;
+  depth = number lists standings shown;
+  falls = λ from to u n m. (fall lists standings shown from to u).lt n;
+}
+
+pub says_recursion : (all : List Assignment) (lists : List (List ℕ)) (standings : List Standing) → lists ≡ bodies_uses all all → AreTold lists standings → SaysRecursion all (says standings)
+says_recursion all lists standings e told =
+    let right : AreTold (bodies_uses all all) standings = subst (λ (z : List (List ℕ)). AreTold z standings) e told in
+    record { sound = right.sound; whole = right.whole }

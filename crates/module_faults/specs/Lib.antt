@@ -6,6 +6,7 @@ pub mod Met
 pub mod Locals
 pub mod Recursion
 pub mod Standings
+pub mod ReachSets
 pub mod Facts
 pub mod Known
 pub mod Faults

@@ -1,7 +1,7 @@
 //! Faults of what is assigned, and of what is assigned twice.
 #![tactic(auto, using(crate::proofs::LeastLaws::least_append, crate::proofs::LeastLaws::least_two))]
 
-ghost use Rattle.std.specs.Prelude.{◌≡◌, ◌+◌, [], OnOk};
+ghost use Rattle.std.specs.Prelude.{◌≡◌, ◌+◌, ◌≤◌, ◌^◌, [], length, IfErr, OnOk};
 ghost use Rattle.std.specs.Option.{option_copied};
 ghost use Rattle.module_faults.specs.Least.{least_from};
 ghost use Rattle.module_faults.specs.Met.{no_codes};
@@ -162,8 +162,10 @@ fn is_at(place: u32, found: Option<u32>) -> bool
 
 /// Assigned names that are assigned before.
 pub(crate) fn double_names(names: &Names<'_>, least: &mut Least) -> Result<(), NoMemory>
-    ensures { OnOk result (least.new.found ≡ least_from least.old.found
+    ensures found { OnOk result (least.new.found ≡ least_from least.old.found
         (double_names names.now 0 names.now)) }
+    // Only more assignments than places can count are refused.
+    ensures refused { IfErr result (λ _. 2 ^ 32 ≤ length names.now) }
 {
     let mut rest = names.assignments();
     let mut place: u32 = 0;

@@ -7,8 +7,7 @@ ghost use Rattle.module_faults.specs.Faults.{IsLeastFault};
 use crate::assigned::{double_codes, double_names, of_bodies};
 use crate::least::{Found, Least};
 use crate::names::Names;
-use crate::reach_search::surveyed;
-use crate::recursion::are_shown;
+use crate::reach_sets::told;
 use crate::type_faults::{first_recursive, shown_faults};
 use crate::uses::all_uses;
 use operation_notation::Assignment;
@@ -21,8 +20,12 @@ use std::alloc::Global;
 ///
 /// # Errors
 ///
-/// Where memory is refused; and if the search for types that reach themselves were to settle one of
-/// them wrongly, which no test has seen, and of which it isn't proved that it never comes.
+/// Where memory is refused, and where there are 2^32 assignments or more, whose places aren't
+/// counted. No other cause stands in the code: only `place_of`, `double_names` and
+/// `first_recursive` refuse by themselves, and their clauses `refused` say that there are so many
+/// assignments then. What the search for types that reach themselves says is checked, and what
+/// doesn't pass is found another way; that either is so is proved (`told`), and that all types are
+/// learned by it (`learn_all`).
 pub fn least_fault(alloc: Global, assignments: &[Assignment]) -> Result<Option<Found>, NoMemory>
     ensures { IfOk result (λ found. IsLeastFault assignments.now found) }
 {
@@ -33,10 +36,7 @@ pub fn least_fault(alloc: Global, assignments: &[Assignment]) -> Result<Option<F
     double_codes(alloc, false, assignments, &mut least)?;
     double_codes(alloc, true, assignments, &mut least)?;
     let uses = all_uses(alloc, &names)?;
-    let survey = surveyed(alloc, &uses)?;
-    if !are_shown(&uses, &survey.standings) {
-        return Err(NoMemory);
-    }
+    let survey = told(alloc, &uses)?;
     first_recursive(assignments, &survey.standings, &mut least)?;
     shown_faults(alloc, &names, &survey.standings, &survey.order, &mut least)?;
     Ok(least.found)

@@ -1,6 +1,6 @@
 //! What the names of a module stand for.
 
-ghost use Rattle.std.specs.Prelude.{◌≡◌, IfOk, OnOk, Some};
+ghost use Rattle.std.specs.Prelude.{◌≡◌, ◌≤◌, ◌^◌, IfErr, IfOk, OnOk, Some};
 ghost use Rattle.std.specs.Option.{option_copied};
 ghost use Rattle.std.specs.Str.{bytes_eq};
 ghost use Rattle.indexmap.specs.IndexMap.{get_by};
@@ -36,6 +36,17 @@ impl<'m> Model for Names<'m> {
     ghost invariant = { λ s. AreFound s.assignments.now s.places };
 }
 
+/// An index as a place; there are no more places than 32 bits can count.
+pub(crate) fn place_of(index: usize) -> Result<u32, NoMemory>
+    ensures place { IfOk result (λ place. place ≡ index) }
+    ensures refused { IfErr result (λ _. 2 ^ 32 ≤ index) }
+{
+    match u32::try_from(index) {
+        Ok(place) => Ok(place),
+        Err(_) => Err(NoMemory),
+    }
+}
+
 /// Puts the place of a name that has none yet.
 fn add_place<'m>(
     places: &mut IndexMap<&'m str, u32>,
@@ -61,9 +72,7 @@ pub fn name_places(
     let mut places = IndexMap::new(alloc);
     for (place, assignment) in assignments.iter().enumerate() {
         let name = assignment.name.text.as_str();
-        let Ok(number) = u32::try_from(place) else {
-            return Err(NoMemory);
-        };
+        let number = place_of(place)?;
         add_place(&mut places, name, number)?;
     }
     Ok(places)

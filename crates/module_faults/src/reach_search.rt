@@ -1,6 +1,7 @@
 //! A search through the assignments along the names of types, one after the other those that reach
-//! one another. What it finds is checked by `recursion`.
+//! one another. What it finds is checked by `recursion`; where that says no, `reach_sets` goes on.
 
+use crate::names::place_of;
 use crate::uses::UseLists;
 use osi_base::NoMemory;
 use std::alloc::Global;
@@ -176,7 +177,7 @@ impl<'u> Search<'u> {
             return Ok(false);
         };
         let mark = self.mark(place);
-        if let Some(named) = self.uses.at(place).get(mark.next as usize) {
+        if let Some(named) = self.uses.at(place as usize).get(mark.next as usize) {
             let named = *named;
             self.path.push(place)?;
             self.advance(place, named)?;
@@ -201,9 +202,7 @@ pub(crate) fn surveyed(alloc: Global, uses: &UseLists) -> Result<Survey, NoMemor
         order: Vec::new(alloc),
     };
     for place in 0..count {
-        let Ok(place) = u32::try_from(place) else {
-            return Err(NoMemory);
-        };
+        let place = place_of(place)?;
         if search.mark(place).standing.met == 0 {
             search.meet(place, place, 0)?;
             for _ in 0..u64::MAX {

@@ -1,6 +1,6 @@
 //! Which assignments reach themselves by names used as types.
 
-ghost use Rattle.std.specs.Prelude.{◌≡◌, ◌<◌, ℕ, true, length, slice_get, IfOk, IsTrue};
+ghost use Rattle.std.specs.Prelude.{◌≡◌, ◌<◌, ◌^◌, ℕ, true, length, slice_get, IfOk, IsTrue};
 ghost use Rattle.std.specs.Option.{option_copied};
 ghost use Rattle.module_faults.specs.Recursion.{list_at};
 ghost use Rattle.module_faults.specs.Standings.{says, falls_to, all_fall, is_lower, leads_to, goes_on, is_earlier, is_place, comes_from, is_shown_by, is_shown, AreShown};
@@ -61,7 +61,7 @@ fn is_lower(standing: Standing, other: Option<&Standing>) -> bool
 fn goes_on(uses: &UseLists, standings: &[Standing], place: u32, standing: Standing) -> bool
     ensures { result ≡ goes_on uses.now standings.now place standing }
 {
-    match uses.at(place).get(standing.way as usize) {
+    match uses.at(place as usize).get(standing.way as usize) {
         Some(to) => { *to == standing.root || is_lower(standing, standings.get(*to as usize)) }
         None => false,
     }
@@ -98,7 +98,7 @@ fn comes_from(uses: &UseLists, standings: &[Standing], place: u32, standing: Sta
     }
     let names_it = is_place(
         place,
-        uses.at(standing.before).get(standing.branch as usize),
+        uses.at(standing.before as usize).get(standing.branch as usize),
     );
     let before = standings.get(standing.before as usize);
     names_it && (standing.before == standing.root || is_earlier(standing, before))
@@ -108,7 +108,7 @@ fn comes_from(uses: &UseLists, standings: &[Standing], place: u32, standing: Sta
 fn is_shown_by(uses: &UseLists, standings: &[Standing], place: u32, standing: Standing) -> bool
     ensures { result ≡ is_shown_by uses.now standings.now place standing }
 {
-    if !all_fall(standings, standing, uses.at(place)) {
+    if !all_fall(standings, standing, uses.at(place as usize)) {
         return false;
     }
     if !standing.is_recursive {
@@ -129,7 +129,8 @@ fn is_shown(uses: &UseLists, standings: &[Standing], place: u32) -> bool
 
 /// Whether all that is said is so.
 pub(crate) fn are_shown(uses: &UseLists, standings: &[Standing]) -> bool
-    ensures { IsTrue result → AreShown uses.now standings.now }
+    ensures shown { IsTrue result → AreShown uses.now standings.now }
+    ensures whole { AreShown uses.now standings.now → length uses.now < 2 ^ 32 → IsTrue result }
 {
     if standings.len() != uses.len() {
         return false;

@@ -35,10 +35,10 @@ impl UseLists {
     }
 
     /// The places of the types that the assignment at a place names.
-    pub fn at(&self, place: u32) -> &[u32]
+    pub fn at(&self, place: usize) -> &[u32]
         ensures { result.now ≡ list_at self.now place }
     {
-        match self.lists.get(place as usize) {
+        match self.lists.get(place) {
             Some(list) => list.as_slice(),
             None => &[],
         }

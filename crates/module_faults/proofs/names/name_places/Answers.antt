@@ -1,5 +1,3 @@
-use Rattle.std.proofs.Common.{◌≡◌, arith}
-use Rattle.std.proofs.lemmas.Grind.{common_steps}
 use Rattle.module_faults.proofs.FoundNames.{found_none, found_step}
 use Rattle.module_faults.proofs.names.name_places.Goals as goal
 
@@ -8,5 +6,4 @@ loop-place-init c = found_none c.new-places.result c.new-places.ensures.empty
 
 pub loop-place-preserved : goal.loop-place-preserved
 loop-place-preserved c =
-    let same : c.in-Ok.number ≡ c.loop-place.place = grind (arith, common_steps) in
-    found_step c.args.assignments.now c.loop-place.place c.index-assignments-place.result c.loop-place.places c.add_place.new.places c.as_str-name.result.now c.in-Ok.number c.loop-place-test.true c.index-assignments-place.is c.as_str-name.ensures same c.loop-place.invariant c.in_ok-add_place.ensures
+    found_step c.args.assignments.now c.loop-place.place c.index-assignments-place.result c.loop-place.places c.add_place.new.places c.as_str-name.result.now c.in_ok-number.number c.loop-place-test.true c.index-assignments-place.is c.as_str-name.ensures c.in_ok-number.ensures.place c.loop-place.invariant c.in_ok-add_place.ensures
