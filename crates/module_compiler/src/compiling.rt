@@ -60,8 +60,10 @@ fn tabled_module(alloc: Global, text: &ModuleText) -> Result<Tables, TableFault>
 ///
 /// `At` where the module has a fault: the least one by line, column and the order of kinds.
 /// `NoMemory` where an allocation is refused. The code answers so too if the search for types that
-/// reach themselves were to settle one of them wrongly, or if the table were to refuse a row of the
-/// module. No test has seen either; that neither comes isn't proved.
+/// reach themselves were to settle one of them wrongly, or if the table were to refuse a row. No
+/// test has seen either. That the rows of a well-formed module without a fault, as its tables have
+/// them, are each taken by the table is proved (`faultless_rows_are_sound`); that the steps behind
+/// this call halt for no other cause than memory isn't, nor that the search settles each type.
 #[tactic(auto, using(crate::proofs::Least::no_fault_of))]
 pub fn compile(alloc: Global, text: &ModuleText) -> Result<Tables, TableFault>
     ensures found { IfOk result (λ tables. AreTablesOf text.now tables) }
