@@ -4,7 +4,10 @@ pub mod Walks
 pub mod Slots
 pub mod Trails
 pub mod Faultless
+pub mod Tags
 pub mod Rows
+pub mod Parts
+pub mod Suited
 pub mod Walked
 pub mod Tabled
 pub mod Least

@@ -98,7 +98,8 @@ fn comes_from(uses: &UseLists, standings: &[Standing], place: u32, standing: Sta
     }
     let names_it = is_place(
         place,
-        uses.at(standing.before as usize).get(standing.branch as usize),
+        uses.at(standing.before as usize)
+            .get(standing.branch as usize),
     );
     let before = standings.get(standing.before as usize);
     names_it && (standing.before == standing.root || is_earlier(standing, before))

@@ -12,7 +12,7 @@ loop-rest-preserved c =
     let so_far : c.loop-rest.place + length c.loop-rest.rest.now ≡ length c.args.names.now = c.loop-rest.invariant.count in
     record {
       found = loop_step (double_names c.args.names.now c.loop-rest.place) c.loop-rest.rest.now c.assignment-item.result (if_so (not (is_at c.loop-rest.place (find c.args.names.now c.assignment-item.result.name.text))) (at_name c.assignment-item.result.name kinds.DoubleName)) (double_names c.args.names.now (c.loop-rest.place + 1) (rest_of c.loop-rest.rest.now)) c.loop-rest.least.found c.note_if.new.self.found _ c.in-len1-up.len_at_least c.assignment-item.is refl
-      (c.note_if.ensures ∙ ap (λ b. least_from c.loop-rest.least.found (if_so (not b) (at_name c.assignment-item.result.name kinds.DoubleName))) (c.is_at-is_first.ensures ∙ ap (is_at c.loop-rest.place) c.find.ensures)) c.loop-rest.invariant.found;
+          (c.note_if.ensures ∙ ap (λ b. least_from c.loop-rest.least.found (if_so (not b) (at_name c.assignment-item.result.name kinds.DoubleName))) (c.is_at-is_first.ensures ∙ ap (is_at c.loop-rest.place) c.find.ensures)) c.loop-rest.invariant.found;
       count = omega arith;
     }
 

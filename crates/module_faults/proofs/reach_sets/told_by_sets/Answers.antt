@@ -9,8 +9,8 @@ pub loop-place-preserved : goal.loop-place-preserved
 loop-place-preserved c = record {
   count = grind (arith, common_steps);
   told = subst (λ (z : List Standing). (place : ℕ) → place < c.loop-place.place + 1 → IsToldBySet c.args.uses.now z place) (sym c.in_ok-push.ensures.items)
-    (one_told c.args.uses.now c.loop-place.standings.items c.said.result c.in_ok-reached.reached.items c.loop-place.place (sym c.loop-place.invariant.count) c.in_ok-reached.ensures
-    (c.said.ensures ∙ c.is_in.ensures ∙ ap (λ z. is_in z c.loop-place.place) c.deref.ensures.value) c.loop-place.invariant.told);
+      (one_told c.args.uses.now c.loop-place.standings.items c.said.result c.in_ok-reached.reached.items c.loop-place.place (sym c.loop-place.invariant.count) c.in_ok-reached.ensures
+      (c.said.ensures ∙ c.is_in.ensures ∙ ap (λ z. is_in z c.loop-place.place) c.deref.ensures.value) c.loop-place.invariant.told);
 }
 
 pub returns : goal.returns
