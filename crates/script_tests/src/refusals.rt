@@ -312,19 +312,18 @@ const BARE_ALONE: Modes = Modes {
     reliable: false,
 };
 
-#[test]
-fn modes_that_are_not_run(rt: HostRuntime) {
-    check(&rt, rt.alloc(), BARE_ALONE, &NOT_RUN);
+/// Whether a schedule is read where these modes are run.
+fn is_read(rt: &impl Abort, alloc: Global, modes: Modes, text: &str) -> bool {
+    let tables = calc(rt, alloc);
+    let fault = fault_of(alloc, &tables, modes, text);
+    drop(tables);
+    fault == None
 }
 
 /// Bare mode is always run.
 #[test]
-fn bare_mode_is_run(rt: HostRuntime) {
-    let tables = calc(&rt, rt.alloc());
+fn modes_that_are_not_run(rt: HostRuntime) {
+    check(&rt, rt.alloc(), BARE_ALONE, &NOT_RUN);
     let text = "# bare\nmode bare\nA open\n";
-    assert!(rt;
-        fault_of(rt.alloc(), &tables, BARE_ALONE, text) == None,
-        "bare mode"
-    );
-    drop(tables);
+    assert!(rt; is_read(&rt, rt.alloc(), BARE_ALONE, text), "bare mode");
 }
