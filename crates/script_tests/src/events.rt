@@ -33,7 +33,9 @@ fn printed(rt: &impl Abort, alloc: Global, tables: &Tables, events: &[Event]) ->
 }
 
 /// What a row shows, lines of a schedule, and the last of them as it is printed.
-const ROWS: [(&'static str, &'static str, &'static str); 17] = [
+type Row = (&'static str, &'static str, &'static str);
+
+const ROWS: [Row; 17] = [
     ("spaces", "  A   open  ", "A open"),
     (
         "a link",
@@ -98,8 +100,9 @@ fn is_last(
     octets.as_slice() == wanted.as_bytes()
 }
 
-/// Whether a schedule is read whose last event is printed so.
-fn is_printed(rt: &impl Abort, alloc: Global, tables: &Tables, text: &str, wanted: &str) -> bool {
+/// Whether a row's schedule is read, and its last event is printed as the row says.
+fn is_printed(rt: &impl Abort, alloc: Global, tables: &Tables, row: &Row) -> bool {
+    let (_, text, wanted) = row;
     match read_schedule(alloc, all_modes(), tables, text.as_bytes()) {
         Ok(schedule) => is_last(rt, alloc, tables, schedule, wanted),
         Err(_) => false,
@@ -109,11 +112,8 @@ fn is_printed(rt: &impl Abort, alloc: Global, tables: &Tables, text: &str, wante
 #[test]
 fn events_are_read_and_printed_again(rt: HostRuntime) {
     let tables = calc(&rt, rt.alloc());
-    for (shows, text, wanted) in &ROWS {
-        assert!(rt;
-            is_printed(&rt, rt.alloc(), &tables, text, wanted),
-            "{shows}"
-        );
+    for row in &ROWS {
+        assert!(rt; is_printed(&rt, rt.alloc(), &tables, row), "{}", row.0);
     }
     drop(tables);
 }

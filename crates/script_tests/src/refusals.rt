@@ -37,18 +37,21 @@ fn fault_of(alloc: Global, tables: &Tables, modes: Modes, text: &str) -> Option<
     read_schedule(alloc, modes, tables, text.as_bytes()).err()
 }
 
+/// Whether a row's schedule is refused as it says, where these modes are run.
+fn is_refused(alloc: Global, tables: &Tables, modes: Modes, row: &Row) -> bool {
+    let (_, text, line, kind) = row;
+    let fault = ScriptFault::At {
+        line: *line,
+        kind: *kind,
+    };
+    fault_of(alloc, tables, modes, text) == Some(fault)
+}
+
 /// Each of these schedules is refused so, where these modes are run.
 fn check(rt: &impl Abort, alloc: Global, modes: Modes, rows: &[Row]) {
     let tables = calc(rt, alloc);
-    for (shows, text, line, kind) in rows {
-        let fault = ScriptFault::At {
-            line: *line,
-            kind: *kind,
-        };
-        assert!(rt;
-            fault_of(alloc, &tables, modes, text) == Some(fault),
-            "{shows}"
-        );
+    for row in rows {
+        assert!(rt; is_refused(alloc, &tables, modes, row), "{}", row.0);
     }
     drop(tables);
 }
