@@ -1,11 +1,13 @@
 //! Worked rows: what octets are read as in BER and in DER, and what their value is written as.
 
+use crate::tables::{Member, Row, parts, table};
 use ber_codec::{
-    Class, LIMIT, Part, Parts, ReadFault, RowRefusal, TextKind, TypeId, TypeRow, TypeTable,
-    ber_octets, ber_read, ber_read_within, der_read,
+    LIMIT, Read, ReadFault, RowRefusal, TextKind, TypeId, TypeRow, TypeTable, ber_octets, ber_read,
+    ber_read_within, der_read,
 };
-use osi_base::{Kind, Name, NoMemory, Octets};
+use osi_base::{Kind, Octets};
 use std::alloc::Global;
+use std::process::Abort;
 use std::test::*;
 
 /// What octets are read as: how many are read, or why none are.
@@ -45,25 +47,29 @@ const BIT_LISTS: u32 = 11;
 
 const FLAGGED: u32 = 12;
 
-/// A part with a default.
-fn with_default(alloc: Global, name: &str, inner: u32, default: i64) -> Result<Part, NoMemory> {
-    let mut part = part(alloc, name, inner)?;
-    part.default = Some(default);
-    Ok(part)
-}
+/// The rows that the constants name.
+const TABLE: [Row; 13] = [
+    Row::Integer(i64::MIN, i64::MAX),
+    Row::Boolean,
+    Row::Set(&[("a", INTEGER, false, None), ("b", BOOLEAN, false, None)]),
+    Row::BitString,
+    Row::OctetString(262_144),
+    Row::Text(TextKind::Ia5),
+    Row::Any,
+    Row::Sequence(&[("a", INTEGER, false, None), ("b", INTEGER, false, Some(7))]),
+    Row::Tagged(1, true, INTEGER),
+    Row::Sequence(&[("c", NUMBER, false, Some(7))]),
+    Row::Set(&[("d", BOOLEAN, false, Some(1))]),
+    Row::SequenceOf(BITS),
+    Row::Set(&[("a", INTEGER, false, None), ("b", BOOLEAN, true, None)]),
+];
 
-fn part(alloc: Global, name: &str, inner: u32) -> Result<Part, NoMemory> {
-    Ok(Part {
-        name: Name::from_str(alloc, name)?,
-        inner: TypeId(inner),
-        optional: false,
-        default: None,
-    })
-}
+/// Octets of a type: what they are read as in BER and in DER, and how their value is written.
+type Sample = (u32, &'static [u8], Outcome, Outcome, &'static [u8]);
 
-/// Octets of a type: what they are read as in BER and in DER, and how their value is written. Each
-/// follows from the section of X.690 that is named above it, and its place from counting octets.
-const ROWS: [(u32, &'static [u8], Outcome, Outcome, &'static [u8]); 38] = [
+/// Each row follows from the section of X.690 that is named above it, and its place from counting
+/// octets.
+const ROWS: [Sample; 38] = [
     // 8.3.2: a number has no more octets than it needs; 8.1.3.5, 10.1: DER's length neither.
     (
         INTEGER,
@@ -309,185 +315,149 @@ const ROWS: [(u32, &'static [u8], Outcome, Outcome, &'static [u8]); 38] = [
     ),
 ];
 
-/// The parts `a` and another, an INTEGER and a BOOLEAN.
-fn parts(alloc: Global, second: &str) -> Result<Parts, NoMemory> {
-    let mut parts = Parts::new(alloc);
-    parts.push(part(alloc, "a", INTEGER)?)?;
-    parts.push(part(alloc, second, BOOLEAN)?)?;
-    Ok(parts)
-}
-
-/// The rows that the constants name, and SET {a INTEGER, b BOOLEAN} in the third place.
-fn table(alloc: Global) -> Result<TypeTable, RowRefusal> {
-    let mut table = TypeTable::new(alloc);
-    table.add(TypeRow::Integer {
-        low: i64::MIN,
-        high: i64::MAX,
-    })?;
-    table.add(TypeRow::Boolean)?;
-    table.add(TypeRow::Set(parts(alloc, "b")?))?;
-    add_octets(&mut table)?;
-    add_defaults(alloc, &mut table)?;
-    add_nested(alloc, &mut table)?;
-    Ok(table)
-}
-
-/// The rows from BIT STRING on.
-fn add_octets(table: &mut TypeTable) -> Result<(), RowRefusal> {
-    table.add(TypeRow::BitString)?;
-    table.add(TypeRow::OctetString { most: 262_144 })?;
-    table.add(TypeRow::Text(TextKind::Ia5))?;
-    table.add(TypeRow::Any)?;
-    Ok(())
-}
-
-/// SEQUENCE {a INTEGER, b INTEGER DEFAULT 7}, SEQUENCE {c [1] EXPLICIT INTEGER DEFAULT 7} and
-/// SET {d BOOLEAN DEFAULT TRUE}.
-fn add_defaults(alloc: Global, table: &mut TypeTable) -> Result<(), RowRefusal> {
-    let mut counted = Parts::new(alloc);
-    counted.push(part(alloc, "a", INTEGER)?)?;
-    counted.push(with_default(alloc, "b", INTEGER, 7)?)?;
-    table.add(TypeRow::Sequence(counted))?;
-    table.add(TypeRow::Tagged {
-        class: Class::Context,
-        number: 1,
-        explicit: true,
-        inner: TypeId(INTEGER),
-    })?;
-    let mut tagged = Parts::new(alloc);
-    tagged.push(with_default(alloc, "c", NUMBER, 7)?)?;
-    table.add(TypeRow::Sequence(tagged))?;
-    let mut switched = Parts::new(alloc);
-    switched.push(with_default(alloc, "d", BOOLEAN, 1)?)?;
-    table.add(TypeRow::Set(switched))?;
-    Ok(())
-}
-
-/// SEQUENCE OF BIT STRING, and SET {a INTEGER, b BOOLEAN OPTIONAL}.
-fn add_nested(alloc: Global, table: &mut TypeTable) -> Result<(), RowRefusal> {
-    table.add(TypeRow::SequenceOf(TypeId(BITS)))?;
-    let mut flagged = Parts::new(alloc);
-    flagged.push(part(alloc, "a", INTEGER)?)?;
-    let mut flag = part(alloc, "b", BOOLEAN)?;
-    flag.optional = true;
-    flagged.push(flag)?;
-    table.add(TypeRow::Set(flagged))?;
-    Ok(())
-}
-
-/// Whether a reading has this outcome.
-fn is_outcome(read: Result<usize, ReadFault>, outcome: Outcome) -> bool {
+/// The reading that has this outcome: how many octets are read, or why none are.
+fn reading(outcome: Outcome) -> Result<usize, ReadFault> {
     match outcome {
-        Used(used) => read == Ok(used),
-        At(place, kind) => read == Err(ReadFault::NotSpelled { place, kind }),
-        TooLong(place) => read == Err(ReadFault::TooLong { place }),
-        Short => read == Err(ReadFault::Short),
+        Used(used) => Ok(used),
+        At(place, kind) => Err(ReadFault::NotSpelled { place, kind }),
+        TooLong(place) => Err(ReadFault::TooLong { place }),
+        Short => Err(ReadFault::Short),
     }
+}
+
+/// How many octets a value was read from.
+fn octets_of(read: Read) -> usize {
+    let used = read.used;
+    drop(read);
+    used
 }
 
 /// How many octets are read in DER.
-fn der_used(alloc: Global, of: u32, octets: &[u8]) -> Option<Result<usize, ReadFault>> {
-    let table = table(alloc).ok()?;
-    let of = TypeId(of);
-    if !table.has(of) {
-        return None;
-    }
-    Some(der_read(alloc, &table, of, octets).map(|read| read.used))
+fn der_used(
+    rt: &impl Abort,
+    alloc: Global,
+    table: &TypeTable,
+    of: u32,
+    octets: &[u8],
+) -> Result<usize, ReadFault> {
+    assert!(rt; table.has(TypeId(of)));
+    der_read(alloc, table, TypeId(of), octets).map(octets_of)
 }
 
 /// How many octets are read in BER.
-fn ber_used(alloc: Global, of: u32, octets: &[u8]) -> Option<Result<usize, ReadFault>> {
-    let table = table(alloc).ok()?;
-    let of = TypeId(of);
-    if !table.has(of) {
-        return None;
-    }
-    Some(ber_read(alloc, &table, of, octets).map(|read| read.used))
-}
-
-/// How many octets are read in BER within the limit, and what is written of them: nothing after a
-/// fault.
-fn rewritten(alloc: Global, of: u32, octets: &[u8]) -> Option<(Result<usize, ReadFault>, Octets)> {
-    let table = table(alloc).ok()?;
-    let of = TypeId(of);
-    if !table.has(of) {
-        return None;
-    }
-    match ber_read_within(alloc, &table, of, octets, LIMIT) {
-        Ok(read) => {
-            let written = ber_octets(alloc, &table, of, &read.value).ok()?;
-            Some((Ok(read.used), written))
-        }
-        Err(fault) => Some((Err(fault), Octets::new(alloc))),
-    }
-}
-
-/// Whether octets are read so in BER, and what is read is written so.
-fn is_ber(alloc: Global, of: u32, octets: &[u8], outcome: Outcome, written: &[u8]) -> bool {
-    match rewritten(alloc, of, octets) {
-        Some((read, out)) => is_outcome(read, outcome) && out.as_slice() == written,
-        None => false,
-    }
-}
-
-/// Whether octets are read so in DER.
-fn is_der(alloc: Global, of: u32, octets: &[u8], outcome: Outcome) -> bool {
-    match der_used(alloc, of, octets) {
-        Some(read) => is_outcome(read, outcome),
-        None => false,
-    }
-}
-
-#[test]
-fn worked_rows(rt: HostRuntime) {
-    for (of, octets, ber, der, written) in &ROWS {
-        assert!(rt; is_ber(rt.alloc(), *of, octets, *ber, written));
-        assert!(rt; is_der(rt.alloc(), *of, octets, *der));
-    }
-}
-
-/// Whether SEQUENCE {a T DEFAULT d} is refused for its default.
-fn is_bad(alloc: Global, inner: u32, default: i64, optional: bool) -> Result<bool, RowRefusal> {
-    let mut table = table(alloc)?;
-    let mut part = with_default(alloc, "a", inner, default)?;
-    part.optional = optional;
-    let mut parts = Parts::new(alloc);
-    parts.push(part)?;
-    Ok(matches!(
-        table.add(TypeRow::Sequence(parts)),
-        Err(RowRefusal::BadDefault)
-    ))
-}
-
-/// A default is of a BOOLEAN, an INTEGER or an ENUMERATED, and not of an optional part.
-#[test]
-fn defaults_that_fit_their_types(rt: HostRuntime) -> Result<(), Fail> {
-    assert!(rt; !is_bad(rt.alloc(), BOOLEAN, 0, false)?);
-    assert!(rt; is_bad(rt.alloc(), BOOLEAN, 2, false)?);
-    assert!(rt; !is_bad(rt.alloc(), NUMBER, -1, false)?);
-    assert!(rt; is_bad(rt.alloc(), NUMBER, -1, true)?);
-    assert!(rt; is_bad(rt.alloc(), OCTETS, 0, false)?);
-    Ok(())
+fn ber_used(
+    rt: &impl Abort,
+    alloc: Global,
+    table: &TypeTable,
+    of: u32,
+    octets: &[u8],
+) -> Result<usize, ReadFault> {
+    assert!(rt; table.has(TypeId(of)));
+    ber_read(alloc, table, TypeId(of), octets).map(octets_of)
 }
 
 /// How many octets are read in BER within a limit.
 fn used_within(
+    rt: &impl Abort,
     alloc: Global,
+    table: &TypeTable,
     of: u32,
     octets: &[u8],
     most: u32,
-) -> Option<Result<usize, ReadFault>> {
-    let table = table(alloc).ok()?;
-    let of = TypeId(of);
-    if !table.has(of) {
-        return None;
-    }
-    Some(ber_read_within(alloc, &table, of, octets, most).map(|read| read.used))
+) -> Result<usize, ReadFault> {
+    assert!(rt; table.has(TypeId(of)));
+    ber_read_within(alloc, table, TypeId(of), octets, most).map(octets_of)
 }
 
-/// Octets of a type within a limit: too long are they once one lies past it, or a complete length
-/// announces that one does.
-const LIMITED: [(u32, &'static [u8], u32, Outcome); 10] = [
+/// Whether what was read is written as these octets.
+fn is_written(
+    rt: &impl Abort,
+    alloc: Global,
+    table: &TypeTable,
+    of: u32,
+    read: Read,
+    written: &[u8],
+) -> bool {
+    let octets = ber_octets(alloc, table, TypeId(of), &read.value).expect(rt, "memory");
+    drop(read);
+    octets.as_slice() == written
+}
+
+/// Whether what is read of octets in BER within the limit is written as these: as none after a
+/// fault.
+fn is_rewritten(
+    rt: &impl Abort,
+    alloc: Global,
+    table: &TypeTable,
+    of: u32,
+    octets: &[u8],
+    written: &[u8],
+) -> bool {
+    assert!(rt; table.has(TypeId(of)));
+    match ber_read_within(alloc, table, TypeId(of), octets, LIMIT) {
+        Ok(read) => is_written(rt, alloc, table, of, read, written),
+        Err(_) => written.is_empty(),
+    }
+}
+
+/// Whether a row's octets are read in BER and in DER as it says, and its value is written so.
+fn is_so(rt: &impl Abort, alloc: Global, table: &TypeTable, row: &Sample) -> bool {
+    let (of, octets, ber, der, written) = row;
+    used_within(rt, alloc, table, *of, octets, LIMIT) == reading(*ber)
+        && der_used(rt, alloc, table, *of, octets) == reading(*der)
+        && is_rewritten(rt, alloc, table, *of, octets, written)
+}
+
+#[test]
+fn worked_rows(rt: HostRuntime) {
+    let table = table(&rt, rt.alloc(), &TABLE);
+    for row in &ROWS {
+        assert!(rt; is_so(&rt, rt.alloc(), &table, row));
+    }
+}
+
+/// What is told when a SEQUENCE of these parts is added to the table.
+fn refusal_of(rt: &impl Abort, alloc: Global, members: &[Member]) -> Option<RowRefusal> {
+    let mut table = table(rt, alloc, &TABLE);
+    let added = table.add(TypeRow::Sequence(parts(rt, alloc, members)));
+    added.err()
+}
+
+/// Parts, and why a SEQUENCE of them is no row, if it is none: a default is of a BOOLEAN, an
+/// INTEGER or an ENUMERATED, and not of an optional part, and no two parts have one name.
+const REFUSED: [(&'static [Member], Option<RowRefusal>); 6] = [
+    (&[("a", BOOLEAN, false, Some(0))], None),
+    (
+        &[("a", BOOLEAN, false, Some(2))],
+        Some(RowRefusal::BadDefault),
+    ),
+    (&[("a", NUMBER, false, Some(-1))], None),
+    (
+        &[("a", NUMBER, true, Some(-1))],
+        Some(RowRefusal::BadDefault),
+    ),
+    (
+        &[("a", OCTETS, false, Some(0))],
+        Some(RowRefusal::BadDefault),
+    ),
+    (
+        &[("a", INTEGER, false, None), ("a", BOOLEAN, false, None)],
+        Some(RowRefusal::DoubleName),
+    ),
+];
+
+#[test]
+fn rows_are_refused(rt: HostRuntime) {
+    for (members, refusal) in &REFUSED {
+        assert!(rt; refusal_of(&rt, rt.alloc(), members) == *refusal);
+    }
+}
+
+/// Octets of a type within a limit, and what they are read as.
+type Limited = (u32, &'static [u8], u32, Outcome);
+
+/// Too long are octets once one lies past the limit, or a complete length announces that one does.
+const LIMITED: [Limited; 10] = [
     (OCTETS, &[0x24, 0x80, 4, 1, 7], 5, Short),
     (OCTETS, &[0x24, 0x80, 4, 1, 7, 0], 5, TooLong(5)),
     (OCTETS, &[0x24, 0x80, 4, 1, 7, 0], 6, Short),
@@ -500,46 +470,50 @@ const LIMITED: [(u32, &'static [u8], u32, Outcome); 10] = [
     (SET, &[0x31, 1, 1], 3, TooLong(3)),
 ];
 
+/// Whether octets are read so within a limit.
+fn is_within(rt: &impl Abort, alloc: Global, table: &TypeTable, row: &Limited) -> bool {
+    let (of, octets, most, outcome) = row;
+    used_within(rt, alloc, table, *of, octets, *most) == reading(*outcome)
+}
+
 #[test]
 fn octets_within_a_limit(rt: HostRuntime) {
-    for (of, octets, most, outcome) in &LIMITED {
-        match used_within(rt.alloc(), *of, octets, *most) {
-            Some(read) => assert!(rt; is_outcome(read, *outcome)),
-            None => assert!(rt; false),
-        }
+    let table = table(&rt, rt.alloc(), &TABLE);
+    for row in &LIMITED {
+        assert!(rt; is_within(&rt, rt.alloc(), &table, row));
     }
 }
 
-/// A SEQUENCE whose second part has the first one's name is no row.
-#[test]
-fn two_parts_of_one_name(rt: HostRuntime) -> Result<(), Fail> {
-    let mut table = table(rt.alloc())?;
-    let added = table.add(TypeRow::Sequence(parts(rt.alloc(), "a")?));
-    assert!(rt; matches!(added, Err(RowRefusal::DoubleName)));
-    Ok(())
+/// Whether octets of a type are refused for their 33rd level.
+fn is_too_deep(rt: &impl Abort, alloc: Global, table: &TypeTable, of: u32, octets: &[u8]) -> bool {
+    ber_used(rt, alloc, table, of, octets) == Err(ReadFault::TooDeep { place: 64 })
 }
 
 #[test]
-fn too_many_levels_of_a_string(rt: HostRuntime) -> Result<(), Fail> {
-    let deep = [0x24, 0x80].repeat(rt.alloc(), 40)?;
-    let used = ber_used(rt.alloc(), OCTETS, deep.as_slice());
-    assert!(rt; used == Some(Err(ReadFault::TooDeep { place: 64 })));
-    Ok(())
+fn too_many_levels_of_a_string(rt: HostRuntime) {
+    let table = table(&rt, rt.alloc(), &TABLE);
+    let deep = [0x24, 0x80].repeat(rt.alloc(), 40).expect(&rt, "memory");
+    assert!(rt; is_too_deep(&rt, rt.alloc(), &table, OCTETS, deep.as_slice()));
 }
 
 #[test]
-fn too_many_levels_of_any_value(rt: HostRuntime) -> Result<(), Fail> {
-    let deep = [0x30, 0x80].repeat(rt.alloc(), 40)?;
-    let used = ber_used(rt.alloc(), ANY, deep.as_slice());
-    assert!(rt; used == Some(Err(ReadFault::TooDeep { place: 64 })));
-    Ok(())
+fn too_many_levels_of_any_value(rt: HostRuntime) {
+    let table = table(&rt, rt.alloc(), &TABLE);
+    let deep = [0x30, 0x80].repeat(rt.alloc(), 40).expect(&rt, "memory");
+    assert!(rt; is_too_deep(&rt, rt.alloc(), &table, ANY, deep.as_slice()));
 }
 
 /// The octets of the longest value.
+fn longest(rt: &impl Abort, alloc: Global) -> Octets {
+    let zeros = vec![in alloc; 0; 262_139].expect(rt, "memory");
+    let mut long = Octets::from_slice(alloc, &[4, 0x83, 3, 0xFF, 0xFB]).expect(rt, "memory");
+    long.extend(zeros.as_slice()).expect(rt, "memory");
+    long
+}
+
 #[test]
-fn the_longest_value(rt: HostRuntime) -> Result<(), Fail> {
-    let mut long = Octets::from_slice(rt.alloc(), &[4, 0x83, 3, 0xFF, 0xFB])?;
-    long.extend(vec![in rt.alloc(); 0; 262_139]?.as_slice())?;
-    assert!(rt; ber_used(rt.alloc(), OCTETS, long.as_slice()) == Some(Ok(262_144)));
-    Ok(())
+fn the_longest_value(rt: HostRuntime) {
+    let table = table(&rt, rt.alloc(), &TABLE);
+    let long = longest(&rt, rt.alloc());
+    assert!(rt; ber_used(&rt, rt.alloc(), &table, OCTETS, long.as_slice()) == Ok(262_144));
 }

@@ -1,27 +1,26 @@
 //! Values written into a room, and octet for octet as the standard spells them.
 
-use ber_codec::{Node, TypeId, TypeRow, TypeTable, Val, ber_len, ber_octets, ber_write};
+use crate::tables::{Row, table};
+use ber_codec::{Node, TypeId, Val, ber_len, ber_octets, ber_write};
 use osi_base::Octets;
 use std::test::*;
 
 /// The BIT STRING '0101'B, written before two octets that stay.
 #[test]
-fn writes_into_the_front_of_a_room(rt: HostRuntime) -> Result<(), Fail> {
-    let alloc = rt.alloc();
-    let mut table = TypeTable::new(alloc);
-    let of = table.add(TypeRow::BitString)?;
+fn writes_into_the_front_of_a_room(rt: HostRuntime) {
+    let table = table(&rt, rt.alloc(), &[Row::BitString]);
+    let of = TypeId(0);
     let value = Val {
         node: Node::Bits {
-            octets: Octets::from_slice(alloc, &[0x50])?,
+            octets: Octets::from_slice(rt.alloc(), &[0x50]).expect(&rt, "memory"),
             unused: 4,
         },
     };
     let mut room = [0xAA; 6];
-    assert_eq!(rt; ber_len(&table, of, &value), 4);
-    let used = ber_write(&table, of, &value, &mut room);
-    assert_eq!(rt; used, 4);
-    assert_eq!(rt; room, [0x03, 0x02, 0x04, 0x50, 0xAA, 0xAA]);
-    let octets = ber_octets(alloc, &table, of, &value)?;
-    assert_eq!(rt; octets.as_slice(), [0x03, 0x02, 0x04, 0x50].as_slice());
-    Ok(())
+    assert!(rt; ber_len(&table, of, &value) == 4);
+    assert!(rt; ber_write(&table, of, &value, &mut room) == 4);
+    assert!(rt; room == [0x03, 0x02, 0x04, 0x50, 0xAA, 0xAA]);
+    let octets = ber_octets(rt.alloc(), &table, of, &value).expect(&rt, "memory");
+    assert!(rt; octets.as_slice() == [0x03, 0x02, 0x04, 0x50].as_slice());
+    drop(value);
 }

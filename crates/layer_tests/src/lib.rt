@@ -17,3 +17,5 @@ mod packets;
 mod session_units;
 #[cfg(test)]
 mod sets_of;
+#[cfg(test)]
+mod tables;

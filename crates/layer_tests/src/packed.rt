@@ -1,10 +1,9 @@
 //! Spellings that are laid out by the rules of the packed syntax, field by field: each is read
 //! whole and written back, or its first fault is told.
 
-use asn1_types::{
-    Class, Item, Named, Part, Parts, RowRefusal, TextKind, TypeId, TypeRow, TypeTable,
-};
-use osi_base::{Kind, Name};
+use crate::tables::{Row, table};
+use asn1_types::{TextKind, TypeId, TypeTable, Val};
+use osi_base::Kind;
 use packed_codec::{PackedFault, Read, packed_len, packed_read, packed_read_within, packed_write};
 use std::alloc::Global;
 use std::process::Abort;
@@ -58,118 +57,45 @@ const COUNTED: u32 = 17;
 
 const SWITCHED: u32 = 18;
 
-fn part(alloc: Global, name: &str, inner: u32, optional: bool) -> Result<Part, RowRefusal> {
-    Ok(Part {
-        name: Name::from_str(alloc, name)?,
-        inner: TypeId(inner),
-        optional,
-        default: None,
-    })
-}
-
-/// A table with a row for each constant above.
-fn table_of(alloc: Global) -> Result<TypeTable, RowRefusal> {
-    let mut table = TypeTable::new(alloc);
-    add_plain(&mut table)?;
-    add_listed(alloc, &mut table)?;
-    add_made(alloc, &mut table)?;
-    add_apdu(alloc, &mut table)?;
-    add_defaults(alloc, &mut table)?;
-    Ok(table)
-}
-
-/// The rows that name nothing.
-fn add_plain(table: &mut TypeTable) -> Result<(), RowRefusal> {
-    table.add(TypeRow::Boolean)?;
-    table.add(TypeRow::Integer {
-        low: -129,
-        high: 300,
-    })?;
-    table.add(TypeRow::Null)?;
-    table.add(TypeRow::BitString)?;
-    table.add(TypeRow::OctetString { most: 2 })?;
-    table.add(TypeRow::Text(TextKind::Numeric))?;
-    table.add(TypeRow::ObjectId)?;
-    Ok(())
-}
-
-/// An ENUMERATED, a SEQUENCE OF and a CHOICE.
-fn add_listed(alloc: Global, table: &mut TypeTable) -> Result<(), RowRefusal> {
-    let mut colours = Named::new(alloc);
-    colours.push(Item {
-        name: Name::from_str(alloc, "red")?,
-        number: 3,
-    })?;
-    table.add(TypeRow::Enumerated(colours))?;
-    table.add(TypeRow::SequenceOf(TypeId(BOOLEAN)))?;
-    let flag = part(alloc, "flag", BOOLEAN, false)?;
-    let none = part(alloc, "none", NULL, false)?;
-    table.add(TypeRow::Choice(two(alloc, flag, none)?))?;
-    Ok(())
-}
-
-/// A SEQUENCE, a tagged INTEGER, lists of lists, and a SET.
-fn add_made(alloc: Global, table: &mut TypeTable) -> Result<(), RowRefusal> {
-    let number = part(alloc, "number", INTEGER, true)?;
-    let flags = part(alloc, "flags", FLAGS, false)?;
-    let mut parts = two(alloc, number, flags)?;
-    parts.push(part(alloc, "flag", BOOLEAN, true)?)?;
-    table.add(TypeRow::Sequence(parts))?;
-    table.add(TypeRow::Tagged {
-        class: Class::Context,
-        number: 5,
-        explicit: true,
-        inner: TypeId(INTEGER),
-    })?;
-    table.add(TypeRow::SequenceOf(TypeId(FLAGS)))?;
-    let a = part(alloc, "a", INTEGER, false)?;
-    let b = part(alloc, "b", BOOLEAN, false)?;
-    table.add(TypeRow::Set(two(alloc, a, b)?))?;
-    Ok(())
-}
-
-/// An APDU whose invocations have a number as their argument, as far as it is a value: its kind is
-/// an alternative's place.
-fn add_apdu(alloc: Global, table: &mut TypeTable) -> Result<(), RowRefusal> {
-    let local = part(alloc, "local", INTEGER, false)?;
-    let global = part(alloc, "global", OBJECT_ID, false)?;
-    table.add(TypeRow::Choice(two(alloc, local, global)?))?;
-    table.add(TypeRow::Sequence(invocation(alloc)?))?;
-    let none = part(alloc, "none", NULL, false)?;
-    let invocation = part(alloc, "invocation", INVOKE, false)?;
-    table.add(TypeRow::Choice(two(alloc, none, invocation)?))?;
-    Ok(())
-}
-
-/// SEQUENCE {a INTEGER, b INTEGER DEFAULT 7} and SET {c BOOLEAN DEFAULT TRUE}.
-fn add_defaults(alloc: Global, table: &mut TypeTable) -> Result<(), RowRefusal> {
-    let a = part(alloc, "a", INTEGER, false)?;
-    let mut b = part(alloc, "b", INTEGER, false)?;
-    b.default = Some(7);
-    table.add(TypeRow::Sequence(two(alloc, a, b)?))?;
-    let mut c = part(alloc, "c", BOOLEAN, false)?;
-    c.default = Some(1);
-    let mut parts = Parts::new(alloc);
-    parts.push(c)?;
-    table.add(TypeRow::Set(parts))?;
-    Ok(())
-}
-
-fn invocation(alloc: Global) -> Result<Parts, RowRefusal> {
-    let invoke = part(alloc, "invoke", INTEGER, false)?;
-    let linked = part(alloc, "linked", TAGGED, true)?;
-    let mut parts = two(alloc, invoke, linked)?;
-    parts.push(part(alloc, "code", CODE, false)?)?;
-    parts.push(part(alloc, "argument", INTEGER, true)?)?;
-    Ok(parts)
-}
-
-fn two(alloc: Global, first: Part, second: Part) -> Result<Parts, RowRefusal> {
-    let mut parts = Parts::new(alloc);
-    parts.push(first)?;
-    parts.push(second)?;
-    Ok(parts)
-}
+/// A row for each constant above. The last types have defaults; those before are of an APDU whose
+/// invocations have a number as their argument, as far as it is a value: its kind is an
+/// alternative's place.
+const TABLE: [Row; 19] = [
+    Row::Boolean,
+    Row::Integer(-129, 300),
+    Row::Null,
+    Row::BitString,
+    Row::OctetString(2),
+    Row::Text(TextKind::Numeric),
+    Row::ObjectId,
+    Row::Enumerated("red", 3),
+    Row::SequenceOf(BOOLEAN),
+    Row::Choice(&[("flag", BOOLEAN, false, None), ("none", NULL, false, None)]),
+    Row::Sequence(&[
+        ("number", INTEGER, true, None),
+        ("flags", FLAGS, false, None),
+        ("flag", BOOLEAN, true, None),
+    ]),
+    Row::Tagged(5, true, INTEGER),
+    Row::SequenceOf(FLAGS),
+    Row::Set(&[("a", INTEGER, false, None), ("b", BOOLEAN, false, None)]),
+    Row::Choice(&[
+        ("local", INTEGER, false, None),
+        ("global", OBJECT_ID, false, None),
+    ]),
+    Row::Sequence(&[
+        ("invoke", INTEGER, false, None),
+        ("linked", TAGGED, true, None),
+        ("code", CODE, false, None),
+        ("argument", INTEGER, true, None),
+    ]),
+    Row::Choice(&[
+        ("none", NULL, false, None),
+        ("invocation", INVOKE, false, None),
+    ]),
+    Row::Sequence(&[("a", INTEGER, false, None), ("b", INTEGER, false, Some(7))]),
+    Row::Set(&[("c", BOOLEAN, false, Some(1))]),
+];
 
 /// Octets of a type and what they are read as. The syntax is the project's own: a number is its
 /// size in one octet and two's complement of that size, a string or list its count in four octets,
@@ -270,48 +196,79 @@ fn is_fault(fault: PackedFault, outcome: &Outcome) -> bool {
     }
 }
 
-/// A value that was read is written back as the same octets.
-fn check_whole(rt: &impl Abort, table: &TypeTable, of: TypeId, octets: &[u8], read: &Read) {
-    assert!(rt; read.used == octets.len());
-    let size = packed_len(table, of, &read.value);
-    assert!(rt; size == octets.len() as u64);
+/// Whether a value is written as these octets.
+fn is_written(rt: &impl Abort, table: &TypeTable, of: TypeId, value: &Val, octets: &[u8]) -> bool {
+    let size = packed_len(table, of, value);
     assert!(rt; size <= 16);
     let mut room = [0xEE; 16];
-    let behind = packed_write(table, of, &read.value, &mut room);
-    assert!(rt; behind == octets.len());
-    assert!(rt; &room[..octets.len()] == octets);
+    let behind = packed_write(table, of, value, &mut room);
+    assert!(rt; behind <= 16);
+    size == octets.len() as u64 && &room[..behind] == octets
 }
 
-#[test]
-fn worked_rows(rt: HostRuntime) -> Result<(), Fail> {
-    let table = table_of(rt.alloc())?;
-    for (of, octets, outcome) in &ROWS {
-        let of = TypeId(*of);
-        assert!(rt; table.has(of));
-        match packed_read(rt.alloc(), &table, of, octets) {
-            Ok(read) => {
-                assert!(rt; matches!(outcome, Whole));
-                check_whole(&rt, &table, of, octets, &read);
-            }
-            Err(fault) => assert!(rt; is_fault(fault, outcome)),
-        }
-    }
-    Ok(())
+/// Whether octets were read as a whole value, which is written back as they are.
+fn is_whole(rt: &impl Abort, table: &TypeTable, of: TypeId, octets: &[u8], read: Read) -> bool {
+    let whole = read.used == octets.len() && is_written(rt, table, of, &read.value, octets);
+    drop(read);
+    whole
 }
 
-#[test]
-fn a_lower_limit(rt: HostRuntime) -> Result<(), Fail> {
-    let table = table_of(rt.alloc())?;
-    let of = TypeId(FLAGS);
+/// Whether octets are read so; a whole value is written back.
+fn is_read(
+    rt: &impl Abort,
+    alloc: Global,
+    table: &TypeTable,
+    of: TypeId,
+    octets: &[u8],
+    outcome: &Outcome,
+) -> bool {
     assert!(rt; table.has(of));
-    let flags = [0x00, 0x00, 0x00, 0x02, 0x00, 0x01];
-    let whole = packed_read_within(rt.alloc(), &table, of, &flags, 6)?;
-    assert!(rt; whole.used == 6);
-    let fault = packed_read_within(rt.alloc(), &table, of, &flags, 5);
-    assert!(rt; matches!(&fault, Err(PackedFault::TooLong { place: 5 })));
-    let fault = packed_read_within(rt.alloc(), &table, TypeId(INTEGER), &[0x09], 5);
-    assert!(rt; matches!(&fault, Err(PackedFault::NotSpelled { place: 0, .. })));
-    let fault = packed_read_within(rt.alloc(), &table, TypeId(INTEGER), &[0x08], 5);
-    assert!(rt; matches!(&fault, Err(PackedFault::TooLong { place: 0 })));
-    Ok(())
+    match packed_read(alloc, table, of, octets) {
+        Ok(read) => is_whole(rt, table, of, octets, read) && matches!(outcome, Whole),
+        Err(fault) => is_fault(fault, outcome),
+    }
+}
+
+#[test]
+fn worked_rows(rt: HostRuntime) {
+    let table = table(&rt, rt.alloc(), &TABLE);
+    for (of, octets, outcome) in &ROWS {
+        assert!(rt; is_read(&rt, rt.alloc(), &table, TypeId(*of), octets, outcome));
+    }
+}
+
+/// How many octets a value was read from.
+fn octets_of(read: Read) -> usize {
+    let used = read.used;
+    drop(read);
+    used
+}
+
+/// Octets of a type, and what they are read as within a limit.
+type Limited = (u32, &'static [u8], u32, Outcome);
+
+/// A lower limit.
+const LIMITED: [Limited; 4] = [
+    (FLAGS, &[0x00, 0x00, 0x00, 0x02, 0x00, 0x01], 6, Whole),
+    (FLAGS, &[0x00, 0x00, 0x00, 0x02, 0x00, 0x01], 5, TooLong(5)),
+    (INTEGER, &[0x09], 5, Content(0)),
+    (INTEGER, &[0x08], 5, TooLong(0)),
+];
+
+/// Whether a row's octets are read as it says within its limit.
+fn is_read_within(rt: &impl Abort, alloc: Global, table: &TypeTable, row: &Limited) -> bool {
+    let (of, octets, most, outcome) = row;
+    assert!(rt; table.has(TypeId(*of)));
+    match packed_read_within(alloc, table, TypeId(*of), octets, *most).map(octets_of) {
+        Ok(used) => matches!(outcome, Whole) && used == octets.len(),
+        Err(fault) => is_fault(fault, outcome),
+    }
+}
+
+#[test]
+fn a_lower_limit(rt: HostRuntime) {
+    let table = table(&rt, rt.alloc(), &TABLE);
+    for row in &LIMITED {
+        assert!(rt; is_read_within(&rt, rt.alloc(), &table, row));
+    }
 }

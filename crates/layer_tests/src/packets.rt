@@ -1,8 +1,9 @@
 //! Octets of worked dialogues: an invocation, openings, marks, a release; and headers that are
 //! faulty and packets as large as may be, laid out by RFC 1006 6 and X.224 13.
 
-use osi_base::{Kind, NoMemory, Octets};
+use osi_base::{Kind, Octets};
 use std::alloc::Global;
+use std::process::Abort;
 use std::test::*;
 use tpkt::{
     ConnectionFields, Packet, TFault, TFed, TReader, write_confirm, write_connect,
@@ -137,35 +138,40 @@ const FAULTY: [(&'static [u8], u64, Kind); 9] = [
     ),
 ];
 
-/// The octets of the one TSDU of a feed without a fault.
-fn tsdu_of(fed: &TFed) -> Option<&[u8]> {
-    if fed.packets.len() != 1 || fed.fault.is_some() {
-        return None;
-    }
-    match fed.packets.get(0) {
-        Some(Packet::Tsdu(octets)) => Some(octets.as_slice()),
-        _ => None,
-    }
+/// What a feed gives.
+fn feed(rt: &impl Abort, reader: &mut TReader, octets: &[u8]) -> TFed {
+    reader.feed(octets).expect(rt, "memory")
 }
 
-/// Whether a feed gave nothing at all.
-fn is_quiet(fed: &TFed) -> bool {
+/// Whether a feed gives nothing at all.
+fn gives_nothing(rt: &impl Abort, reader: &mut TReader, octets: &[u8]) -> bool {
+    let fed = feed(rt, reader, octets);
     fed.packets.len() == 0 && fed.fault.is_none()
 }
 
-/// The place and the kind of the fault of a stream, where no packet came before.
-fn fault_of(alloc: Global, stream: &[u8]) -> Option<(u64, Kind)> {
-    let mut reader = TReader::new(alloc);
-    let Ok(fed) = reader.feed(stream) else {
-        return None;
-    };
+/// Whether a feed gave this TSDU alone.
+fn is_tsdu(fed: &TFed, tsdu: &[u8]) -> bool {
+    if fed.packets.len() != 1 || fed.fault.is_some() {
+        return false;
+    }
+    match fed.packets.get(0) {
+        Some(Packet::Tsdu(octets)) => octets.as_slice() == tsdu,
+        _ => false,
+    }
+}
+
+/// Whether a feed gives this TSDU alone.
+fn gives(rt: &impl Abort, reader: &mut TReader, octets: &[u8], tsdu: &[u8]) -> bool {
+    is_tsdu(&feed(rt, reader, octets), tsdu)
+}
+
+/// The fault of a stream, where no packet came before.
+fn fault_of(rt: &impl Abort, alloc: Global, stream: &[u8]) -> Option<TFault> {
+    let fed = feed(rt, &mut TReader::new(alloc), stream);
     if fed.packets.len() != 0 {
         return None;
     }
-    match fed.fault {
-        Some(fault) => Some((fault.place, fault.kind)),
-        None => None,
-    }
+    fed.fault
 }
 
 /// Whether these are the fields.
@@ -177,50 +183,50 @@ fn are_ends(ends: &ConnectionFields, destination: u16, source: u16, selector: &[
         && ends.called.as_slice() == selector
 }
 
-/// Whether octets are read as one TSDU, which is written as the same octets.
-fn is_part(alloc: Global, octets: &[u8]) -> Result<bool, Fail> {
-    let mut reader = TReader::new(alloc);
-    let fed = reader.feed(octets)?;
-    let Some(tsdu) = tsdu_of(&fed) else {
-        return Ok(false);
-    };
-    Ok(write_tsdu(alloc, tsdu, 1024)?.as_slice() == octets)
+/// Whether a TSDU is written as this packet.
+fn is_written(rt: &impl Abort, alloc: Global, tsdu: &[u8], packet: &[u8]) -> bool {
+    write_tsdu(alloc, tsdu, 1024)
+        .expect(rt, "memory")
+        .as_slice()
+        == packet
+}
+
+/// Whether a packet is read as one TSDU, which is written as the same packet.
+fn is_part(rt: &impl Abort, alloc: Global, packet: &[u8]) -> bool {
+    if packet.len() < 7 {
+        return false;
+    }
+    let tsdu = &packet[7..];
+    gives(rt, &mut TReader::new(alloc), packet, tsdu) && is_written(rt, alloc, tsdu, packet)
 }
 
 /// Whether the first of two pieces of the invocation gives nothing, and the second gives it.
-fn is_joined(alloc: Global, first: &[u8], second: &[u8]) -> Option<bool> {
+fn is_joined(rt: &impl Abort, alloc: Global, first: &[u8], second: &[u8]) -> bool {
     let mut reader = TReader::new(alloc);
-    let quiet = is_quiet(&reader.feed(first).ok()?);
-    let fed = reader.feed(second).ok()?;
-    Some(quiet && tsdu_of(&fed) == Some(&INVOCATION[7..]))
+    gives_nothing(rt, &mut reader, first) && gives(rt, &mut reader, second, &INVOCATION[7..])
 }
 
 #[test]
 fn cut_at_each_place(rt: HostRuntime) {
     for i in 0..INVOCATION.len() {
-        assert!(rt; is_joined(rt.alloc(), &INVOCATION[..i], &INVOCATION[i..]) == Some(true));
+        assert!(rt; is_joined(&rt, rt.alloc(), &INVOCATION[..i], &INVOCATION[i..]));
     }
 }
 
 #[test]
 fn cut_into_single_octets(rt: HostRuntime) {
     let mut reader = TReader::new(rt.alloc());
-    for (i, octet) in INVOCATION.iter().enumerate() {
-        let fed = reader.feed(&[*octet]).ok();
-        if i < 30 {
-            assert!(rt; matches!(&fed, Some(fed) if is_quiet(fed)));
-        } else {
-            assert!(rt; matches!(&fed, Some(fed) if tsdu_of(fed) == Some(&INVOCATION[7..])));
-        }
+    for octet in &INVOCATION[..30] {
+        assert!(rt; gives_nothing(&rt, &mut reader, &[*octet]));
     }
+    assert!(rt; gives(&rt, &mut reader, &INVOCATION[30..], &INVOCATION[7..]));
 }
 
 #[test]
-fn each_part(rt: HostRuntime) -> Result<(), Fail> {
-    for octets in &PARTS {
-        assert!(rt; is_part(rt.alloc(), octets)?);
+fn each_part(rt: HostRuntime) {
+    for packet in &PARTS {
+        assert!(rt; is_part(&rt, rt.alloc(), packet));
     }
-    Ok(())
 }
 
 /// Whether a feed gave a request, or a confirm, with these fields.
@@ -236,110 +242,123 @@ fn is_connection(fed: &TFed, destination: u16, source: u16, selector: &[u8]) -> 
     }
 }
 
+/// Whether a feed gave a disconnect request.
+fn is_disconnect(fed: &TFed) -> bool {
+    matches!(fed.packets.get(0), Some(Packet::Disconnect))
+}
+
+/// Whether a feed gave a unit that tells an error.
+fn is_problem(fed: &TFed) -> bool {
+    matches!(fed.packets.get(0), Some(Packet::Problem))
+}
+
 #[test]
-fn units_are_read(rt: HostRuntime) -> Result<(), Fail> {
+fn units_are_read(rt: HostRuntime) {
     let mut reader = TReader::new(rt.alloc());
-    assert!(rt; is_connection(&reader.feed(REQUEST)?, 0, 1, &[0, 1]));
-    assert!(rt; is_connection(&reader.feed(CONFIRM)?, 1, 2, &[]));
-    let fed = reader.feed(DISCONNECT)?;
-    assert!(rt; matches!(fed.packets.get(0), Some(Packet::Disconnect)));
-    let fed = reader.feed(PROBLEM)?;
-    assert!(rt; matches!(fed.packets.get(0), Some(Packet::Problem)));
-    Ok(())
+    assert!(rt; is_connection(&feed(&rt, &mut reader, REQUEST), 0, 1, &[0, 1]));
+    assert!(rt; is_connection(&feed(&rt, &mut reader, CONFIRM), 1, 2, &[]));
+    assert!(rt; is_disconnect(&feed(&rt, &mut reader, DISCONNECT)));
+    assert!(rt; is_problem(&feed(&rt, &mut reader, PROBLEM)));
+}
+
+/// A selector.
+fn octets(rt: &impl Abort, alloc: Global, selector: &[u8]) -> Octets {
+    Octets::from_slice(alloc, selector).expect(rt, "memory")
 }
 
 /// The ends of a connection with size 0A.
 fn ends(
+    rt: &impl Abort,
     alloc: Global,
     destination: u16,
     source: u16,
     selector: &[u8],
-) -> Result<ConnectionFields, NoMemory> {
-    Ok(ConnectionFields {
+) -> ConnectionFields {
+    ConnectionFields {
         destination,
         source,
         size: Some(0x0A),
-        calling: Octets::from_slice(alloc, selector)?,
-        called: Octets::from_slice(alloc, selector)?,
-    })
+        calling: octets(rt, alloc, selector),
+        called: octets(rt, alloc, selector),
+    }
 }
 
 #[test]
-fn a_request_is_written(rt: HostRuntime) -> Result<(), Fail> {
-    let ends = ends(rt.alloc(), 0, 1, &[0, 1])?;
+fn a_request_is_written(rt: HostRuntime) {
+    let ends = ends(&rt, rt.alloc(), 0, 1, &[0, 1]);
     assert!(rt; ends.has_room());
-    assert!(rt; write_connect(rt.alloc(), &ends)?.as_slice() == REQUEST);
-    Ok(())
+    let written = write_connect(rt.alloc(), &ends).expect(&rt, "memory");
+    assert!(rt; written.as_slice() == REQUEST);
 }
 
 #[test]
-fn a_confirm_is_written(rt: HostRuntime) -> Result<(), Fail> {
-    let ends = ends(rt.alloc(), 1, 2, &[])?;
+fn a_confirm_is_written(rt: HostRuntime) {
+    let ends = ends(&rt, rt.alloc(), 1, 2, &[]);
     assert!(rt; ends.has_room());
-    assert!(rt; write_confirm(rt.alloc(), &ends)?.as_slice() == CONFIRM);
-    Ok(())
+    let written = write_confirm(rt.alloc(), &ends).expect(&rt, "memory");
+    assert!(rt; written.as_slice() == CONFIRM);
 }
 
 #[test]
-fn the_end_of_a_connection_is_written(rt: HostRuntime) -> Result<(), Fail> {
-    assert!(rt; write_disconnect(rt.alloc(), 1, 0, 0)?.as_slice() == DISCONNECT);
-    assert!(rt; write_problem(rt.alloc(), 1, 0)?.as_slice() == PROBLEM);
-    Ok(())
+fn the_end_of_a_connection_is_written(rt: HostRuntime) {
+    let written = write_disconnect(rt.alloc(), 1, 0, 0).expect(&rt, "memory");
+    assert!(rt; written.as_slice() == DISCONNECT);
+    let written = write_problem(rt.alloc(), 1, 0).expect(&rt, "memory");
+    assert!(rt; written.as_slice() == PROBLEM);
 }
 
 #[test]
 fn faulty_headers(rt: HostRuntime) {
     for (stream, place, kind) in &FAULTY {
-        assert!(rt; fault_of(rt.alloc(), stream) == Some((*place, *kind)));
+        let fault = TFault {
+            place: *place,
+            kind: *kind,
+        };
+        assert!(rt; fault_of(&rt, rt.alloc(), stream) == Some(fault));
     }
 }
 
 #[test]
-fn largest_packet(rt: HostRuntime) -> Result<(), Fail> {
+fn largest_packet(rt: HostRuntime) {
     let mut reader = TReader::new(rt.alloc());
-    let fed = reader.feed(&[3, 0, 0xFF, 0xFF, 2, 0xF0, 0x80])?;
-    assert!(rt; is_quiet(&fed));
-    let octets = vec![in rt.alloc(); 5u8; 65_528]?;
-    let fed = reader.feed(&octets)?;
-    assert!(rt; matches!(tsdu_of(&fed), Some(tsdu) if tsdu.len() == 65_528));
-    Ok(())
+    assert!(rt; gives_nothing(&rt, &mut reader, &[3, 0, 0xFF, 0xFF, 2, 0xF0, 0x80]));
+    let octets = vec![in rt.alloc(); 5u8; 65_528].expect(&rt, "memory");
+    assert!(rt; gives(&rt, &mut reader, &octets, &octets));
 }
 
 #[test]
-fn cut_into_parts_of_128(rt: HostRuntime) -> Result<(), Fail> {
-    let tsdu = vec![in rt.alloc(); 7u8; 130]?;
-    let written = write_tsdu(rt.alloc(), &tsdu, 128)?;
-    assert_eq!(rt; written.len(), 144);
+fn cut_into_parts_of_128(rt: HostRuntime) {
+    let tsdu = vec![in rt.alloc(); 7u8; 130].expect(&rt, "memory");
+    let written = write_tsdu(rt.alloc(), &tsdu, 128).expect(&rt, "memory");
     let octets = written.as_slice();
+    assert!(rt; octets.len() == 144);
     assert!(rt; octets.starts_with(&[3, 0, 0, 0x84, 2, 0xF0, 0, 7]));
     assert!(rt; octets.ends_with(&[7, 3, 0, 0, 0x0C, 2, 0xF0, 0x80, 7, 7, 7, 7, 7]));
-    Ok(())
 }
 
-/// Feeds a packet that is not the last, of so many octets: whether nothing is given.
-fn is_fed(reader: &mut TReader, head: &[u8], octets: &[u8]) -> Option<bool> {
-    let quiet = is_quiet(&reader.feed(head).ok()?);
-    let fed = reader.feed(octets).ok()?;
-    Some(quiet && is_quiet(&fed))
+/// Whether a packet that is not the last, of so many octets, gives nothing.
+fn is_kept(rt: &impl Abort, reader: &mut TReader, head: &[u8], octets: &[u8]) -> bool {
+    gives_nothing(rt, reader, head) && gives_nothing(rt, reader, octets)
 }
 
 #[test]
-fn longest_tsdu(rt: HostRuntime) -> Result<(), Fail> {
+fn longest_tsdu(rt: HostRuntime) {
     let mut reader = TReader::new(rt.alloc());
-    let octets = vec![in rt.alloc(); 5u8; 65_528]?;
+    let octets = vec![in rt.alloc(); 5u8; 65_528].expect(&rt, "memory");
     for _ in 0..16 {
-        assert!(rt; is_fed(&mut reader, &[3, 0, 0xFF, 0xFF, 2, 0xF0, 0], &octets) == Some(true));
+        assert!(rt; is_kept(&rt, &mut reader, &[3, 0, 0xFF, 0xFF, 2, 0xF0, 0], &octets));
     }
-    assert!(rt; is_fed(&mut reader, &[3, 0, 0, 0x87, 2, 0xF0, 0], &octets[..128]) == Some(true));
-    let fault = reader.feed(&[3, 0, 0, 8, 2, 0xF0])?.fault;
     assert!(rt;
-        matches!(
-            fault,
-            Some(TFault {
-                place: 1_048_700,
-                kind: Kind::Length
-            })
+        is_kept(
+            &rt,
+            &mut reader,
+            &[3, 0, 0, 0x87, 2, 0xF0, 0],
+            &octets[..128]
         )
     );
-    Ok(())
+    let fault = TFault {
+        place: 1_048_700,
+        kind: Kind::Length,
+    };
+    assert!(rt; feed(&rt, &mut reader, &[3, 0, 0, 8, 2, 0xF0]).fault == Some(fault));
 }

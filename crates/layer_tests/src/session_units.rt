@@ -3,7 +3,7 @@
 ghost use Rattle.std.specs.Prelude.{◌≡◌, ◌≤◌, true, length};
 ghost use Rattle.spdu_codec.specs.Written.{AreFields, AreWritable, octets_in, stands_alone, stands_second};
 
-use osi_base::{Kind, Octets, SessionConnect, SessionWord, Spdus};
+use osi_base::{Kind, NoMemory, Octets, SessionConnect, SessionWord, Spdus};
 use spdu_codec::{SFault, read_spdus, write_spdus};
 use std::alloc::Global;
 use std::process::Abort;
@@ -203,32 +203,40 @@ fn octets(rt: &impl Abort, alloc: Global, bytes: &[u8]) -> Octets
     Octets::from_slice(alloc, bytes).expect(rt, "memory")
 }
 
+/// Words as a text.
+fn shown(rt: &impl Abort, alloc: Global, words: &Spdus) -> String {
+    format!(in alloc; "{words:?}").expect(rt, "memory")
+}
+
+/// Whether octets are read as these words.
+fn are_read(rt: &impl Abort, alloc: Global, octets: &[u8], words: &Spdus) -> bool {
+    let read = read_spdus(alloc, octets).expect(rt, "units");
+    shown(rt, alloc, &read).as_str() == shown(rt, alloc, words).as_str()
+}
+
 /// These words are written as these octets, and the octets are read as these words.
-fn check(rt: &impl Abort, alloc: Global, words: &Spdus, octets: &[u8]) -> Result<(), Fail>
+fn check(rt: &impl Abort, alloc: Global, words: &Spdus, octets: &[u8])
     requires { AreWritable words.now }
 {
-    let written = write_spdus(alloc, words)?;
-    assert_eq!(rt; written.as_slice(), octets);
-    let read = read_spdus(alloc, octets)?;
-    let came = format!(in alloc; "{read:?}")?;
-    let want = format!(in alloc; "{words:?}")?;
-    assert_eq!(rt; came.as_str(), want.as_str());
-    Ok(())
+    let written = write_spdus(alloc, words).expect(rt, "memory");
+    assert!(rt; written.as_slice() == octets);
+    assert!(rt; are_read(rt, alloc, octets, words));
 }
 
 /// A unit that stands alone.
-fn alone(rt: &impl Abort, alloc: Global, word: SessionWord, octets: &[u8]) -> Result<(), Fail>
+fn alone(rt: &impl Abort, alloc: Global, word: SessionWord, octets: &[u8]) -> Result<(), NoMemory>
     requires stands { stands_alone word ≡ true }
     requires fields { AreFields word }
     requires short { octets_in word ≤ 1000 }
 {
     let mut words = Spdus::new(alloc);
     words.push(word)?;
-    check(rt, alloc, &words, octets)
+    check(rt, alloc, &words, octets);
+    Ok(())
 }
 
 /// A unit behind an empty GT.
-fn second(rt: &impl Abort, alloc: Global, word: SessionWord, octets: &[u8]) -> Result<(), Fail>
+fn second(rt: &impl Abort, alloc: Global, word: SessionWord, octets: &[u8]) -> Result<(), NoMemory>
     requires stands { stands_second word ≡ true }
     requires fields { AreFields word }
     requires short { octets_in word ≤ 1000 }
@@ -236,12 +244,14 @@ fn second(rt: &impl Abort, alloc: Global, word: SessionWord, octets: &[u8]) -> R
     let mut words = Spdus::new(alloc);
     words.push(SessionWord::GiveTokens { tokens: None })?;
     words.push(word)?;
-    check(rt, alloc, &words, octets)
+    check(rt, alloc, &words, octets);
+    Ok(())
 }
 
 /// The connect of an opening in direct mode.
 #[test]
-fn a_connect(rt: HostRuntime) -> Result<(), Fail> {
+fn a_connect(rt: HostRuntime) {
+    let alloc = rt.alloc();
     let connect = SessionConnect {
         calling_reference: None,
         common_reference: None,
@@ -250,19 +260,20 @@ fn a_connect(rt: HostRuntime) -> Result<(), Fail> {
         initial: Some(1),
         token_setting: None,
         requirements: Some(0x042A),
-        calling: Some(octets(&rt, rt.alloc(), &[0, 1])),
-        called: Some(octets(&rt, rt.alloc(), &[0, 1])),
-        user: octets(&rt, rt.alloc(), CONNECT_DATA),
+        calling: Some(octets(&rt, alloc, &[0, 1])),
+        called: Some(octets(&rt, alloc, &[0, 1])),
+        user: octets(&rt, alloc, CONNECT_DATA),
     };
-    alone(&rt, rt.alloc(), SessionWord::Connect(connect), CONNECT)
+    alone(&rt, alloc, SessionWord::Connect(connect), CONNECT).expect(&rt, "memory");
 }
 
 /// A connect of reliable mode with a token setting.
 #[test]
-fn a_connect_with_references(rt: HostRuntime) -> Result<(), Fail> {
+fn a_connect_with_references(rt: HostRuntime) {
+    let alloc = rt.alloc();
     let connect = SessionConnect {
-        calling_reference: Some(octets(&rt, rt.alloc(), b"ref1")),
-        common_reference: Some(octets(&rt, rt.alloc(), b"260101000000Z")),
+        calling_reference: Some(octets(&rt, alloc, b"ref1")),
+        common_reference: Some(octets(&rt, alloc, b"260101000000Z")),
         options: Some(0),
         version: Some(2),
         initial: None,
@@ -270,227 +281,243 @@ fn a_connect_with_references(rt: HostRuntime) -> Result<(), Fail> {
         requirements: Some(0x0449),
         calling: None,
         called: None,
-        user: octets(&rt, rt.alloc(), &[]),
+        user: octets(&rt, alloc, &[]),
     };
-    alone(
-        &rt,
-        rt.alloc(),
-        SessionWord::Connect(connect),
-        CONNECT_WITH_REFERENCES,
-    )
+    let word = SessionWord::Connect(connect);
+    alone(&rt, alloc, word, CONNECT_WITH_REFERENCES).expect(&rt, "memory");
 }
 
 #[test]
-fn an_accept(rt: HostRuntime) -> Result<(), Fail> {
+fn an_accept(rt: HostRuntime) {
+    let alloc = rt.alloc();
     let word = SessionWord::Accept {
         options: Some(0),
         version: Some(2),
         initial: Some(1),
         requirements: Some(0x042A),
-        user: octets(&rt, rt.alloc(), ACCEPT_DATA),
+        user: octets(&rt, alloc, ACCEPT_DATA),
     };
-    alone(&rt, rt.alloc(), word, ACCEPT)
+    alone(&rt, alloc, word, ACCEPT).expect(&rt, "memory");
 }
 
 #[test]
-fn a_short_accept(rt: HostRuntime) -> Result<(), Fail> {
+fn a_short_accept(rt: HostRuntime) {
+    let alloc = rt.alloc();
     let word = SessionWord::Accept {
         options: None,
         version: None,
         initial: None,
         requirements: Some(0x0002),
-        user: octets(&rt, rt.alloc(), &[0x31, 0x00]),
+        user: octets(&rt, alloc, &[0x31, 0x00]),
     };
-    alone(&rt, rt.alloc(), word, SHORT_ACCEPT)
+    alone(&rt, alloc, word, SHORT_ACCEPT).expect(&rt, "memory");
 }
 
 #[test]
-fn a_refusal(rt: HostRuntime) -> Result<(), Fail> {
-    let user = octets(&rt, rt.alloc(), &[0x30, 0x00]);
+fn a_refusal(rt: HostRuntime) {
+    let alloc = rt.alloc();
+    let user = octets(&rt, alloc, &[0x30, 0x00]);
     assert!(rt; user.len() > 0);
     let word = SessionWord::Refuse {
         transport: Some(1),
         reason: Some(2),
         user: Some(user),
     };
-    alone(&rt, rt.alloc(), word, REFUSE)
+    alone(&rt, alloc, word, REFUSE).expect(&rt, "memory");
 }
 
 #[test]
-fn a_finish(rt: HostRuntime) -> Result<(), Fail> {
+fn the_end_of_a_connection(rt: HostRuntime) {
+    let alloc = rt.alloc();
     let word = SessionWord::Finish {
         transport: Some(1),
-        user: octets(&rt, rt.alloc(), FINISH_DATA),
+        user: octets(&rt, alloc, FINISH_DATA),
     };
-    alone(&rt, rt.alloc(), word, FINISH)
+    alone(&rt, alloc, word, FINISH).expect(&rt, "memory");
+    let user = octets(&rt, alloc, DISCONNECT_DATA);
+    let word = SessionWord::Disconnect { user };
+    alone(&rt, alloc, word, DISCONNECT).expect(&rt, "memory");
 }
 
 #[test]
-fn a_disconnect(rt: HostRuntime) -> Result<(), Fail> {
-    let user = octets(&rt, rt.alloc(), DISCONNECT_DATA);
-    alone(
-        &rt,
-        rt.alloc(),
-        SessionWord::Disconnect { user },
-        DISCONNECT,
-    )
-}
-
-#[test]
-fn aborts_with_data(rt: HostRuntime) -> Result<(), Fail> {
+fn aborts_with_data(rt: HostRuntime) {
+    let alloc = rt.alloc();
     let word = SessionWord::Abort {
         transport: Some(3),
-        user: Some(octets(&rt, rt.alloc(), ABORT_DATA)),
+        user: Some(octets(&rt, alloc, ABORT_DATA)),
     };
-    alone(&rt, rt.alloc(), word, ABORT)?;
+    alone(&rt, alloc, word, ABORT).expect(&rt, "memory");
     let word = SessionWord::Abort {
         transport: Some(3),
-        user: Some(octets(&rt, rt.alloc(), &[0x30, 0x03, 0x80, 0x01, 0x06])),
+        user: Some(octets(&rt, alloc, &[0x30, 0x03, 0x80, 0x01, 0x06])),
     };
-    alone(&rt, rt.alloc(), word, PROVIDER_ABORT)
+    alone(&rt, alloc, word, PROVIDER_ABORT).expect(&rt, "memory");
 }
 
 #[test]
-fn aborts_without_data(rt: HostRuntime) -> Result<(), Fail> {
+fn aborts_without_data(rt: HostRuntime) {
+    let alloc = rt.alloc();
     let word = SessionWord::Abort {
         transport: Some(5),
         user: None,
     };
-    alone(&rt, rt.alloc(), word, &[0x19, 0x03, 0x11, 0x01, 0x05])?;
-    alone(&rt, rt.alloc(), SessionWord::AbortAccept, &[0x1A, 0x00])
+    alone(&rt, alloc, word, &[0x19, 0x03, 0x11, 0x01, 0x05]).expect(&rt, "memory");
+    let word = SessionWord::AbortAccept;
+    alone(&rt, alloc, word, &[0x1A, 0x00]).expect(&rt, "memory");
 }
 
 #[test]
-fn tokens(rt: HostRuntime) -> Result<(), Fail> {
+fn tokens(rt: HostRuntime) {
+    let alloc = rt.alloc();
     let word = SessionWord::GiveTokens { tokens: Some(4) };
-    alone(&rt, rt.alloc(), word, &[0x01, 0x03, 0x10, 0x01, 0x04])?;
+    alone(&rt, alloc, word, &[0x01, 0x03, 0x10, 0x01, 0x04]).expect(&rt, "memory");
+    let word = SessionWord::GiveTokensConfirm;
+    alone(&rt, alloc, word, &[0x15, 0x00]).expect(&rt, "memory");
+    let word = SessionWord::GiveTokensAck;
+    alone(&rt, alloc, word, &[0x16, 0x00]).expect(&rt, "memory");
+}
+
+#[test]
+fn requests_for_tokens(rt: HostRuntime) {
+    let alloc = rt.alloc();
     let word = SessionWord::PleaseTokens {
         tokens: Some(4),
         user: None,
     };
-    alone(&rt, rt.alloc(), word, &[0x02, 0x03, 0x10, 0x01, 0x04])?;
-    alone(
-        &rt,
-        rt.alloc(),
-        SessionWord::GiveTokensConfirm,
-        &[0x15, 0x00],
-    )?;
-    alone(&rt, rt.alloc(), SessionWord::GiveTokensAck, &[0x16, 0x00])
-}
-
-#[test]
-fn a_request_for_tokens_with_data(rt: HostRuntime) -> Result<(), Fail> {
+    alone(&rt, alloc, word, &[0x02, 0x03, 0x10, 0x01, 0x04]).expect(&rt, "memory");
     let word = SessionWord::PleaseTokens {
         tokens: Some(0x15),
-        user: Some(octets(&rt, rt.alloc(), &[7])),
+        user: Some(octets(&rt, alloc, &[7])),
     };
-    alone(
-        &rt,
-        rt.alloc(),
-        word,
-        &[0x02, 0x06, 0x10, 0x01, 0x15, 0xC1, 0x01, 0x07],
-    )
+    let unit = [0x02, 0x06, 0x10, 0x01, 0x15, 0xC1, 0x01, 0x07];
+    alone(&rt, alloc, word, &unit).expect(&rt, "memory");
 }
 
 #[test]
-fn data(rt: HostRuntime) -> Result<(), Fail> {
-    let user = octets(&rt, rt.alloc(), &[0xA0, 0x05, 0xA1, 0x03, 0x02, 0x01, 0x05]);
-    alone(&rt, rt.alloc(), SessionWord::TypedData { user }, TYPED_DATA)?;
-    let user = octets(&rt, rt.alloc(), INVOCATION);
-    second(&rt, rt.alloc(), SessionWord::Data { user }, DATA)
+fn data(rt: HostRuntime) {
+    let alloc = rt.alloc();
+    let user = octets(&rt, alloc, &[0xA0, 0x05, 0xA1, 0x03, 0x02, 0x01, 0x05]);
+    let word = SessionWord::TypedData { user };
+    alone(&rt, alloc, word, TYPED_DATA).expect(&rt, "memory");
+    let user = octets(&rt, alloc, INVOCATION);
+    second(&rt, alloc, SessionWord::Data { user }, DATA).expect(&rt, "memory");
 }
 
 #[test]
-fn marks(rt: HostRuntime) -> Result<(), Fail> {
+fn marks(rt: HostRuntime) {
+    let alloc = rt.alloc();
     let word = SessionWord::Mark { number: 1 };
     second(
         &rt,
-        rt.alloc(),
+        alloc,
         word,
         &[0x01, 0x00, 0x31, 0x03, 0x2A, 0x01, 0x31],
-    )?;
+    )
+    .expect(&rt, "memory");
     let word = SessionWord::MarkAck { number: 1 };
     second(
         &rt,
-        rt.alloc(),
+        alloc,
         word,
         &[0x01, 0x00, 0x32, 0x03, 0x2A, 0x01, 0x31],
     )
+    .expect(&rt, "memory");
 }
 
 #[test]
-fn restarts(rt: HostRuntime) -> Result<(), Fail> {
+fn restarts(rt: HostRuntime) {
+    let alloc = rt.alloc();
     let word = SessionWord::Resynchronize {
         number: 2,
-        user: Some(octets(&rt, rt.alloc(), RESTART_DATA)),
+        user: Some(octets(&rt, alloc, RESTART_DATA)),
     };
-    second(&rt, rt.alloc(), word, RESTART)?;
+    second(&rt, alloc, word, RESTART).expect(&rt, "memory");
     let word = SessionWord::ResynchronizeAck {
         number: 2,
-        user: Some(octets(&rt, rt.alloc(), RESTART_DATA)),
+        user: Some(octets(&rt, alloc, RESTART_DATA)),
     };
-    second(&rt, rt.alloc(), word, RESTARTED)
+    second(&rt, alloc, word, RESTARTED).expect(&rt, "memory");
 }
 
 #[test]
-fn beginnings_of_activities(rt: HostRuntime) -> Result<(), Fail> {
+fn beginnings_of_activities(rt: HostRuntime) {
+    let alloc = rt.alloc();
     let word = SessionWord::ActivityStart { activity: 1 };
     second(
         &rt,
-        rt.alloc(),
+        alloc,
         word,
         &[0x01, 0x00, 0x2D, 0x03, 0x29, 0x01, 0x31],
-    )?;
+    )
+    .expect(&rt, "memory");
     let word = SessionWord::ActivityResume {
         activity: 1,
         mark: 1,
     };
-    second(&rt, rt.alloc(), word, RESUME)?;
+    second(&rt, alloc, word, RESUME).expect(&rt, "memory");
     let word = SessionWord::ActivityResume {
         activity: 1,
         mark: 0,
     };
-    second(&rt, rt.alloc(), word, RESUME_AT_FIRST)
+    second(&rt, alloc, word, RESUME_AT_FIRST).expect(&rt, "memory");
 }
 
 #[test]
-fn ends_of_activities(rt: HostRuntime) -> Result<(), Fail> {
+fn ends_of_activities(rt: HostRuntime) {
+    let alloc = rt.alloc();
     let word = SessionWord::ActivityEnd { number: 3 };
     second(
         &rt,
-        rt.alloc(),
+        alloc,
         word,
         &[0x01, 0x00, 0x29, 0x03, 0x2A, 0x01, 0x33],
-    )?;
+    )
+    .expect(&rt, "memory");
     let word = SessionWord::ActivityEndAck { number: 3 };
     second(
         &rt,
-        rt.alloc(),
+        alloc,
         word,
         &[0x01, 0x00, 0x2A, 0x03, 0x2A, 0x01, 0x33],
     )
+    .expect(&rt, "memory");
 }
 
 #[test]
-fn breaks_of_activities(rt: HostRuntime) -> Result<(), Fail> {
+fn interrupts_of_activities(rt: HostRuntime) {
+    let alloc = rt.alloc();
     let word = SessionWord::ActivityInterrupt { reason: Some(0) };
     second(
         &rt,
-        rt.alloc(),
+        alloc,
         word,
         &[0x01, 0x00, 0x19, 0x03, 0x32, 0x01, 0x00],
-    )?;
+    )
+    .expect(&rt, "memory");
     let word = SessionWord::ActivityInterruptAck;
-    second(&rt, rt.alloc(), word, &[0x01, 0x00, 0x1A, 0x00])?;
+    second(&rt, alloc, word, &[0x01, 0x00, 0x1A, 0x00]).expect(&rt, "memory");
+}
+
+#[test]
+fn discards_of_activities(rt: HostRuntime) {
+    let alloc = rt.alloc();
     let word = SessionWord::ActivityDiscard { reason: Some(0) };
     second(
         &rt,
-        rt.alloc(),
+        alloc,
         word,
         &[0x01, 0x00, 0x39, 0x03, 0x32, 0x01, 0x00],
-    )?;
+    )
+    .expect(&rt, "memory");
     let word = SessionWord::ActivityDiscardAck;
-    second(&rt, rt.alloc(), word, &[0x01, 0x00, 0x3A, 0x00])
+    second(&rt, alloc, word, &[0x01, 0x00, 0x3A, 0x00]).expect(&rt, "memory");
+}
+
+/// A mark with the long form of a length, an unknown parameter twice, and the sync type item.
+#[test]
+fn a_mark_in_the_long_form(rt: HostRuntime) {
+    let spdus = read_spdus(rt.alloc(), LONG_MARK).expect(&rt, "units");
+    assert!(rt; matches!(spdus.get(1), Some(SessionWord::Mark { number: 5 })));
 }
 
 /// The fault of octets.
@@ -498,18 +525,10 @@ fn fault_of(alloc: Global, octets: &[u8]) -> Option<SFault> {
     read_spdus(alloc, octets).err()
 }
 
-/// A mark with the long form of a length, an unknown parameter twice, and the sync type item.
-#[test]
-fn a_mark_in_the_long_form(rt: HostRuntime) -> Result<(), Fail> {
-    let spdus = read_spdus(rt.alloc(), LONG_MARK)?;
-    assert!(rt; matches!(spdus.get(1), Some(SessionWord::Mark { number: 5 })));
-    Ok(())
-}
-
 /// Extended user data of fewer octets.
 #[test]
 fn short_data_in_the_long_parameter(rt: HostRuntime) {
-    assert!(rt; read_spdus(rt.alloc(), &[0x0D, 0x03, 0xC2, 0x01, 0x09]).is_ok());
+    assert!(rt; fault_of(rt.alloc(), &[0x0D, 0x03, 0xC2, 0x01, 0x09]) == None);
 }
 
 #[test]

@@ -1,13 +1,12 @@
 //! Worked rows of SET OF (X.690 11.6): read in any order in BER, in rising order in DER and the
 //! packed syntax.
 
-use ber_codec::{
-    Node, Part, Parts, ReadFault, RowRefusal, TypeId, TypeRow, TypeTable, Val, ber_octets,
-    ber_read, der_read, fits,
-};
-use osi_base::{Kind, Name, NoMemory, Octets};
+use crate::tables::{Row, table};
+use ber_codec::{Node, ReadFault, TypeId, TypeTable, Val, ber_octets, ber_read, der_read, fits};
+use osi_base::{Kind, Octets};
 use packed_codec::{PackedFault, packed_len, packed_read, packed_write};
 use std::alloc::Global;
+use std::process::Abort;
 use std::test::*;
 
 const INTEGER: u32 = 0;
@@ -26,33 +25,21 @@ const SETS: u32 = 6;
 
 /// SET OF INTEGER, SET OF OCTET STRING, SET OF SET {a INTEGER OPTIONAL, b OCTET STRING OPTIONAL}
 /// and SET OF SET OF INTEGER.
-fn table(alloc: Global) -> Result<TypeTable, RowRefusal> {
-    let mut table = TypeTable::new(alloc);
-    table.add(TypeRow::Integer {
-        low: i64::MIN,
-        high: i64::MAX,
-    })?;
-    table.add(TypeRow::SetOf(TypeId(INTEGER)))?;
-    table.add(TypeRow::OctetString { most: 262_144 })?;
-    table.add(TypeRow::SetOf(TypeId(TEXT)))?;
-    let mut parts = Parts::new(alloc);
-    for (name, inner) in [("a", INTEGER), ("b", TEXT)] {
-        parts.push(Part {
-            name: Name::from_str(alloc, name)?,
-            inner: TypeId(inner),
-            optional: true,
-            default: None,
-        })?;
-    }
-    table.add(TypeRow::Set(parts))?;
-    table.add(TypeRow::SetOf(TypeId(PAIR)))?;
-    table.add(TypeRow::SetOf(TypeId(NUMBERS)))?;
-    Ok(table)
-}
+const TABLE: [Row; 7] = [
+    Row::Integer(i64::MIN, i64::MAX),
+    Row::SetOf(INTEGER),
+    Row::OctetString(262_144),
+    Row::SetOf(TEXT),
+    Row::Set(&[("a", INTEGER, true, None), ("b", TEXT, true, None)]),
+    Row::SetOf(PAIR),
+    Row::SetOf(NUMBERS),
+];
 
 /// Octets of a type, the place of a fault of kind Form in DER if there is one, and how they are
 /// written.
-const ROWS: [(u32, &'static [u8], Option<usize>, &'static [u8]); 11] = [
+type Sample = (u32, &'static [u8], Option<usize>, &'static [u8]);
+
+const ROWS: [Sample; 11] = [
     (
         NUMBERS,
         &[0x31, 6, 2, 1, 3, 2, 1, 1],
@@ -116,101 +103,178 @@ const ROWS: [(u32, &'static [u8], Option<usize>, &'static [u8]); 11] = [
     ),
 ];
 
-#[test]
-fn any_order_is_read_and_rising_order_written(rt: HostRuntime) -> Result<(), Fail> {
-    let alloc = rt.alloc();
-    let table = table(alloc)?;
-    for (of, octets, form, written) in ROWS {
-        assert!(rt; (of as usize) < table.len());
-        let read = ber_read(alloc, &table, TypeId(of), octets)?;
-        assert_eq!(rt; read.used, octets.len());
-        assert!(rt; fits(&table, TypeId(of), &read.value));
-        let back = ber_octets(alloc, &table, TypeId(of), &read.value)?;
-        assert_eq!(rt; back.as_slice(), written);
-        match der_read(alloc, &table, TypeId(of), octets) {
-            Ok(_) => assert!(rt; form.is_none()),
-            Err(ReadFault::NotSpelled { place, kind }) => {
-                assert_eq!(rt; Some(place), form);
-                assert_eq!(rt; kind, Kind::Form);
-            }
-            Err(_) => assert!(rt; false),
-        }
-    }
-    Ok(())
+/// The octets of a value in DER.
+fn spelling(rt: &impl Abort, alloc: Global, table: &TypeTable, of: u32, value: &Val) -> Octets {
+    ber_octets(alloc, table, TypeId(of), value).expect(rt, "memory")
 }
 
-fn numbers(alloc: Global, all: &[i64]) -> Result<Val, NoMemory> {
+/// Whether octets are read whole in BER as a value that fits, which is written so.
+fn is_rewritten(
+    rt: &impl Abort,
+    alloc: Global,
+    table: &TypeTable,
+    of: u32,
+    octets: &[u8],
+    written: &[u8],
+) -> bool {
+    assert!(rt; table.has(TypeId(of)));
+    let read = ber_read(alloc, table, TypeId(of), octets).expect(rt, "a value");
+    let whole = read.used == octets.len() && fits(table, TypeId(of), &read.value);
+    let back = spelling(rt, alloc, table, of, &read.value);
+    drop(read);
+    whole && back.as_slice() == written
+}
+
+/// The fault of octets in DER.
+fn der_fault(
+    rt: &impl Abort,
+    alloc: Global,
+    table: &TypeTable,
+    of: u32,
+    octets: &[u8],
+) -> Option<ReadFault> {
+    assert!(rt; table.has(TypeId(of)));
+    der_read(alloc, table, TypeId(of), octets).err()
+}
+
+/// A fault of kind Form at this place.
+fn form_at(place: usize) -> ReadFault {
+    ReadFault::NotSpelled {
+        place,
+        kind: Kind::Form,
+    }
+}
+
+/// Whether a row's octets are read and written as it says.
+fn is_so(rt: &impl Abort, alloc: Global, table: &TypeTable, row: &Sample) -> bool {
+    let (of, octets, form, written) = row;
+    is_rewritten(rt, alloc, table, *of, octets, written)
+        && der_fault(rt, alloc, table, *of, octets) == form.map(form_at)
+}
+
+#[test]
+fn any_order_is_read_and_rising_order_written(rt: HostRuntime) {
+    let table = table(&rt, rt.alloc(), &TABLE);
+    for row in &ROWS {
+        assert!(rt; is_so(&rt, rt.alloc(), &table, row));
+    }
+}
+
+fn numbers(rt: &impl Abort, alloc: Global, all: &[i64]) -> Val {
     let mut items = Vec::new(alloc);
     for number in all {
-        items.push(Val {
-            node: Node::Int(*number),
-        })?;
+        let node = Node::Int(*number);
+        items.push(Val { node }).expect(rt, "memory");
     }
-    Ok(Val {
+    Val {
         node: Node::List(items),
-    })
+    }
+}
+
+/// Whether these numbers fit.
+fn is_fitting(rt: &impl Abort, alloc: Global, table: &TypeTable, items: &[i64]) -> bool {
+    let value = numbers(rt, alloc, items);
+    let fits = fits(table, TypeId(NUMBERS), &value);
+    drop(value);
+    fits
+}
+
+/// Items, and whether they fit.
+const FITTING: [(&[i64], bool); 4] = [
+    (&[1, 3, 3, 256], true),
+    (&[-1, 256], true),
+    (&[256, -1], false),
+    (&[3, 1], false),
+];
+
+#[test]
+fn only_rising_items_fit(rt: HostRuntime) {
+    let alloc = rt.alloc();
+    let table = table(&rt, alloc, &TABLE);
+    for (items, wanted) in &FITTING {
+        assert!(rt; is_fitting(&rt, alloc, &table, items) == *wanted);
+    }
+}
+
+/// The fault of octets in the packed syntax.
+fn packed_fault(
+    rt: &impl Abort,
+    alloc: Global,
+    table: &TypeTable,
+    octets: &[u8],
+) -> Option<PackedFault> {
+    assert!(rt; table.has(TypeId(NUMBERS)));
+    packed_read(alloc, table, TypeId(NUMBERS), octets).err()
 }
 
 #[test]
-fn only_rising_items_fit(rt: HostRuntime) -> Result<(), Fail> {
+fn the_packed_syntax_has_them_rising(rt: HostRuntime) {
     let alloc = rt.alloc();
-    let table = table(alloc)?;
-    assert!(rt; fits(&table, TypeId(NUMBERS), &numbers(alloc, &[1, 3, 3, 256])?));
-    assert!(rt; fits(&table, TypeId(NUMBERS), &numbers(alloc, &[-1, 256])?));
-    assert!(rt; !fits(&table, TypeId(NUMBERS), &numbers(alloc, &[256, -1])?));
-    assert!(rt; !fits(&table, TypeId(NUMBERS), &numbers(alloc, &[3, 1])?));
-    Ok(())
-}
-
-#[test]
-fn the_packed_syntax_has_them_rising(rt: HostRuntime) -> Result<(), Fail> {
-    let alloc = rt.alloc();
-    let table = table(alloc)?;
-    let value = numbers(alloc, &[1, 3])?;
-    assert_eq!(rt; table.len(), 7);
+    let table = table(&rt, alloc, &TABLE);
+    let value = numbers(&rt, alloc, &[1, 3]);
     let mut room = [0xAA; 9];
-    assert_eq!(rt; packed_len(&table, TypeId(NUMBERS), &value), 8);
-    assert_eq!(rt; packed_write(&table, TypeId(NUMBERS), &value, &mut room), 8);
-    assert_eq!(rt; room, [0, 0, 0, 2, 1, 1, 1, 3, 0xAA]);
-    let read = packed_read(alloc, &table, TypeId(NUMBERS), &room)?;
-    assert_eq!(rt; read.used, 8);
-    let falling = packed_read(alloc, &table, TypeId(NUMBERS), &[0, 0, 0, 2, 1, 3, 1, 1]);
-    assert_eq!(rt;
-        falling.err(),
-        Some(PackedFault::NotSpelled {
-            place: 6,
-            kind: Kind::Content
-        })
-    );
-    Ok(())
+    assert!(rt; packed_len(&table, TypeId(NUMBERS), &value) == 8);
+    assert!(rt; packed_write(&table, TypeId(NUMBERS), &value, &mut room) == 8);
+    drop(value);
+    assert!(rt; room == [0, 0, 0, 2, 1, 1, 1, 3, 0xAA]);
+}
+
+#[test]
+fn the_packed_syntax_is_read_rising(rt: HostRuntime) {
+    let alloc = rt.alloc();
+    let table = table(&rt, alloc, &TABLE);
+    assert!(rt; table.has(TypeId(NUMBERS)));
+    let octets = [0, 0, 0, 2, 1, 1, 1, 3, 0xAA];
+    let read = packed_read(alloc, &table, TypeId(NUMBERS), &octets).expect(&rt, "a value");
+    assert!(rt; read.used == 8);
+    drop(read);
+    let falling = PackedFault::NotSpelled {
+        place: 6,
+        kind: Kind::Content,
+    };
+    assert!(rt; packed_fault(&rt, alloc, &table, &[0, 0, 0, 2, 1, 3, 1, 1]) == Some(falling));
+}
+
+/// A string of 299 octets 5 and another.
+fn long_string(rt: &impl Abort, alloc: Global, last: u8) -> Val {
+    let mut octets = vec![in alloc; 5; 299].expect(rt, "memory");
+    octets.push(last).expect(rt, "memory");
+    Val {
+        node: Node::Octets(Octets::from_vec(octets)),
+    }
+}
+
+/// What octets of the strings are written as, of a value that fits.
+fn rewritten(rt: &impl Abort, alloc: Global, table: &TypeTable, octets: &[u8]) -> Octets {
+    assert!(rt; table.has(TypeId(TEXTS)));
+    let read = ber_read(alloc, table, TypeId(TEXTS), octets).expect(rt, "a value");
+    assert!(rt; fits(table, TypeId(TEXTS), &read.value));
+    let written = spelling(rt, alloc, table, TEXTS, &read.value);
+    drop(read);
+    written
+}
+
+/// Two strings, which differ in their last octets, 7 and 9.
+fn long_strings(rt: &impl Abort, alloc: Global) -> Val {
+    let mut items = Vec::new(alloc);
+    items.push(long_string(rt, alloc, 7)).expect(rt, "memory");
+    items.push(long_string(rt, alloc, 9)).expect(rt, "memory");
+    Val {
+        node: Node::List(items),
+    }
 }
 
 /// Items of many octets, which differ late, in the octets of a long string.
 #[test]
-fn long_items_are_compared_to_their_ends(rt: HostRuntime) -> Result<(), Fail> {
+fn long_items_are_compared_to_their_ends(rt: HostRuntime) {
     let alloc = rt.alloc();
-    let table = table(alloc)?;
-    assert_eq!(rt; table.len(), 7);
-    let mut items = Vec::new(alloc);
-    for last in [7, 9] {
-        let mut octets = vec![in alloc; 5; 300]?;
-        octets[299] = last;
-        items.push(Val {
-            node: Node::Octets(Octets::from_vec(octets)),
-        })?;
-    }
-    let value = Val {
-        node: Node::List(items),
-    };
+    let table = table(&rt, alloc, &TABLE);
+    let value = long_strings(&rt, alloc);
     assert!(rt; fits(&table, TypeId(TEXTS), &value));
-    let mut written = ber_octets(alloc, &table, TypeId(TEXTS), &value)?.into_vec();
-    let end = written.len();
-    assert!(rt; end > 0);
-    assert_eq!(rt; written[end - 1], 9);
-    written[end - 1] = 6;
-    let read = ber_read(alloc, &table, TypeId(TEXTS), &written)?;
-    let back = ber_octets(alloc, &table, TypeId(TEXTS), &read.value)?;
-    assert_eq!(rt; back.as_slice().get(end - 1).copied(), Some(7));
-    assert!(rt; fits(&table, TypeId(TEXTS), &read.value));
-    Ok(())
+    let mut written = spelling(&rt, alloc, &table, TEXTS, &value).into_vec();
+    drop(value);
+    assert!(rt; written.pop() == Some(9));
+    written.push(6).expect(&rt, "memory");
+    let back = rewritten(&rt, alloc, &table, written.as_slice());
+    assert!(rt; back.as_slice().last().copied() == Some(7));
 }

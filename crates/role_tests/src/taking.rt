@@ -15,7 +15,8 @@ use linked_ops::{Forest, Key};
 use osi_base::{NoMemory, Problem, Syntax};
 use rose_roles::{InvokedWith, Invoker, Performer, RoseTaken, refused};
 use std::alloc::Global;
-use std::test::Fail;
+use std::process::Abort;
+use std::test::*;
 use stub_tables::{Apdu, Tables};
 
 /// What becomes of an APDU.
@@ -347,7 +348,7 @@ fn take_before(alloc: Global, both: &mut Both, tables: &Tables, row: &Row) -> Re
     if !row.again {
         return Ok(());
     }
-    take(alloc, both, tables, row.syntax, row.octets)?;
+    drop(take(alloc, both, tables, row.syntax, row.octets)?);
     Ok(())
 }
 
@@ -358,24 +359,22 @@ fn is_integer(value: &Option<Val>, number: i64) -> bool {
 
 /// Whether a reject has these octets in BER.
 fn is_written(
+    rt: &impl Abort,
     alloc: Global,
     tables: &Tables,
     id: Option<i64>,
     problem: Problem,
     octets: &[u8],
-) -> Result<bool, NoMemory> {
-    let written = write_apdu(alloc, Ber, tables, &Apdu::Reject { id, problem })?;
-    Ok(written.as_slice() == octets)
+) -> bool {
+    let reject = Apdu::Reject { id, problem };
+    let written = write_apdu(alloc, Ber, tables, &reject).expect(rt, "memory");
+    drop(reject);
+    written.as_slice() == octets
 }
 
 /// Whether that became of an APDU.
-fn is_told(
-    alloc: Global,
-    tables: &Tables,
-    taken: &RoseTaken,
-    told: Told,
-) -> Result<bool, NoMemory> {
-    Ok(match (taken, told) {
+fn is_told(rt: &impl Abort, alloc: Global, tables: &Tables, taken: &RoseTaken, told: Told) -> bool {
+    match (taken, told) {
         (
             RoseTaken::Invoked {
                 id,
@@ -388,16 +387,17 @@ fn is_told(
             let parent = if under { Some(1) } else { None };
             *id == 1 && *operation == place && *linked == parent && is_integer(argument, number)
         }
-        (RoseTaken::Result { id, value }, Returned(number)) => *id == 1
-            && is_integer(value, number),
+        (RoseTaken::Result { id, value }, Returned(number)) => {
+            *id == 1 && is_integer(value, number)
+        }
         (RoseTaken::Rejected { id, .. }, Rejected) => *id == 1,
         (RoseTaken::RejectTaken { .. }, RejectTaken) => true,
         (RoseTaken::BadReject, BadReject) => true,
         (RoseTaken::Reject { id, problem }, Reject(octets)) => {
-            is_written(alloc, tables, *id, *problem, octets)?
+            is_written(rt, alloc, tables, *id, *problem, octets)
         }
         _ => false,
-    })
+    }
 }
 
 /// Whether the own invocation 1 is open.
@@ -423,29 +423,48 @@ fn is_peer(both: &Both, peer: Option<(u32, bool)>) -> bool {
     }
 }
 
+/// Whether it goes as a row says at this end.
+fn is_so_at(
+    rt: &impl Abort,
+    alloc: Global,
+    both: &mut Both,
+    tables: &Tables,
+    row: &Row,
+) -> Result<bool, NoMemory>
+    requires own { AreOpen true both.old.forest both.old.own.kept }
+    requires peer { AreOpen false both.old.forest both.old.performer.kept }
+{
+    take_before(alloc, both, tables, row)?;
+    let taken = take(alloc, both, tables, row.syntax, row.octets)?;
+    let told = is_told(rt, alloc, tables, &taken, row.told);
+    drop(taken);
+    Ok(told && is_own(both, row.own) && is_peer(both, row.peer))
+}
+
 /// Whether it goes as a row says.
-fn is_so(alloc: Global, tables: &Tables, row: &Row) -> Result<bool, NoMemory> {
+fn is_so(rt: &impl Abort, alloc: Global, tables: &Tables, row: &Row) -> Result<bool, NoMemory> {
     let mut both = with_open(alloc, row.open)?;
-    take_before(alloc, &mut both, tables, row)?;
-    let taken = take(alloc, &mut both, tables, row.syntax, row.octets)?;
-    let left = is_own(&both, row.own) && is_peer(&both, row.peer);
-    Ok(is_told(alloc, tables, &taken, row.told)? && left)
+    let so = is_so_at(rt, alloc, &mut both, tables, row);
+    drop(both);
+    so
+}
+
+/// It goes as each row says.
+fn check(rt: &impl Abort, alloc: Global, rows: &[Row]) {
+    let tables = module(rt, alloc).expect(rt, "memory");
+    for row in rows {
+        let so = is_so(rt, alloc, &tables, row).expect(rt, "memory");
+        assert!(rt; so, "{}", row.shows);
+    }
+    drop(tables);
 }
 
 #[test]
-fn outcomes_and_rejects(rt: HostRuntime) -> Result<(), Fail> {
-    let tables = module(rt.alloc())?;
-    for row in &OUTCOMES {
-        assert!(rt; is_so(rt.alloc(), &tables, row)?, "{}", row.shows);
-    }
-    Ok(())
+fn outcomes_and_rejects(rt: HostRuntime) {
+    check(&rt, rt.alloc(), &OUTCOMES);
 }
 
 #[test]
-fn invocations(rt: HostRuntime) -> Result<(), Fail> {
-    let tables = module(rt.alloc())?;
-    for row in &INVOCATIONS {
-        assert!(rt; is_so(rt.alloc(), &tables, row)?, "{}", row.shows);
-    }
-    Ok(())
+fn invocations(rt: HostRuntime) {
+    check(&rt, rt.alloc(), &INVOCATIONS);
 }

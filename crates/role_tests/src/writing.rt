@@ -5,9 +5,10 @@ use crate::sample::{integer, module};
 use Sample::{Error, Invoke, Returns};
 use Syntax::{Ber, Der, Packed};
 use apdu_codec::{apdu_len, write_apdu};
-use osi_base::{NoMemory, Syntax};
+use osi_base::Syntax;
 use std::alloc::Global;
-use std::test::Fail;
+use std::process::Abort;
+use std::test::*;
 use stub_tables::{Apdu, Code, Returned, Tables};
 
 /// An APDU with the identifier 1.
@@ -121,23 +122,28 @@ fn apdu(sample: Sample) -> Apdu {
 
 /// Whether an APDU of the module is written as these octets, and has as many.
 fn is_written(
+    rt: &impl Abort,
     alloc: Global,
     tables: &Tables,
     syntax: Syntax,
     sample: Sample,
     octets: &[u8],
-) -> Result<bool, NoMemory> {
+) -> bool {
     let apdu = apdu(sample);
-    let written = write_apdu(alloc, syntax, tables, &apdu)?;
-    Ok(written.as_slice() == octets && apdu_len(syntax, tables, &apdu) == octets.len() as u64)
+    let written = write_apdu(alloc, syntax, tables, &apdu).expect(rt, "memory");
+    let length = apdu_len(syntax, tables, &apdu);
+    drop(apdu);
+    written.as_slice() == octets && length == octets.len() as u64
 }
 
 #[test]
-fn apdus_are_written(rt: HostRuntime) -> Result<(), Fail> {
-    let tables = module(rt.alloc())?;
+fn apdus_are_written(rt: HostRuntime) {
+    let tables = module(&rt, rt.alloc()).expect(&rt, "memory");
     for (shows, sample, syntax, octets) in &ROWS {
-        let written = is_written(rt.alloc(), &tables, *syntax, *sample, octets)?;
-        assert!(rt; written, "{shows}");
+        assert!(rt;
+            is_written(&rt, rt.alloc(), &tables, *syntax, *sample, octets),
+            "{shows}"
+        );
     }
-    Ok(())
+    drop(tables);
 }

@@ -2,47 +2,64 @@
 
 use crate::refusals::{all_modes, calc};
 use dialogue::Mode;
-use schedule_text::{Schedule, read_schedule};
+use schedule_text::{Schedule, Setup, read_schedule};
 use std::alloc::Global;
-use std::test::Fail;
+use std::process::Abort;
+use std::test::*;
 
-fn read(alloc: Global, text: &str) -> Result<Schedule, Fail> {
-    let tables = calc(alloc)?;
-    read_schedule(alloc, all_modes(), &tables, text.as_bytes()).map_err(|_| Fail::from(
-        "the schedule isn't read",
-    ))
+fn read(rt: &impl Abort, alloc: Global, text: &str) -> Schedule {
+    let tables = calc(rt, alloc);
+    let read = read_schedule(alloc, all_modes(), &tables, text.as_bytes());
+    drop(tables);
+    read.expect(rt, "the schedule is read")
 }
 
-#[test]
-fn no_lines_mean_direct_mode(rt: HostRuntime) -> Result<(), Fail> {
-    let Schedule { setup, events } = read(rt.alloc(), "")?;
+/// Direct mode, and what an end says of itself where no line does.
+fn check_direct(rt: &impl Abort, setup: &Setup) {
     assert!(rt; setup.a.mode == Mode::Direct);
     assert!(rt; setup.b.mode == Mode::Direct);
     assert!(rt; setup.a.initiator && !setup.b.initiator);
+    assert!(rt; setup.a.reference.as_slice() == b"ref1".as_slice());
+    assert!(rt; setup.a.common.as_slice() == b"260101000000Z".as_slice());
+}
+
+/// The contexts and syntaxes of direct mode where no line says any.
+fn check_contexts(rt: &impl Abort, setup: &Setup) {
     assert!(rt; setup.a.contexts.len() == 1, "context 5 in BER");
     assert!(rt; setup.b.contexts.len() == 0, "a responder proposes none");
     assert!(rt; setup.a.accepts.len() == 3, "all three syntaxes");
     assert!(rt; setup.b.accepts.len() == 3, "all three syntaxes");
-    assert!(rt; setup.a.reference.as_slice() == b"ref1".as_slice());
-    assert!(rt; setup.a.common.as_slice() == b"260101000000Z".as_slice());
-    assert!(rt; events.len() == 0);
-    Ok(())
 }
 
 #[test]
-fn bare_mode_has_no_contexts(rt: HostRuntime) -> Result<(), Fail> {
-    let Schedule { setup, events } = read(rt.alloc(), "mode bare\nA abort\n")?;
+fn no_lines_mean_direct_mode(rt: HostRuntime) {
+    let schedule = read(&rt, rt.alloc(), "");
+    check_direct(&rt, &schedule.setup);
+    check_contexts(&rt, &schedule.setup);
+    assert!(rt; schedule.events.len() == 0);
+    drop(schedule);
+}
+
+/// Bare mode, in which there are no contexts.
+fn check_bare(rt: &impl Abort, setup: &Setup) {
     assert!(rt; setup.a.mode == Mode::Bare);
     assert!(rt; setup.a.contexts.len() == 0);
     assert!(rt; setup.a.accepts.len() == 0);
-    assert!(rt; events.len() == 1);
-    Ok(())
 }
 
 #[test]
-fn lines_say_contexts_syntaxes_and_windows(rt: HostRuntime) -> Result<(), Fail> {
-    let text = "mode reliable 1 2\ncontext 5 ber der\ncontext 7 packed\naccepts B ber\n";
-    let Schedule { setup, .. } = read(rt.alloc(), text)?;
+fn bare_mode_has_no_contexts(rt: HostRuntime) {
+    let schedule = read(&rt, rt.alloc(), "mode bare\nA abort\n");
+    check_bare(&rt, &schedule.setup);
+    assert!(rt; schedule.events.len() == 1);
+    drop(schedule);
+}
+
+const RELIABLE: &'static str =
+    "mode reliable 1 2\ncontext 5 ber der\ncontext 7 packed\naccepts B ber\n";
+
+/// What these lines say.
+fn check_reliable(rt: &impl Abort, setup: &Setup) {
     assert!(rt; setup.a.mode == Mode::Reliable);
     assert!(rt; setup.a.checkpoint == 1);
     assert!(rt; setup.b.checkpoint == 1);
@@ -50,5 +67,11 @@ fn lines_say_contexts_syntaxes_and_windows(rt: HostRuntime) -> Result<(), Fail> 
     assert!(rt; setup.a.contexts.len() == 2);
     assert!(rt; setup.a.accepts.len() == 3);
     assert!(rt; setup.b.accepts.len() == 1);
-    Ok(())
+}
+
+#[test]
+fn lines_say_contexts_syntaxes_and_windows(rt: HostRuntime) {
+    let schedule = read(&rt, rt.alloc(), RELIABLE);
+    check_reliable(&rt, &schedule.setup);
+    drop(schedule);
 }

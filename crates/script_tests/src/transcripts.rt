@@ -6,7 +6,9 @@ use dialogue::{Call, CallRefusal, Carried, Entries, Entry, Indication, Mode, Pha
 use module_reading::read_module;
 use osi_base::{ListOf, Octets, Problem, ProblemKind, Side};
 use std::alloc::Global;
-use std::test::Fail;
+use std::process::Abort;
+use std::test::*;
+use stub_tables::Tables;
 use transcript_text::{summary_text, transcript_text};
 
 fn number(number: i64) -> Option<Val> {
@@ -28,15 +30,22 @@ fn invoke(operation: u32, argument: Option<Val>) -> Call {
     }
 }
 
-fn carry(alloc: Global, side: Side, octets: &[u8], indication: Indication) -> Result<Entry, Fail> {
+/// A carry of all octets, of which the other side indicates one thing.
+fn carry(
+    rt: &impl Abort,
+    alloc: Global,
+    side: Side,
+    octets: &[u8],
+    indication: Indication,
+) -> Entry {
     let mut shown = ListOf::new(alloc);
-    shown.push(indication)?;
-    let octets = Octets::from_slice(alloc, octets)?;
-    Ok(Entry::Carry {
+    shown.push(indication).expect(rt, "memory");
+    let octets = Octets::from_slice(alloc, octets).expect(rt, "memory");
+    Entry::Carry {
         side,
         most: None,
         carried: Carried { octets, shown },
-    })
+    }
 }
 
 fn of_bare_mode(entries: Entries) -> Transcript {
@@ -48,10 +57,10 @@ fn of_bare_mode(entries: Entries) -> Transcript {
     }
 }
 
-/// One addition and its result (X.880 8).
-fn addition(alloc: Global) -> Result<Transcript, Fail> {
-    let mut entries = ListOf::new(alloc);
-    entries.push(call(Side::A, invoke(0, number(5)), Ok(Some(1))))?;
+/// An addition is invoked.
+fn put_invocation(rt: &impl Abort, alloc: Global, entries: &mut Entries) {
+    let invocation = call(Side::A, invoke(0, number(5)), Ok(Some(1)));
+    entries.push(invocation).expect(rt, "memory");
     let invoked = Indication::Invoked {
         id: 1,
         operation: 0,
@@ -59,27 +68,50 @@ fn addition(alloc: Global) -> Result<Transcript, Fail> {
         argument: number(5),
     };
     let octets = b"\xA1\x09\x02\x01\x01\x02\x01\x01\x02\x01\x05";
-    entries.push(carry(alloc, Side::A, octets.as_slice(), invoked)?)?;
+    let carried = carry(rt, alloc, Side::A, octets.as_slice(), invoked);
+    entries.push(carried).expect(rt, "memory");
+}
+
+/// It is answered.
+fn put_answer(rt: &impl Abort, alloc: Global, entries: &mut Entries) {
     let answer = Call::Answer {
         id: 1,
         result: number(5),
     };
-    entries.push(call(Side::B, answer, Ok(None)))?;
-    let result_shown = Indication::Result {
+    entries
+        .push(call(Side::B, answer, Ok(None)))
+        .expect(rt, "memory");
+    let shown = Indication::Result {
         id: 1,
         value: number(5),
     };
     let octets = b"\xA2\x0B\x02\x01\x01\x30\x06\x02\x01\x01\x02\x01\x05";
-    entries.push(carry(alloc, Side::B, octets.as_slice(), result_shown)?)?;
-    Ok(of_bare_mode(entries))
+    let carried = carry(rt, alloc, Side::B, octets.as_slice(), shown);
+    entries.push(carried).expect(rt, "memory");
 }
 
-#[test]
-fn an_addition(rt: HostRuntime) -> Result<(), Fail> {
-    let alloc = rt.alloc();
-    let tables = calc(alloc)?;
-    let text = transcript_text(alloc, &tables, &addition(alloc)?)?;
-    let wanted = "mode bare
+/// One addition and its result (X.880 8).
+fn addition(rt: &impl Abort, alloc: Global) -> Transcript {
+    let mut entries = ListOf::new(alloc);
+    put_invocation(rt, alloc, &mut entries);
+    put_answer(rt, alloc, &mut entries);
+    of_bare_mode(entries)
+}
+
+/// Whether a transcript is printed so.
+fn is_printed(
+    rt: &impl Abort,
+    alloc: Global,
+    tables: &Tables,
+    transcript: Transcript,
+    wanted: &str,
+) -> bool {
+    let text = transcript_text(alloc, tables, &transcript).expect(rt, "memory");
+    drop(transcript);
+    text.as_slice() == wanted.as_bytes()
+}
+
+const ADDITION: &'static str = "mode bare
 1 A invoke 0 add 5
   ok 1
 2 carry A all
@@ -93,15 +125,16 @@ fn an_addition(rt: HostRuntime) -> Result<(), Fail> {
 end A up
 end B up
 ";
-    assert!(rt; text.as_slice() == wanted.as_bytes());
-    Ok(())
-}
 
 #[test]
-fn an_addition_summed_up(rt: HostRuntime) -> Result<(), Fail> {
-    let alloc = rt.alloc();
-    let text = summary_text(alloc, &addition(alloc)?)?;
-    let wanted = "events 4
+fn an_addition(rt: HostRuntime) {
+    let tables = calc(&rt, rt.alloc());
+    let transcript = addition(&rt, rt.alloc());
+    assert!(rt; is_printed(&rt, rt.alloc(), &tables, transcript, ADDITION));
+    drop(tables);
+}
+
+const SUMMED_UP: &'static str = "events 4
 octets A>B 11
 octets B>A 13
 values 2
@@ -113,36 +146,47 @@ refused 0
 end A up
 end B up
 ";
-    assert!(rt; text.as_slice() == wanted.as_bytes());
-    Ok(())
+
+#[test]
+fn an_addition_summed_up(rt: HostRuntime) {
+    let transcript = addition(&rt, rt.alloc());
+    let text = summary_text(rt.alloc(), &transcript).expect(&rt, "memory");
+    drop(transcript);
+    assert!(rt; text.as_slice() == SUMMED_UP.as_bytes());
 }
 
-/// Colours are printed by their names, of results by the invocation that was accepted.
-#[test]
-fn values_print_by_their_types(rt: HostRuntime) -> Result<(), Fail> {
-    let alloc = rt.alloc();
-    let module = "M {2 999 1} DEFINITIONS ::= BEGIN
+/// A module with an ENUMERATED.
+const COLOURS: &'static str = "M {2 999 1} DEFINITIONS ::= BEGIN
 ask OPERATION ::= {ARGUMENT INTEGER RESULT INTEGER CODE local:1}
 pick OPERATION ::= {RESULT ENUMERATED {red(0), light-blue(1)} CODE local:2}
 END
 ";
-    let Ok(tables) = read_module(alloc, module.as_bytes()) else {
-        assert!(rt; false, "the module isn't read");
-        return Ok(());
-    };
-    let mut entries = ListOf::new(alloc);
-    entries.push(call(Side::A, invoke(0, None), Err(CallRefusal::NotTyped)))?;
-    entries.push(call(Side::A, invoke(1, None), Ok(Some(1))))?;
+
+/// Calls of that module, of which the second is accepted.
+fn put_calls(rt: &impl Abort, entries: &mut Entries) {
+    let ask = call(Side::A, invoke(0, None), Err(CallRefusal::NotTyped));
+    entries.push(ask).expect(rt, "memory");
+    let pick = call(Side::A, invoke(1, None), Ok(Some(1)));
+    entries.push(pick).expect(rt, "memory");
     let answer = Call::Answer {
         id: 2,
         result: number(1),
     };
-    entries.push(call(Side::B, answer, Err(CallRefusal::NoInvocation(2))))?;
-    let result_shown = Indication::Result {
+    let refused = Err(CallRefusal::NoInvocation(2));
+    entries
+        .push(call(Side::B, answer, refused))
+        .expect(rt, "memory");
+}
+
+/// Its result comes, then a reject is sent, and the connection breaks.
+fn put_indications(rt: &impl Abort, alloc: Global, entries: &mut Entries) {
+    let shown = Indication::Result {
         id: 1,
         value: number(1),
     };
-    entries.push(carry(alloc, Side::B, &[], result_shown)?)?;
+    entries
+        .push(carry(rt, alloc, Side::B, &[], shown))
+        .expect(rt, "memory");
     let sent = Indication::RejectSent {
         id: None,
         problem: Problem {
@@ -150,11 +194,20 @@ END
             number: 1,
         },
     };
-    entries.push(carry(alloc, Side::A, &[0], sent)?)?;
-    entries.push(Entry::Break)?;
-    let transcript = of_bare_mode(entries);
-    let text = transcript_text(alloc, &tables, &transcript)?;
-    let wanted = "mode bare
+    entries
+        .push(carry(rt, alloc, Side::A, &[0], sent))
+        .expect(rt, "memory");
+    entries.push(Entry::Break).expect(rt, "memory");
+}
+
+fn of_colours(rt: &impl Abort, alloc: Global) -> Transcript {
+    let mut entries = ListOf::new(alloc);
+    put_calls(rt, &mut entries);
+    put_indications(rt, alloc, &mut entries);
+    of_bare_mode(entries)
+}
+
+const COLOURED: &'static str = "mode bare
 1 A invoke 0 ask
   refused NotTyped
 2 A invoke 0 pick
@@ -171,6 +224,12 @@ END
 end A up
 end B up
 ";
-    assert!(rt; text.as_slice() == wanted.as_bytes());
-    Ok(())
+
+/// Colours are printed by their names, of results by the invocation that was accepted.
+#[test]
+fn values_print_by_their_types(rt: HostRuntime) {
+    let tables = read_module(rt.alloc(), COLOURS.as_bytes()).expect(&rt, "the module is read");
+    let transcript = of_colours(&rt, rt.alloc());
+    assert!(rt; is_printed(&rt, rt.alloc(), &tables, transcript, COLOURED));
+    drop(tables);
 }
