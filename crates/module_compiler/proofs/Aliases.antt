@@ -1,5 +1,5 @@
 -- What stands behind aliases: over more turns the same.
-use Rattle.std.proofs.Common.{◌≡◌, ℕ, zero, suc, ◌+◌, ◌≤◌, true, List, [], ◌∷◌, ◌++◌, length, Option, Some, None, refl, sym, ap, subst, ◌∙◌, arith, inl, inr}
+use Rattle.std.proofs.Common.{◌≡◌, ℕ, zero, suc, ◌+◌, ◌-◌, ◌<◌, ◌≤◌, true, false, List, [], ◌∷◌, ◌++◌, length, Option, Some, None, refl, sym, ap, subst, ◌∙◌, arith, inl, inr}
 use Rattle.std.specs.Prelude.{replicate, slice_get, slice_set, ◌⊎◌}
 use Rattle.operation_notation.specs.Tree.{TypeTree}
 use Rattle.operation_notation.specs.declared.module.Assignment.{Assignment}
@@ -101,6 +101,47 @@ plain_here assignments t place (Some of) e = go (alias of) e
 pub behind_plain : (assignments : List Assignment) (place : ℕ) → is_plain (type_at assignments place) ≡ true → behind_by assignments (suc 0) place ≡ Some place
 unfolding behind_by
 behind_plain assignments place e = plain_here assignments 0 place (type_at assignments place) e
+
+-- ---- one alias after the other
+
+plain_by : (assignments : List Assignment) (t place : ℕ) → is_plain (type_at assignments place) ≡ true → behind_by assignments (suc t) place ≡ Some place
+unfolding behind_by
+plain_by assignments t place e = plain_here assignments t place (type_at assignments place) e
+
+stuck_here : (assignments : List Assignment) (t place : ℕ) (o : Option TypeTree) → is_plain o ≡ false → or_none (or_none o alias) (find assignments) ≡ None → or_none o (λ of. beyond assignments (behind_by assignments t) place of (alias of)) ≡ None
+stuck_here assignments t place None e h = refl
+stuck_here assignments t place (Some of) e h = go (alias of) e h
+  where
+    go : (n : Option (List ℕ)) → is_none n ≡ false → or_none n (find assignments) ≡ None → beyond assignments (behind_by assignments t) place of n ≡ None
+    go None f k = absurd cc
+    go (Some name) f k = ap (λ (p : Option ℕ). or_none p (behind_by assignments t)) k
+
+stuck : (assignments : List Assignment) (t place : ℕ) → is_plain (type_at assignments place) ≡ false → step assignments place ≡ None → behind_by assignments t place ≡ None
+unfolding behind_by
+stuck assignments zero place e h = refl
+stuck assignments (suc t) place e h = stuck_here assignments t place (type_at assignments place) e h
+
+module _ (assignments : List Assignment) (n t at : ℕ) (found : Option ℕ) (is : behind_by assignments (n - t) at ≡ found) where
+  -- a type stands at the place that was reached
+  pub sought_here : t < n → is_plain (type_at assignments at) ≡ true → Some at ≡ found
+  sought_here lt plain =
+      let one_more : n - t ≡ suc (n - t - 1) = omega arith in
+      sym (plain_by assignments (n - t - 1) at plain) ∙ ap (λ (k : ℕ). behind_by assignments k at) (sym one_more) ∙ is
+
+  -- an alias leads on
+  pub sought_on : (next : ℕ) → t < n → step assignments at ≡ Some next → behind_by assignments (n - (t + 1)) next ≡ found
+  sought_on next lt e =
+      let one_more : n - t ≡ suc (n - (t + 1)) = omega arith in
+      sym (behind_step assignments (n - (t + 1)) at next e) ∙ ap (λ (k : ℕ). behind_by assignments k at) (sym one_more) ∙ is
+
+  -- nothing stands there
+  pub sought_stuck : is_plain (type_at assignments at) ≡ false → step assignments at ≡ None → None ≡ found
+  sought_stuck plain e = sym (stuck assignments (n - t) at plain e) ∙ is
+
+  -- there are no more turns
+  pub sought_out : n ≤ t → None ≡ found
+  unfolding behind_by
+  sought_out le = let none : n - t ≡ 0 = omega arith in ap (λ (k : ℕ). behind_by assignments k at) (sym none) ∙ is
 
 -- what is found in some turns is found in more
 module _ (assignments : List Assignment) (f g : ℕ → Option ℕ) (place found : ℕ) (ih : (q : ℕ) → f q ≡ Some found → g q ≡ Some found) where

@@ -53,14 +53,14 @@ has_is seen None None d e = absurd cc
 abbrev IsOther : Codes → Code → Code → Type 0
 IsOther seen d e = (holds seen e ≡ false) × (same_code d e ≡ false)
 
-number_more : (all : List ℤ) (n m : ℤ) → has_number all n ≡ false → has_number (with_number all n) m ≡ false → (has_number all m ≡ false) × (int_eq n m ≡ false)
+pub number_more : (all : List ℤ) (n m : ℤ) → has_number all n ≡ false → has_number (with_number all n) m ≡ false → (has_number all m ≡ false) × (int_eq n m ≡ false)
 number_more all n m is_new e =
     let grown : with_number all n ≡ all ++ n ∷ [] = ap (λ (b : Bool). if b then all else all ++ n ∷ []) is_new in
     let none : list_any (int_eq m) (all ++ n ∷ []) ≡ false = sym (ap (λ (l : List ℤ). has_number l m) grown) ∙ e in
     let both = either_false (int_eq m n) (list_any (int_eq m) all) (sym (any_end (int_eq m) all n) ∙ none) in
     (both.1, int_swap m n both.0)
 
-list_more : (all : List (List ℕ)) (n m : List ℕ) → has_list all n ≡ false → has_list (with_list all n) m ≡ false → (has_list all m ≡ false) × (pointwise nat_eq n m ≡ false)
+pub list_more : (all : List (List ℕ)) (n m : List ℕ) → has_list all n ≡ false → has_list (with_list all n) m ≡ false → (has_list all m ≡ false) × (pointwise nat_eq n m ≡ false)
 list_more all n m is_new e =
     let grown : with_list all n ≡ all ++ n ∷ [] = ap (λ (b : Bool). if b then all else all ++ n ∷ []) is_new in
     let none : list_any (λ (x : List ℕ). pointwise nat_eq m x) (all ++ n ∷ []) ≡ false = sym (ap (λ (l : List (List ℕ)). has_list l m) grown) ∙ e in

@@ -4,8 +4,12 @@ pub mod Walks
 pub mod Slots
 pub mod Trails
 pub mod Faultless
+pub mod Tags
 pub mod Rows
+pub mod Parts
+pub mod Suited
 pub mod Walked
+pub mod Halting
 pub mod Tabled
 pub mod Least
 pub mod Examples

@@ -1,6 +1,6 @@
 -- Codes that were seen are those of the operations, or errors, that were passed.
-use Rattle.std.proofs.Common.{◌≡◌, ℕ, ◌+◌, ◌<◌, Bool, true, false, List, [], ◌∷◌, ◌++◌, length, take, get_or, refl, sym, ap, subst, ◌∙◌}
-use Rattle.std.proofs.lemmas.List.{take_more}
+use Rattle.std.proofs.Common.{◌≡◌, ℕ, suc, ◌+◌, ◌<◌, Bool, true, false, List, [], ◌∷◌, ◌++◌, length, take, drop, get_or, refl, sym, ap, subst, ◌∙◌, drop-cons}
+use Rattle.std.proofs.lemmas.List.{take_more, take-append-drop}
 use Rattle.std.specs.Prelude.{◌||◌, ◌&&◌, not, nat_eq, cond}
 use Rattle.std.specs.Ordering.{int_eq}
 use Rattle.std.specs.List.{list_any}
@@ -73,6 +73,41 @@ done_more code_of done x old new d lacks more = record {
   own = own_more code_of done x d.own (sym (d.seen_all (code_of x)) ∙ lacks);
   seen_all = λ code. more code ∙ ap (λ (b : Bool). same_code (code_of x) code || b) (d.seen_all code) ∙ sym (any_end (λ y. same_code (code_of y) code) done x);
 }
+
+-- ---- one with the code of another
+
+any_within : {X : Type 0} (t : X → Bool) (zs rest : List X) (x : X) → t x ≡ true → list_any t (zs ++ x ∷ rest) ≡ true
+any_within t [] rest x e = ap (λ (b : Bool). b || list_any t rest) e
+any_within t (z ∷ zs) rest x e = or_last (t z) (list_any t (zs ++ x ∷ rest)) (any_within t zs rest x e)
+  where
+    or_last : (a b : Bool) → b ≡ true → (a || b) ≡ true
+    or_last true b f = refl
+    or_last false b f = f
+
+not_and : (a b : Bool) → b ≡ false → (a && b) ≡ false
+not_and true b e = e
+not_and false b e = refl
+
+pub own_lost : {X : Type 0} (code_of : X → Code) (done rest : List X) (x : X) → list_any (λ y. same_code (code_of y) (code_of x)) done ≡ true → have_own_codes code_of (done ++ x ∷ rest) ≡ false
+own_lost code_of [] rest x e = absurd cc
+own_lost code_of (z ∷ zs) rest x e = go (same_code (code_of z) (code_of x)) refl (λ h. own_lost code_of zs rest x h) e
+  where
+    go : (b : Bool) → same_code (code_of z) (code_of x) ≡ b → (list_any (λ y. same_code (code_of y) (code_of x)) zs ≡ true → have_own_codes code_of (zs ++ x ∷ rest) ≡ false) → (b || list_any (λ y. same_code (code_of y) (code_of x)) zs) ≡ true → have_own_codes code_of (z ∷ (zs ++ x ∷ rest)) ≡ false
+    go true s more h = ap (λ (b : Bool). not b && have_own_codes code_of (zs ++ x ∷ rest)) (any_within (λ y. same_code (code_of z) (code_of y)) zs rest x s)
+    go false s more h = not_and (not (list_any (λ y. same_code (code_of z) (code_of y)) (zs ++ x ∷ rest))) (have_own_codes code_of (zs ++ x ∷ rest)) (more h)
+
+met_of : (b c : Bool) → b ≡ not c → b ≡ false → c ≡ true
+met_of b true e h = refl
+met_of true false e h = absurd cc
+met_of false false e h = absurd cc
+
+-- one whose code was seen
+pub done_lost : {X : Type 0} (code_of : X → Code) (xs : List X) (i : ℕ) (x : X) (old : Seen) (is_new : Bool) → i < length xs → x ≡ get_or xs i x → Done code_of (take i xs) old → is_new ≡ not (has old (code_of x)) → is_new ≡ false → have_own_codes code_of xs ≡ false
+done_lost {X = X} code_of xs i x old is_new lt is d first holds =
+    let met : list_any (λ y. same_code (code_of y) (code_of x)) (take i xs) ≡ true = sym (d.seen_all (code_of x)) ∙ met_of is_new (has old (code_of x)) first holds in
+    let whole : take i xs ++ x ∷ drop (suc i) xs ≡ xs =
+    ap (λ (z : X). take i xs ++ z ∷ drop (suc i) xs) is ∙ ap (λ (z : List X). take i xs ++ z) (sym (drop-cons xs i x lt)) ∙ take-append-drop i xs in
+    subst (λ (z : List X). have_own_codes code_of z ≡ false) whole (own_lost code_of (take i xs) (drop (suc i) xs) x met)
 
 lacks_of : (b c : Bool) → b ≡ not c → b ≡ true → c ≡ false
 lacks_of true true e h = absurd cc

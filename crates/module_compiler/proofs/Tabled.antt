@@ -5,6 +5,7 @@ use Rattle.std.specs.List.{AllByRecursion}
 use Rattle.std.proofs.lemmas.Bool.{ltb-false}
 use Rattle.std.proofs.lemmas.List.{append_assoc, length-map}
 use Rattle.asn1_types.specs.declared.row.TypeId.{TypeId}
+use Rattle.asn1_types.specs.Table.{AreSoundRows}
 use Rattle.notation_tokens.specs.declared.token.Located.{Located}
 use Rattle.operation_notation.specs.Tree.{TypeTree}
 use Rattle.operation_notation.specs.WellFormed.{IsWellUse, IsWellCode, IsWellBody, IsWellAssignment, IsWellFormed}
@@ -26,7 +27,7 @@ use Rattle.stub_tables.specs.declared.tables.Tables.{Tables}
 use Rattle.module_faults.specs.declared.kind.TableKind.{TableKind}
 use Rattle.module_faults.specs.declared.kind.TableKind.TheVariants as kinds
 use Rattle.module_faults.specs.declared.least.Found.{Found}
-use Rattle.module_faults.specs.Least.{at_name, if_so}
+use Rattle.module_faults.specs.Least.{at_name}
 use Rattle.module_faults.specs.Names.{or_none, find, assigned, typed, type_at}
 use Rattle.module_faults.specs.Met.{no_codes}
 use Rattle.module_faults.specs.Locals.{kind_at, no_error, no_operation, names_faults, use_faults, contradiction, no_code, body_faults, bodies_faults, own_code, double_names, double_codes}
@@ -40,9 +41,10 @@ use Rattle.module_compiler.specs.Refusals.{HasNoFault}
 use Rattle.module_compiler.specs.Tables.{AreTablesOf}
 use Rattle.module_compiler.specs.Scope.{Ground, numbered, own_numbers}
 use Rattle.module_compiler.specs.Numbering.{Numbered, after, give, type_row, use_of}
-use Rattle.module_compiler.specs.Tabling.{sort_test, number_if, number_by, code_by, code_of, numbers_of, operation_of, error_of, with_operation, with_error, body_of, assignment_of, walk_all, start, whole, whole_of}
+use Rattle.module_compiler.specs.Tabling.{sort_test, number_if, number_by, code_by, code_of, numbers_of, operation_of, error_of, with_operation, with_error, body_of, assignment_of, walk_all, ground_of, start, whole, whole_of, IsNoTable, have_codes}
 use Rattle.module_compiler.proofs.Faultless.{IsFine, AreFine}
 use Rattle.module_compiler.proofs.Codes.{Coded, no_more, passed, coded, coded_few, own_rows}
+use Rattle.module_compiler.proofs.Parts.{no_fault_if}
 use Rattle.module_compiler.proofs.Rows.{nothing_first, nothing_behind}
 use Rattle.module_compiler.proofs.Walked.{Good, Ended, fine_walked, behind_fine}
 
@@ -157,6 +159,7 @@ FineBody all env name (bodies.Error e) = FineError all env name e
 pub record HasRows (all : List Assignment) (ground : Ground) : Type 0 where
   pub whole : Whole
   pub is : whole_of ground ≡ Some whole
+  pub sound : AreSoundRows whole.types
   pub few_operations : length whole.operations ≤ length all
   pub few_errors : length whole.errors ≤ length all
   pub operation_codes : have_own_codes (λ o. o.code) whole.operations ≡ true
@@ -331,7 +334,7 @@ module _ (all : List Assignment) (recursive : ℕ → Bool) (implicit : Bool) (f
       }
 
   start_good : Fair (start all)
-  start_good = record { so = λ q id of e at. absurd (never_given (length all) q id e) }
+  start_good = record { sound = record { each = λ n row e. absurd cc; short = λ n row e. absurd cc }; so = λ q id of e at. absurd (never_given (length all) q id e) }
 
   pub whole_made : AllByRecursion (λ a. FineBody all env a.name a.body) all → double_codes false no_codes all ≡ [] → double_codes true no_codes all ≡ [] → HasRows all ground
   unfolding whole_of
@@ -345,6 +348,7 @@ module _ (all : List Assignment) (recursive : ℕ → Bool) (implicit : Bool) (f
       record {
         whole = record { types = w.ended.now.rows; operations = w.ended.value.operations; errors = w.ended.value.errors };
         is = ap whole w.ended.is;
+        sound = w.ended.good.sound;
         few_operations = subst (λ (l : List Operation). length l ≤ length all) (sym g.operations) (omega (arith, length-map g.own (λ (o : Operation). o.code)));
         few_errors = subst (λ (l : List ErrorRow). length l ≤ length all) (sym g.errors) (omega (arith, length-map g.others (λ (e : ErrorRow). e.code)));
         operation_codes = subst (λ (l : List Operation). have_own_codes (λ o. o.code) l ≡ true) (sym g.operations) (own_rows (λ (o : Operation). o.code) false all g.own g.codes operations);
@@ -352,10 +356,6 @@ module _ (all : List Assignment) (recursive : ℕ → Bool) (implicit : Bool) (f
       }
 
 -- ---- from a module's faults, of which there are none
-
-no_fault_if : (b : Bool) (f : Found) → if_so b f ≡ [] → b ≡ false
-no_fault_if true f e = absurd cc
-no_fault_if false f e = refl
 
 not_too_deep : (name : Located) (n : ℕ) → too_deep name n ≡ [] → n ≤ 32
 not_too_deep name n e = ltb-false 32 n (no_fault_if (is_too_deep n) (at_name name kinds.TooNested) e)
@@ -438,6 +438,28 @@ module _ (all : List Assignment) (recursive : ℕ → Bool) where
       let fine = fine_bodies all (nothing_first (bodies_faults all all) operations f_bodies) (nothing_behind (first_recursive recursive 0 all) shows f_recursion) well in
       whole_made all recursive implicit (record { says = says; none = nothing_first (first_recursive recursive 0 all) shows f_recursion; fine = types_fine all fine }) fine
       (nothing_first (double_codes false no_codes all) errors f_operations) (nothing_first (double_codes true no_codes all) recursion f_errors)
+
+-- the walk of such a module ends with rows that a table has, and with codes that differ
+pub ends_with_tables : (m : ModuleText) → HasNoFault m → IsWellFormed m → IsNoTable (whole_of (ground_of m)) → ⊥
+ends_with_tables m none well h =
+    let r = has_rows m.assignments none.recursive m.implicit none.says none.none well.assignments in
+    let no : AreSoundRows r.whole.types → ⊥ = subst IsNoTable r.is h in
+    no r.sound
+
+pub ends_with_codes : (m : ModuleText) (whole : Whole) → HasNoFault m → IsWellFormed m → whole_of (ground_of m) ≡ Some whole → have_codes whole ≡ false → ⊥
+ends_with_codes m whole none well is h =
+    let r = has_rows m.assignments none.recursive m.implicit none.says none.none well.assignments in
+    let same : r.whole ≡ whole = let e = sym r.is ∙ is in cc in
+    let own : have_codes r.whole ≡ true = rw (r.operation_codes, r.error_codes) refl in
+    let own_here : have_codes whole ≡ true = subst (λ (w : Whole). have_codes w ≡ true) same own in
+    cc
+
+pub rows_sound : (m : ModuleText) (tables : Tables) → IsWellFormed m → AreTablesOf m tables → AreSoundRows tables.types
+rows_sound m tables well t =
+    let r = has_rows m.assignments t.no_fault.recursive m.implicit t.no_fault.says t.no_fault.none well.assignments in
+    let given : Whole = record { types = tables.types; operations = tables.operations; errors = tables.errors } in
+    let same : r.whole ≡ given = let e : Some r.whole ≡ Some given = sym r.is ∙ t.rows in cc in
+    subst AreSoundRows (ap (λ (w : Whole). w.types) same) r.sound
 
 -- ---- the tables of a module
 

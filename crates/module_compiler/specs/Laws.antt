@@ -1,5 +1,6 @@
 -- The laws of modules that read.
 use Rattle.std.specs.Prelude.{◌≡◌, ◌⊎◌, ℕ, ◌<◌, ◌^◌, false, length}
+use Rattle.asn1_types.specs.Table.{AreSoundRows}
 use Rattle.operation_notation.specs.WellFormed.{IsWellFormed}
 use Rattle.operation_notation.specs.declared.module.ModuleText.{ModuleText}
 use Rattle.module_faults.specs.declared.kind.TableKind.{TableKind}
@@ -12,6 +13,10 @@ use Rattle.module_compiler.specs.Refusals.{IsFault, HasNoFault, HasFault}
 -- A well-formed module without a fault has tables.
 abbrev pub FaultlessHaveTables : Type 0
 FaultlessHaveTables = (m : ModuleText) → IsWellFormed m → length m.assignments < 2 ^ 32 → HasNoFault m → (tables : Tables) × AreTablesOf m tables
+
+-- The rows of a well-formed module without a fault are sound: a table takes each of them behind those before it.
+abbrev pub FaultlessRowsAreSound : Type 0
+FaultlessRowsAreSound = (m : ModuleText) (tables : Tables) → IsWellFormed m → AreTablesOf m tables → AreSoundRows tables.types
 
 -- This is one of the module's faults, and none of them comes before it.
 pub record IsLeast (m : ModuleText) (found : Found) : Type 0 where

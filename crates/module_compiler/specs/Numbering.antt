@@ -13,6 +13,7 @@ use Rattle.asn1_types.specs.declared.row.TypeRow.{TypeRow}
 use Rattle.asn1_types.specs.declared.row.TypeRow.TheVariants as rows
 use Rattle.asn1_types.specs.Numbered.{kind_numbered, class_numbered}
 use Rattle.asn1_types.specs.Limits.{most_octets, most_levels}
+use Rattle.asn1_types.specs.Table.{AreSoundRows}
 use Rattle.operation_notation.specs.Tree.{TypeTree, type_tree, PlainTree, boolean, null, integer, enumerated, octets, bits, object_id, text, sequence_of, set_of, sequence, set, choice, named, PartTrees, no_parts, part}
 use Rattle.operation_notation.specs.declared.module.TagText.{TagText}
 use Rattle.operation_notation.specs.declared.module.RangeText.{RangeText}
@@ -23,6 +24,7 @@ use Rattle.operation_notation.specs.declared.module.DfltValue.TheVariants as val
 use Rattle.operation_notation.specs.declared.module.UseText.{UseText}
 use Rattle.stub_tables.specs.declared.operation.Use.{Use}
 use Rattle.module_compiler.specs.declared.fault.Halt.{Halt}
+use Rattle.module_compiler.specs.declared.fault.Halt.TheVariants.{NoTables}
 use Rattle.module_faults.specs.Names.{or_none, find, type_at}
 use Rattle.module_compiler.specs.Scope.{Ground, behind}
 
@@ -49,10 +51,16 @@ give a s = Some (a, s)
 abbrev pub none : {A : Type 0} → Walk A
 none s = None
 
--- What a function returned, and the rows that it left, are what walking gives. Where it stops nothing is said of either.
+-- there are no rows, or rows that no table has, since it wouldn't take one of them
+abbrev pub HasNoTable : {A : Type 0} → Option (A × Numbered) → Type 0
+HasNoTable None = Unit {0}
+HasNoTable (Some p) = AreSoundRows p.1.rows → ⊥
+
+-- What a function returned, and the rows that it left, are what walking gives. Where it stops, memory was refused, or walking gives what
+-- has no table.
 abbrev pub Gives : {A : Type 0} → Result A Halt → Numbered → Option (A × Numbered) → Type 0
 Gives (Ok a) s found = found ≡ Some (a, s)
-Gives (Err e) s found = Unit {0}
+Gives (Err e) s found = e ≡ NoTables → HasNoTable found
 
 -- a row behind the others
 unfoldable pub add : TypeRow → Walk TypeId

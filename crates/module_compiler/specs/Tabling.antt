@@ -1,5 +1,5 @@
 -- The tables of a module (X.880 8): its types, and its operations and errors in the order of the text.
-use Rattle.std.specs.Prelude.{◌≡◌, ℕ, ◌+◌, ℤ, Bool, true, false, slice_get, Result, Ok, Err, List, [], ◌∷◌, ◌++◌, length, Option, Some, None, replicate}
+use Rattle.std.specs.Prelude.{◌≡◌, ℕ, ◌+◌, ℤ, Bool, true, false, ◌&&◌, slice_get, Result, Ok, Err, List, [], ◌∷◌, ◌++◌, length, Option, Some, None, replicate}
 use Rattle.notation_tokens.specs.declared.token.Located.{Located}
 use Rattle.operation_notation.specs.declared.module.Assignment.{Assignment}
 use Rattle.operation_notation.specs.declared.module.Body.{Body}
@@ -10,16 +10,19 @@ use Rattle.operation_notation.specs.declared.module.ErrText.{ErrText}
 use Rattle.operation_notation.specs.declared.module.ModuleText.{ModuleText}
 use Rattle.stub_tables.specs.declared.operation.Code.{Code}
 use Rattle.stub_tables.specs.declared.operation.Code.TheVariants as codes
+use Rattle.stub_tables.specs.Codes.{have_own_codes}
 use Rattle.stub_tables.specs.declared.operation.Operation.{Operation}
 use Rattle.stub_tables.specs.declared.operation.ErrorRow.{ErrorRow}
+use Rattle.asn1_types.specs.Table.{AreSoundRows}
 use Rattle.module_compiler.specs.declared.fault.Halt.{Halt}
+use Rattle.module_compiler.specs.declared.fault.Halt.TheVariants.{NoTables}
 use Rattle.module_compiler.specs.declared.tabling.Made.{Made}
 use Rattle.module_compiler.specs.declared.tabling.Whole.{Whole}
 use Rattle.module_compiler.specs.declared.tabling.Sort.{Sort}
 use Rattle.module_compiler.specs.declared.tabling.Sort.TheVariants as sorts
 use Rattle.module_faults.specs.Names.{or_none, find}
 use Rattle.module_compiler.specs.Scope.{Ground, behind, own_numbers}
-use Rattle.module_compiler.specs.Numbering.{Numbered, Walk, ◌>>=◌, give, none, row_behind, type_row, use_of}
+use Rattle.module_compiler.specs.Numbering.{Numbered, Walk, HasNoTable, ◌>>=◌, give, none, row_behind, type_row, use_of}
 
 -- whether a body is an operation's, or an error's
 abbrev pub sort_test : Sort → Body → Bool
@@ -101,7 +104,21 @@ whole (Some p) = Some (record { types = p.1.rows; operations = p.0.operations; e
 unfoldable pub whole_of : Ground → Option Whole
 whole_of scope = whole (walk_all scope 0 (record { operations = []; errors = [] }) scope.assignments (start scope.assignments))
 
--- what was made, and the rows that are left, are what walking gives
+-- What was made, and the rows that are left, are what walking gives. Where it stops, memory was refused, or walking gives what has no table.
 abbrev pub GivesMade : Result (Unit {0}) Halt → Made → Numbered → Option (Made × Numbered) → Type 0
 GivesMade (Ok u) made s found = found ≡ Some (made, s)
-GivesMade (Err e) made s found = Unit {0}
+GivesMade (Err e) made s found = e ≡ NoTables → HasNoTable found
+
+-- there is nothing, or rows that no table has
+abbrev pub IsNoTable : Option Whole → Type 0
+IsNoTable None = Unit {0}
+IsNoTable (Some whole) = AreSoundRows whole.types → ⊥
+
+-- The rows, operations and errors are those of a module. Where none are returned, memory was refused, or the module has none that a table has.
+abbrev pub GivesWhole : Result Whole Halt → Option Whole → Type 0
+GivesWhole (Ok whole) found = found ≡ Some whole
+GivesWhole (Err e) found = e ≡ NoTables → IsNoTable found
+
+-- each operation has a code of its own, and so has each error
+abbrev pub have_codes : Whole → Bool
+have_codes whole = have_own_codes (λ o. o.code) whole.operations && have_own_codes (λ e. e.code) whole.errors

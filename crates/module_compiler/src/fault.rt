@@ -1,6 +1,7 @@
 //! Why a module has no tables.
 
 ghost use Rattle.std.specs.Prelude.{◌≡◌};
+ghost use Rattle.module_compiler.specs.declared.fault.Halt.TheVariants as halts;
 ghost use Rattle.module_compiler.specs.declared.fault.TableFault.TheVariants as faults;
 
 use module_faults::TableKind;
@@ -56,23 +57,29 @@ impl From<NoMemory> for TableFault {
 pub(crate) enum Halt {
     /// Memory was refused.
     NoMemory,
-    /// A type has no row, or an operation or error none.
+    /// A type has no row that a table takes, or an operation or error has no row of its own.
     NoTables,
 }
 
 impl From<NoMemory> for Halt {
+    ghost from_gives = { λ _ e. e ≡ halts.NoMemory };
+
     fn from(_error: NoMemory) -> Halt {
         Halt::NoMemory
     }
 }
 
 impl<T: Drop> From<std::alloc::AllocFailed<T>> for Halt {
+    ghost from_gives = { λ _ e. e ≡ halts.NoMemory };
+
     fn from(_error: std::alloc::AllocFailed<T>) -> Halt {
         Halt::NoMemory
     }
 }
 
 impl From<std::alloc::AllocError> for Halt {
+    ghost from_gives = { λ _ e. e ≡ halts.NoMemory };
+
     fn from(_error: std::alloc::AllocError) -> Halt {
         Halt::NoMemory
     }

@@ -2,11 +2,16 @@
 
 ghost use Rattle.module_compiler.specs.Examples.{one};
 ghost use Rattle.module_compiler.specs.Refusals.{HasNoFault};
-ghost use Rattle.module_compiler.specs.Laws.{FaultlessHaveTables, RefusedAreLeast, FaultOrNone, NeverBoth};
+ghost use Rattle.module_compiler.specs.Laws.{FaultlessHaveTables, FaultlessRowsAreSound, RefusedAreLeast, FaultOrNone, NeverBoth};
 
 /// A well-formed module without a fault has tables.
 pub fn faultless_have_tables()
     ensures { FaultlessHaveTables }
+{}
+
+/// The rows of a well-formed module without a fault are sound: the table takes each of them.
+pub fn faultless_rows_are_sound()
+    ensures { FaultlessRowsAreSound }
 {}
 
 /// The least fault of a module is one of its faults, and none of them comes before it.

@@ -12,5 +12,8 @@ mod tabling;
 
 pub use compiling::compile;
 pub use fault::TableFault;
-pub use laws::{fault_or_none, faultless_have_tables, one_is_faultless, refused_are_least};
+pub use laws::{
+    fault_or_none, faultless_have_tables, faultless_rows_are_sound, one_is_faultless,
+    refused_are_least,
+};
 pub use module_faults::TableKind;

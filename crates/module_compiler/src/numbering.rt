@@ -1,6 +1,6 @@
 //! Numbering the types of a module.
 
-ghost use Rattle.std.specs.Prelude.{◌≡◌, ◌+◌, ℕ, List, Option, Some, None, length, map, replicate, slice_get, slice_set, IfOk, IfSome, OnErr, []};
+ghost use Rattle.std.specs.Prelude.{◌≡◌, ◌+◌, ℕ, List, Option, Some, None, length, map, replicate, slice_get, slice_set, IfOk, MatchResult, []};
 ghost use Rattle.std.specs.Option.{option_copied};
 ghost use Rattle.module_faults.specs.Names.{find, type_at, or_none};
 ghost use Rattle.module_compiler.specs.Scope.{behind};
@@ -183,7 +183,9 @@ impl Numbering {
     /// The default of a part.
     #[tactic(auto, unfolding(crate::specs::Numbering::default_number))]
     fn default_of(&self, of: TypeId, dflt: &Option<DfltText>) -> Result<Option<i64>, Halt>
-        ensures { IfOk result (λ default. default_number self.now.rows of dflt.now ≡ Some default) }
+        ensures { MatchResult result
+            (λ default. default_number self.now.rows of dflt.now ≡ Some default)
+            (λ _. default_number self.now.rows of dflt.now ≡ None) }
     {
         match dflt {
             None => Ok(None),

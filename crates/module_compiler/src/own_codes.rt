@@ -1,11 +1,11 @@
 //! Whether each operation, and each error, has a code of its own.
 
-ghost use Rattle.std.specs.Prelude.{◌≡◌, ◌||◌, not, false, Bool, IfOk, OnOk, IsTrue};
+ghost use Rattle.std.specs.Prelude.{◌≡◌, ◌||◌, not, false, Bool, IfOk, OnOk};
 ghost use Rattle.stub_tables.specs.Codes.{same_code, have_own_codes};
 ghost use Rattle.module_compiler.specs.Kept.{has};
 
-use crate::fault::Halt;
 use indexmap::IndexSet;
+use osi_base::NoMemory;
 use std::alloc::Global;
 use stub_tables::{Code, ErrorRow, Operation};
 
@@ -27,7 +27,7 @@ impl<'m> Seen<'m> {
     }
 
     /// Sees a code; whether it is seen for the first time.
-    fn see(&mut self, code: &'m Code) -> Result<bool, Halt>
+    fn see(&mut self, code: &'m Code) -> Result<bool, NoMemory>
         ensures first { IfOk result (λ is_new. is_new ≡ not (has self.old code.now)) }
         ensures seen { OnOk result ((other : _) → has self.new other
             ≡ (same_code code.now other || has self.old other)) }
@@ -43,9 +43,8 @@ impl<'m> Seen<'m> {
 pub(crate) fn operations_have_own_codes(
     alloc: Global,
     operations: &[Operation],
-) -> Result<bool, Halt>
-    ensures { IfOk result (λ own. IsTrue own →
-        IsTrue (have_own_codes (λ o. o.code) operations.now)) }
+) -> Result<bool, NoMemory>
+    ensures { IfOk result (λ own. own ≡ have_own_codes (λ o. o.code) operations.now) }
 {
     let mut seen = Seen::new(alloc);
     for operation in operations {
@@ -57,8 +56,11 @@ pub(crate) fn operations_have_own_codes(
 }
 
 /// Whether no two errors have one code.
-pub(crate) fn errors_have_own_codes(alloc: Global, errors: &[ErrorRow]) -> Result<bool, Halt>
-    ensures { IfOk result (λ own. IsTrue own → IsTrue (have_own_codes (λ e. e.code) errors.now)) }
+pub(crate) fn errors_have_own_codes(
+    alloc: Global,
+    errors: &[ErrorRow],
+) -> Result<bool, NoMemory>
+    ensures { IfOk result (λ own. own ≡ have_own_codes (λ e. e.code) errors.now) }
 {
     let mut seen = Seen::new(alloc);
     for error in errors {

@@ -100,6 +100,27 @@ fn is_type(assignments: &[Assignment], place: u32) -> bool
     }
 }
 
+/// The place of the type that stands behind the aliases from a place on, one alias after the
+/// other.
+#[tactic(auto, unfolding(crate::specs::Scope::behind))]
+fn sought_behind(
+    assignments: &[Assignment],
+    places: &IndexMap<&str, u32>,
+    place: u32,
+) -> Option<u32>
+    requires { AreFound assignments.now places.now }
+    ensures { result ≡ behind assignments.now place }
+{
+    let mut at = place;
+    for _turn in 0..assignments.len() {
+        if is_type(assignments, at) {
+            return Some(at);
+        }
+        at = next(assignments, places, at)?;
+    }
+    None
+}
+
 impl<'m> Scope<'m> {
     /// The scope of a module.
     pub fn new(alloc: Global, text: &'m ModuleText) -> Result<Scope<'m>, NoMemory>
@@ -140,13 +161,23 @@ impl<'m> Scope<'m> {
         place_of(&self.places, name)
     }
 
-    /// The place of the type that stands behind the aliases from a place on.
-    pub fn behind(&self, place: u32) -> Option<u32>
+    /// The place that is known to stand behind the aliases from a place on.
+    fn known_behind(&self, place: u32) -> Option<u32>
         ensures { IfSome result (λ found. behind self.now.assignments place ≡ Some found) }
     {
         match self.behind.get(place as usize)? {
             Some(found) if (found.aliases as usize) < self.assignments.len() => Some(found.place),
             _ => None,
+        }
+    }
+
+    /// The place of the type that stands behind the aliases from a place on.
+    pub fn behind(&self, place: u32) -> Option<u32>
+        ensures { result ≡ behind self.now.assignments place }
+    {
+        match self.known_behind(place) {
+            Some(found) => Some(found),
+            None => sought_behind(self.assignments, &self.places, place),
         }
     }
 

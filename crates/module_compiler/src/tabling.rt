@@ -4,7 +4,7 @@ ghost use Rattle.std.specs.Prelude.{◌≡◌, ◌+◌, ℕ, List, [], Option, S
 ghost use Rattle.std.specs.Option.{option_copied};
 ghost use Rattle.module_compiler.specs.Scope.{own_numbers};
 ghost use Rattle.module_compiler.specs.Numbering.{Gives};
-ghost use Rattle.module_compiler.specs.Tabling.{GivesMade, sort_test, number_by, numbers_of, code_of, operation_of, error_of, assignment_of, walk_all, whole_of};
+ghost use Rattle.module_compiler.specs.Tabling.{GivesMade, GivesWhole, sort_test, number_by, numbers_of, code_of, operation_of, error_of, assignment_of, walk_all, whole_of};
 
 use crate::fault::Halt;
 use crate::numbering::Numbering;
@@ -12,7 +12,7 @@ use crate::scope::Scope;
 use asn1_types::TypeTable;
 use notation_tokens::Located;
 use operation_notation::{Assignment, Body, CodeText, ErrText, OpText};
-use osi_base::{Copied, Indices};
+use osi_base::{Copied, Indices, NoMemory};
 use std::alloc::Global;
 use stub_tables::{Code, ErrorRow, ErrorRows, Operation, Operations};
 
@@ -50,7 +50,7 @@ fn is_of(sort: Sort, body: &Body) -> bool
 }
 
 /// The numbers of operations and errors, each among its sort, by the places of their assignments.
-fn numbers(alloc: Global, assignments: &[Assignment]) -> Result<Vec<u32>, Halt>
+fn numbers(alloc: Global, assignments: &[Assignment]) -> Result<Vec<u32>, NoMemory>
     ensures { IfOk result (λ of. of.items ≡ own_numbers 0 0 assignments.now) }
 {
     let mut of = Vec::new(alloc);
@@ -63,14 +63,14 @@ fn numbers(alloc: Global, assignments: &[Assignment]) -> Result<Vec<u32>, Halt>
             Body::Operation(_) => {
                 of.push(operations)?;
                 if operations == u32::MAX {
-                    return Err(Halt::NoMemory);
+                    return Err(NoMemory);
                 }
                 operations += 1;
             }
             Body::Error(_) => {
                 of.push(errors)?;
                 if errors == u32::MAX {
-                    return Err(Halt::NoMemory);
+                    return Err(NoMemory);
                 }
                 errors += 1;
             }
@@ -82,20 +82,16 @@ fn numbers(alloc: Global, assignments: &[Assignment]) -> Result<Vec<u32>, Halt>
 
 /// The number of the operation, or of the error, of a name.
 #[tactic(auto, unfolding(crate::specs::Tabling::number_by))]
-fn number_of(scope: &Scope<'_>, numbers: &[u32], sort: Sort, name: &Located) -> Result<u32, Halt>
+fn number_of(scope: &Scope<'_>, numbers: &[u32], sort: Sort, name: &Located) -> Option<u32>
     requires { numbers.now ≡ own_numbers 0 0 scope.now.assignments }
-    ensures { IfOk result (λ n. number_by (sort_test sort) scope.now.assignments name.now.text
-        ≡ Some n) }
+    ensures { result ≡ number_by (sort_test sort) scope.now.assignments name.now.text }
 {
-    let Some(place) = scope.find(&name.text) else {
-        return Err(Halt::NoTables);
-    };
-    match (
-        scope.assignments().get(place as usize),
-        numbers.get(place as usize),
-    ) {
-        (Some(assignment), Some(number)) if is_of(sort, &assignment.body) => Ok(*number),
-        _ => Err(Halt::NoTables),
+    let place = scope.find(&name.text)?;
+    let assignment = scope.assignments().get(place as usize)?;
+    if is_of(sort, &assignment.body) {
+        numbers.get(place as usize).copied()
+    } else {
+        None
     }
 }
 
@@ -109,19 +105,25 @@ fn numbers_of(
     names: &[Located],
 ) -> Result<Indices, Halt>
     requires { numbers.now ≡ own_numbers 0 0 scope.now.assignments }
-    ensures { IfOk result (λ of. numbers_of (sort_test sort) scope.now.assignments [] names.now
-        ≡ Some of) }
+    ensures { MatchResult result
+        (λ of. numbers_of (sort_test sort) scope.now.assignments [] names.now ≡ Some of)
+        (λ e. e ≡ Halt.NoTables →
+            numbers_of (sort_test sort) scope.now.assignments [] names.now ≡ None) }
 {
     let mut of = Indices::new(alloc);
     for name in names {
-        of.push(number_of(scope, numbers, sort, name)?)?;
+        let Some(number) = number_of(scope, numbers, sort, name) else {
+            return Err(Halt::NoTables);
+        };
+        of.push(number)?;
     }
     Ok(of)
 }
 
 /// The code that is written.
 fn code_of(alloc: Global, text: &Option<CodeText>) -> Result<Code, Halt>
-    ensures { IfOk result (λ code. code_of text.now ≡ Some code) }
+    ensures { MatchResult result (λ code. code_of text.now ≡ Some code)
+        (λ e. e ≡ Halt.NoTables → code_of text.now ≡ None) }
 {
     match text {
         None => Err(Halt::NoTables),
@@ -249,7 +251,7 @@ fn assign_all(
 /// The rows, the operations and the errors of a module.
 #[tactic(auto, unfolding(crate::specs::Tabling::whole_of))]
 pub(crate) fn tabled(alloc: Global, scope: &Scope<'_>) -> Result<Whole, Halt>
-    ensures { IfOk result (λ whole. whole_of scope.now ≡ Some whole) }
+    ensures { GivesWhole result (whole_of scope.now) }
 {
     let assignments = scope.assignments();
     let numbers = numbers(alloc, assignments)?;

@@ -5,7 +5,7 @@ use Rattle.module_compiler.specs.Scope.{Ground, behind}
 use Rattle.std.proofs.lemmas.Bool.{ltb-true}
 use Rattle.module_compiler.proofs.Slots.{slot_of}
 use Rattle.module_compiler.proofs.Aliases.{behind_enough}
-use Rattle.module_compiler.proofs.scope.Scope.behind.Goals as goal
+use Rattle.module_compiler.proofs.scope.Scope.known_behind.Goals as goal
 
 pub returns-in-Some : goal.returns-in-Some
 returns-in-Some c =
