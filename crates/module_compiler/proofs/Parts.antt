@@ -22,7 +22,6 @@ use Rattle.operation_notation.specs.declared.module.DfltText.{DfltText}
 use Rattle.operation_notation.specs.declared.module.ItemText.{ItemText}
 use Rattle.module_faults.specs.declared.kind.TableKind.TheVariants as kinds
 use Rattle.module_faults.specs.declared.least.Found.{Found}
-use Rattle.module_faults.specs.declared.tags.Tag.{Tag}
 use Rattle.module_faults.specs.Least.{fault, at_name, if_so}
 use Rattle.module_faults.specs.Met.{has_list, with_list, has_number, with_number}
 use Rattle.module_faults.specs.Locals.{end_faults, item_faults, part_faults}
@@ -199,27 +198,27 @@ module _ (facts : TypeTree → Facts) where
 
     -- ---- tags
 
-    tags_keep : (before : List Tag) (texts : PartTrees) (x : Tag) → has_tag before x ≡ true → has_tag (parts_tags facts false before texts) x ≡ true
+    tags_keep : (before : List _) (texts : PartTrees) (x : _) → has_tag before x ≡ true → has_tag (parts_tags facts false before texts) x ≡ true
     tags_keep before no_parts x e = e
     tags_keep before (part name of optional dflt texts) x e = tags_keep (with_tags before (facts of).tags) texts x (kept_tags before (facts of).tags x e)
 
     -- the tags of alternatives are among those of their CHOICE
-    pub choice_among : (before : List Tag) (texts : PartTrees) (ps : List Part) → AreMade facts all texts ps → AreAmong (parts_tags facts false before texts) (flat_map (λ (p : Part). openings all p.inner.0) ps)
+    pub choice_among : (before : List _) (texts : PartTrees) (ps : List Part) → AreMade facts all texts ps → AreAmong (parts_tags facts false before texts) (flat_map (λ (p : Part). openings all p.inner.0) ps)
     choice_among before no_parts [] h = tt
     choice_among before no_parts (p ∷ ps) h = absurd h
     choice_among before (part name of optional dflt texts) [] h = absurd h
     choice_among before (part name of optional dflt texts) (p ∷ ps) h =
-        let now : List Tag = with_tags before (facts of).tags in
+        let now = with_tags before (facts of).tags in
         let here : AreAmong now (openings all p.inner.0) = among_new before (facts of).tags (openings all p.inner.0) h.0.row.nests.opens in
         among_append (parts_tags facts false now texts) (openings all p.inner.0) (flat_map (λ (q : Part). openings all q.inner.0) ps) (among_more now (parts_tags facts false now texts) (tags_keep now texts) (openings all p.inner.0) here) (choice_among now texts ps h.1)
 
     module _ (shows : TypeTree → List Found) where
       -- what is seen of the first part and of the others
-      record FirstShown (runs : Bool) (before : List Tag) (of : TypeTree) (optional : Bool) (dflt : Option DfltText) (texts : PartTrees) : Type 0 where
+      record FirstShown (runs : Bool) (before : List _) (of : TypeTree) (optional : Bool) (dflt : Option DfltText) (texts : PartTrees) : Type 0 where
         apart : clash_of before (facts of).tags ≡ false
         rest : parts_show facts shows runs (tags_behind runs optional dflt (with_tags before (facts of).tags)) texts ≡ []
 
-      first_shown : (runs : Bool) (before : List Tag) (name : Located) (of : TypeTree) (optional : Bool) (dflt : Option DfltText) (texts : PartTrees) → parts_show facts shows runs before (part name of optional dflt texts) ≡ [] → FirstShown runs before of optional dflt texts
+      first_shown : (runs : Bool) (before : List _) (name : Located) (of : TypeTree) (optional : Bool) (dflt : Option DfltText) (texts : PartTrees) → parts_show facts shows runs before (part name of optional dflt texts) ≡ [] → FirstShown runs before of optional dflt texts
       first_shown runs before name of optional dflt texts e =
           let met : List Found = if_so (clash_of before (facts of).tags) (at_name name kinds.TagsNotDistinct) in
           let own : List Found = met ++ default_faults (facts of).base dflt in
@@ -231,7 +230,7 @@ module _ (facts : TypeTree → Facts) where
           }
 
       -- a part whose tags stand before is told from all that follow
-      told_apart : (one : Part) (before : List Tag) (texts : PartTrees) (ps : List Part) → AreMade facts all texts ps → AreAmong before (openings all one.inner.0) → parts_show facts shows false before texts ≡ [] → list_any (clash (openings all) one) ps ≡ false
+      told_apart : (one : Part) (before : List _) (texts : PartTrees) (ps : List Part) → AreMade facts all texts ps → AreAmong before (openings all one.inner.0) → parts_show facts shows false before texts ≡ [] → list_any (clash (openings all) one) ps ≡ false
       told_apart one before no_parts [] h among e = refl
       told_apart one before no_parts (p ∷ ps) h among e = absurd h
       told_apart one before (part name of optional dflt texts) [] h among e = absurd h
@@ -241,19 +240,19 @@ module _ (facts : TypeTree → Facts) where
           (all_apart before (facts of).tags f.apart (openings all one.inner.0) (openings all p.inner.0) among h.0.row.nests.opens)
           (told_apart one (with_tags before (facts of).tags) texts ps h.1 (among_kept before (facts of).tags (openings all one.inner.0) among) f.rest)
 
-      pub tags_apart : (before : List Tag) (texts : PartTrees) (ps : List Part) → AreMade facts all texts ps → parts_show facts shows false before texts ≡ [] → agrees_later (clash (openings all)) ps ≡ false
+      pub tags_apart : (before : List _) (texts : PartTrees) (ps : List Part) → AreMade facts all texts ps → parts_show facts shows false before texts ≡ [] → agrees_later (clash (openings all)) ps ≡ false
       tags_apart before no_parts [] h e = refl
       tags_apart before no_parts (p ∷ ps) h e = absurd h
       tags_apart before (part name of optional dflt texts) [] h e = absurd h
       tags_apart before (part name of optional dflt texts) (p ∷ ps) h e =
           let f = first_shown false before name of optional dflt texts e in
-          let now : List Tag = with_tags before (facts of).tags in
+          let now = with_tags before (facts of).tags in
           neither (list_any (clash (openings all) p) ps) (agrees_later (clash (openings all)) ps)
           (told_apart p now texts ps h.1 (among_new before (facts of).tags (openings all p.inner.0) h.0.row.nests.opens) f.rest)
           (tags_apart now texts ps h.1 f.rest)
 
       -- behind a part that may be absent the tags that stand before stay
-      stay_behind : (optional : Bool) (dflt : Option DfltText) (tags : List Tag) → (optional || is_some dflt) ≡ true → tags_behind true optional dflt tags ≡ tags
+      stay_behind : (optional : Bool) (dflt : Option DfltText) (tags : List _) → (optional || is_some dflt) ≡ true → tags_behind true optional dflt tags ≡ tags
       stay_behind true dflt tags e = refl
       stay_behind false None tags e = absurd cc
       stay_behind false (Some d) tags e = refl
@@ -266,14 +265,14 @@ module _ (facts : TypeTree → Facts) where
       only_if false b h = refl
 
       -- the rest of what is shown, where a part may be absent
-      still_shown : (p : Part) (before : List Tag) (of : TypeTree) (optional : Bool) (dflt : Option DfltText) (texts : PartTrees) → p.optional ≡ optional → has_default p.default ≡ is_some dflt → FirstShown true before of optional dflt texts → may_be_absent p ≡ true
+      still_shown : (p : Part) (before : List _) (of : TypeTree) (optional : Bool) (dflt : Option DfltText) (texts : PartTrees) → p.optional ≡ optional → has_default p.default ≡ is_some dflt → FirstShown true before of optional dflt texts → may_be_absent p ≡ true
           → parts_show facts shows true (with_tags before (facts of).tags) texts ≡ []
       still_shown p before of optional dflt texts lacking written f absent =
-          sym (ap (λ (t : List Tag). parts_show facts shows true t texts) (stay_behind optional dflt (with_tags before (facts of).tags) (sym (absent_as p optional dflt lacking written) ∙ absent)))
+          sym (ap (λ t. parts_show facts shows true t texts) (stay_behind optional dflt (with_tags before (facts of).tags) (sym (absent_as p optional dflt lacking written) ∙ absent)))
           ∙ f.rest
 
       -- a part whose tags stand before is told from the run that follows
-      told_in_run : (one : Part) (before : List Tag) (texts : PartTrees) (ps : List Part) → AreMade facts all texts ps → AreAmong before (openings all one.inner.0) → parts_show facts shows true before texts ≡ [] → clashes_in_run (clash (openings all)) one ps ≡ false
+      told_in_run : (one : Part) (before : List _) (texts : PartTrees) (ps : List Part) → AreMade facts all texts ps → AreAmong before (openings all one.inner.0) → parts_show facts shows true before texts ≡ [] → clashes_in_run (clash (openings all)) one ps ≡ false
       told_in_run one before no_parts [] h among e = refl
       told_in_run one before no_parts (p ∷ ps) h among e = absurd h
       told_in_run one before (part name of optional dflt texts) [] h among e = absurd h
@@ -284,7 +283,7 @@ module _ (facts : TypeTree → Facts) where
           (only_if (may_be_absent p) (clashes_in_run (clash (openings all)) one ps)
           (λ absent. told_in_run one (with_tags before (facts of).tags) texts ps h.1 (among_kept before (facts of).tags (openings all one.inner.0) among) (still_shown p before of optional dflt texts h.0.lacking h.0.written f absent)))
 
-      pub runs_apart : (before : List Tag) (texts : PartTrees) (ps : List Part) → AreMade facts all texts ps → parts_show facts shows true before texts ≡ [] → clashes_in_sequence (clash (openings all)) ps ≡ false
+      pub runs_apart : (before : List _) (texts : PartTrees) (ps : List Part) → AreMade facts all texts ps → parts_show facts shows true before texts ≡ [] → clashes_in_sequence (clash (openings all)) ps ≡ false
       runs_apart before no_parts [] h e = refl
       runs_apart before no_parts (p ∷ ps) h e = absurd h
       runs_apart before (part name of optional dflt texts) [] h e = absurd h
