@@ -1,5 +1,5 @@
 -- Items of a list by their places.
-use Rattle.std.proofs.Common.{◌≡◌, ℕ, zero, suc, ◌+◌, ◌<◌, List, [], ◌∷◌, ◌++◌, length, drop, get_or, Option, Some, Bool, sym, ap, ◌∙◌, arith}
+use Rattle.std.proofs.Common.{◌≡◌, ℕ, zero, suc, ◌+◌, ◌<◌, List, [], ◌∷◌, ◌++◌, length, drop, get_or, Option, Some, None, Bool, sym, ap, ◌∙◌, arith}
 use Rattle.std.specs.Prelude.{slice_get}
 use Rattle.notation_tokens.specs.declared.token.Located.{Located}
 use Rattle.operation_notation.specs.declared.module.Assignment.{Assignment}
@@ -18,6 +18,12 @@ drop_one {X = X} (y ∷ ys) zero x lt e = ap (λ (z : X). z ∷ ys) (sym e)
 drop_one (y ∷ ys) (suc i) x lt e =
     let same : suc (i + 1) ≡ suc i + 1 = omega arith in
     drop_one ys i x (omega arith) e ∙ ap (λ (k : ℕ). x ∷ drop k (y ∷ ys)) same
+
+pub numbers_stop : (is : Body → Bool) (assignments : List Assignment) (names : List Located) (i : ℕ) (x : Located) (so_far : List ℕ) → i < length names → x ≡ get_or names i x → number_by is assignments x.text ≡ None → numbers_of is assignments so_far (drop i names) ≡ None
+unfolding numbers_of
+numbers_stop is assignments names i x so_far lt e none =
+    ap (λ (l : List Located). numbers_of is assignments so_far l) (drop_one names i x lt e)
+    ∙ ap (λ (o : Option ℕ). or_none o (λ m. numbers_of is assignments (so_far ++ m ∷ []) (drop (i + 1) names))) none
 
 pub numbers_step : (is : Body → Bool) (assignments : List Assignment) (names : List Located) (i : ℕ) (x : Located) (so_far next : List ℕ) (n : ℕ) → i < length names → x ≡ get_or names i x → number_by is assignments x.text ≡ Some n → next ≡ so_far ++ n ∷ []
     → numbers_of is assignments next (drop (i + 1) names) ≡ numbers_of is assignments so_far (drop i names)

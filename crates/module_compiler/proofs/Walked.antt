@@ -140,7 +140,7 @@ module _ (all : List Assignment) (recursive : ℕ → Bool) (implicit : Bool) (f
       let explicit : Bool = is_explicit ground tag w.id w.now in
       let row : TypeRow = tag_row explicit tag w.id class.0 in
       let over : Facts = tagged_facts (Some tag) facts in
-      let suits = suited.suits_tagged w.now.rows class.0 tag explicit w.id facts class.1.1 good_tag well.number w.has.nests deep in
+      let suits : Suits w.now.rows row over = suited.suits_tagged w.now.rows class.0 tag explicit w.id facts class.1.1 good_tag well.number w.has.nests deep in
       let v = added row over w.now w.good suits (tag_has w.now.rows class.0 tag.number explicit w.id facts over w.good.sound suits w.has (deeper_is facts.nesting deep) refl) in
       record {
         id = v.id;

@@ -40,6 +40,16 @@ impl Model for Numbering {
     ghost view = { λ n. record { rows = n.types; given = n.given.items } };
 }
 
+/// Why a walk halts where a table refuses a row.
+fn halt_of(refusal: RowRefusal) -> Halt
+    ensures { refusal ≡ RowRefusal.NoMemory → result ≡ Halt.NoMemory }
+{
+    match refusal {
+        RowRefusal::NoMemory => Halt::NoMemory,
+        _ => Halt::NoTables,
+    }
+}
+
 impl Numbering {
     /// No rows yet, for so many assignments.
     pub fn new(alloc: Global, assignments: usize) -> Result<Numbering, NoMemory>
@@ -61,8 +71,7 @@ impl Numbering {
     {
         match self.types.add(row) {
             Ok(id) => Ok(id),
-            Err(RowRefusal::NoMemory) => Err(Halt::NoMemory),
-            Err(_) => Err(Halt::NoTables),
+            Err(refusal) => Err(halt_of(refusal)),
         }
     }
 
