@@ -73,6 +73,13 @@ memory_stops r s found h = let p = err_from_is_err_and r h in rw p.1 (λ is. abs
 pub halt_stops : {A : Type 0} (r : Result A Halt) (s : Numbered) (found : Option (A × Numbered)) (e : Halt) → IsErrAnd r (λ x. x ≡ e) → (e ≡ halts.NoTables → HasNoTable found) → Gives r s found
 halt_stops r s found e h none = let p = err_from_is_err_and r h in rw p.1 (λ is. none (sym p.2 ∙ is))
 
+-- a table refused a row
+pub row_stops : (r : Result TypeId Halt) (s now : Numbered) (row : TypeRow) (e : RowRefusal) → IsErrAnd r (λ h. e ≡ refusals.NoMemory → h ≡ halts.NoMemory) → IsRefused (refusal s.rows row) e → Gives r now (add row s)
+unfolding add
+row_stops r s now row e h refused =
+    let p = err_from_is_err_and r h in
+    rw p.1 (λ is. refused_row s.rows row (is_refused (refusal s.rows row) e refused (λ m. let other : halts.NoMemory ≡ halts.NoTables = sym (p.2 m) ∙ is in cc)))
+
 pub made_stops : (r : Result (Unit {0}) Halt) (made : Made) (s : Numbered) (found : Option (Made × Numbered)) (e : Halt) → IsErrAnd r (λ x. x ≡ e) → (e ≡ halts.NoTables → HasNoTable found) → GivesMade r made s found
 made_stops r made s found e h none = let p = err_from_is_err_and r h in rw p.1 (λ is. none (sym p.2 ∙ is))
 

@@ -1,6 +1,6 @@
 -- The parts that are made of a type's parts, and its items: their names, numbers, tags and defaults, as its faults say.
-use Rattle.std.proofs.Common.{◌≡◌, ℕ, zero, suc, ◌+◌, ◌≤◌, ◌<◌, Bool, true, false, List, [], ◌∷◌, ◌++◌, length, Option, None, Some, refl, sym, ap, subst, ◌∙◌, arith, ℤ, pos, negsuc}
-use Rattle.std.specs.Prelude.{◌||◌, ◌&&◌, not, nat_eq, nat_lt, max, map, is_some, IfSome, if◌then◌else◌}
+use Rattle.std.proofs.Common.{◌≡◌, ℕ, zero, suc, ◌+◌, ◌≤◌, ◌<◌, Bool, true, false, List, [], ◌∷◌, ◌++◌, length, Option, None, Some, refl, sym, ap, ◌∙◌, arith, ℤ, pos, negsuc}
+use Rattle.std.specs.Prelude.{◌||◌, ◌&&◌, not, nat_eq, max, map, is_some, IfSome, if◌then◌else◌}
 use Rattle.std.specs.List.{list_any, flat_map, AllByRecursion}
 use Rattle.std.specs.Ordering.{int_eq}
 use Rattle.std.specs.Cmp.Lexicographic.{pointwise}
@@ -12,7 +12,7 @@ use Rattle.asn1_types.specs.declared.row.Item.{Item}
 use Rattle.asn1_types.specs.declared.row.Part.{Part}
 use Rattle.asn1_types.specs.declared.row.TypeRow.{TypeRow}
 use Rattle.asn1_types.specs.declared.row.TypeRow.TheVariants as rows
-use Rattle.asn1_types.specs.Rows.{rows_of_parts, greatest, nesting, Opening, meets, openings}
+use Rattle.asn1_types.specs.Rows.{rows_of_parts, greatest, nesting, openings}
 use Rattle.asn1_types.specs.Defaults.{same_number, has_default, may_be_absent, takes_default, is_bad, is_bad_part, is_bad_alternative}
 use Rattle.asn1_types.specs.Table.{first_from, same_name, items_agree, parts_agree, agrees_later, clash, clashes_in_run, clashes_in_sequence, AreSoundRows}
 use Rattle.asn1_types.proofs.Names.{same_name_is}
@@ -22,12 +22,12 @@ use Rattle.operation_notation.specs.declared.module.DfltText.{DfltText}
 use Rattle.operation_notation.specs.declared.module.ItemText.{ItemText}
 use Rattle.module_faults.specs.declared.kind.TableKind.TheVariants as kinds
 use Rattle.module_faults.specs.declared.least.Found.{Found}
-use Rattle.module_faults.specs.Least.{fault, at_name, if_so}
+use Rattle.module_faults.specs.Least.{at_name, if_so}
 use Rattle.module_faults.specs.Met.{has_list, with_list, has_number, with_number}
 use Rattle.module_faults.specs.Locals.{end_faults, item_faults, part_faults}
 use Rattle.module_faults.specs.Facts.{Facts, has_tag, with_tags, clash as clash_of, tags_behind, default_faults, parts_nesting, parts_tags, parts_show}
 use Rattle.module_compiler.specs.Numbering.{item_of}
-use Rattle.module_compiler.proofs.Tags.{or_second, neither, AreAmong, among_more, among_kept, among_new, among_append, kept_tags, all_apart}
+use Rattle.module_compiler.proofs.Tags.{neither, AreAmong, among_more, among_kept, among_new, among_append, kept_tags, all_apart}
 use Rattle.module_compiler.proofs.OwnCodes.{either_false}
 use Rattle.module_compiler.proofs.Codes.{number_more, list_more}
 use Rattle.module_compiler.proofs.Rows.{nothing_first, nothing_behind, HasRow, SuitsBase, IsMade, takes_suited, nesting_from}
@@ -71,8 +71,7 @@ others_apart names numbers one [] f g h = (tt, tt)
 others_apart names numbers one (x ∷ xs) f g h =
     let name = list_more names one.name x.name f h.0.0 in
     let number = number_more numbers one.number x.number g h.0.1 in
-    let rest = others_apart names numbers one xs f g h.1 in
-    (
+    let rest = others_apart names numbers one xs f g h.1 in (
       ((name.0, number.0), rest.0),
       (neither (same_name one.name x.name) (same_number one.number x.number) (name_differs one.name x.name name.1) (number_differs one.number x.number number.1), rest.1),
     )

@@ -1,6 +1,6 @@
 -- In a module without a fault each type has a row: walking it ends with one, at most 65 types deep.
 use Rattle.std.proofs.Common.{◌≡◌, ℕ, zero, suc, pos, negsuc, ◌+◌, ◌*◌, ◌≤◌, ◌<◌, Bool, true, false, List, [], ◌∷◌, ◌++◌, length, Option, None, Some, refl, sym, ap, subst, ◌∙◌, arith, ℤ, length-append}
-use Rattle.std.specs.Prelude.{◌||◌, ◌&&◌, not, nat_eq, nat_le, max, map, slice_get, option_map, is_some, IfSome, if◌then◌else◌}
+use Rattle.std.specs.Prelude.{◌||◌, not, nat_le, max, map, slice_get, option_map, is_some, IfSome, if◌then◌else◌}
 use Rattle.std.specs.List.{AllByRecursion}
 use Rattle.std.specs.Str.{bytes_eq}
 use Rattle.std.proofs.lemmas.Bool.{leb-false, eq-eqb}

@@ -1,6 +1,6 @@
 -- Rows that the walk of a type without a fault makes may stand behind the rows that there are: the table takes them.
-use Rattle.std.proofs.Common.{◌≡◌, ℕ, zero, suc, ◌+◌, ◌^◌, ◌≤◌, ◌<◌, Bool, true, false, List, [], ◌∷◌, ◌++◌, length, Option, None, Some, refl, sym, ap, subst, ◌∙◌, arith, ℤ, pos}
-use Rattle.std.specs.Prelude.{◌||◌, ◌&&◌, ◌==◌, nat_eq, nat_lt, map, int_lt, if◌then◌else◌}
+use Rattle.std.proofs.Common.{◌≡◌, ℕ, suc, ◌+◌, ◌^◌, ◌≤◌, ◌<◌, Bool, true, false, List, [], ◌∷◌, length, Option, None, Some, refl, ap, ◌∙◌, arith, ℤ}
+use Rattle.std.specs.Prelude.{◌&&◌, nat_eq, nat_lt, map, if◌then◌else◌}
 use Rattle.std.proofs.lemmas.Bool.{lt-ltb, le-ltb, ne_eqb}
 use Rattle.asn1_types.specs.declared.row.Class.{Class}
 use Rattle.asn1_types.specs.declared.row.Part.{Part}
@@ -13,7 +13,7 @@ use Rattle.asn1_types.specs.Rows.{names_of, rows_of_parts, greatest, nesting_by,
 use Rattle.asn1_types.specs.Defaults.{takes_default, has_bad_default}
 use Rattle.asn1_types.specs.Table.{first_from, is_bad_range, is_double_name, has_clash, refusal, AreSoundRows}
 use Rattle.operation_notation.specs.Tree.{TypeTree, PartTrees}
-use Rattle.operation_notation.specs.WellFormed.{IsTag, AreWellParts, HasPart}
+use Rattle.operation_notation.specs.WellFormed.{AreWellParts, HasPart}
 use Rattle.operation_notation.specs.declared.module.ItemText.{ItemText}
 use Rattle.operation_notation.specs.declared.module.RangeText.{RangeText}
 use Rattle.operation_notation.specs.declared.module.TagText.{TagText}
@@ -21,7 +21,7 @@ use Rattle.module_faults.specs.declared.kind.TableKind.TheVariants as kinds
 use Rattle.module_faults.specs.declared.least.Found.{Found}
 use Rattle.module_faults.specs.Least.{fault}
 use Rattle.module_faults.specs.Places.{is_bad_range as is_bad_text, is_bad_tag}
-use Rattle.module_faults.specs.Locals.{range_faults, tag_faults, end_faults, item_faults, part_faults}
+use Rattle.module_faults.specs.Locals.{range_faults, end_faults, item_faults, part_faults}
 use Rattle.module_faults.specs.Facts.{DefaultKind, Facts, same_tag, simple, deeper, parts_nesting, parts_tags, parts_show, tagged as tagged_facts}
 use Rattle.module_compiler.specs.Numbering.{item_of, least_integer, greatest_integer, range_row}
 use Rattle.module_compiler.proofs.Tags.{or_first, neither, tag_same}

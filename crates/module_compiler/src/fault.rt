@@ -1,9 +1,11 @@
 //! Why a module has no tables.
 
 ghost use Rattle.std.specs.Prelude.{◌≡◌};
+ghost use Rattle.asn1_types.specs.declared.refusal.RowRefusal.TheVariants as refusals;
 ghost use Rattle.module_compiler.specs.declared.fault.Halt.TheVariants as halts;
 ghost use Rattle.module_compiler.specs.declared.fault.TableFault.TheVariants as faults;
 
+use asn1_types::RowRefusal;
 use module_faults::TableKind;
 use osi_base::NoMemory;
 use std::error::Error;
@@ -59,6 +61,17 @@ pub(crate) enum Halt {
     NoMemory,
     /// A type has no row that a table takes, or an operation or error has no row of its own.
     NoTables,
+}
+
+impl From<RowRefusal> for Halt {
+    ghost from_gives = { λ refusal e. refusal ≡ refusals.NoMemory → e ≡ halts.NoMemory };
+
+    fn from(refusal: RowRefusal) -> Halt {
+        match refusal {
+            RowRefusal::NoMemory => Halt::NoMemory,
+            _ => Halt::NoTables,
+        }
+    }
 }
 
 impl From<NoMemory> for Halt {

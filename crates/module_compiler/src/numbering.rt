@@ -10,7 +10,7 @@ ghost use Rattle.module_compiler.specs.Numbering.{Numbered, Gives, add, note, kn
 use crate::fault::Halt;
 use crate::scope::Scope;
 use asn1_types::{
-    Item, Named, Part, Parts, RowRefusal, TypeId, TypeRow, TypeTable, class_numbered, kind_numbered,
+    Item, Named, Part, Parts, TypeId, TypeRow, TypeTable, class_numbered, kind_numbered,
 };
 use module_faults::is_same_name;
 use operation_notation::{
@@ -40,16 +40,6 @@ impl Model for Numbering {
     ghost view = { λ n. record { rows = n.types; given = n.given.items } };
 }
 
-/// Why a walk halts where a table refuses a row.
-fn halt_of(refusal: RowRefusal) -> Halt
-    ensures { refusal ≡ RowRefusal.NoMemory → result ≡ Halt.NoMemory }
-{
-    match refusal {
-        RowRefusal::NoMemory => Halt::NoMemory,
-        _ => Halt::NoTables,
-    }
-}
-
 impl Numbering {
     /// No rows yet, for so many assignments.
     pub fn new(alloc: Global, assignments: usize) -> Result<Numbering, NoMemory>
@@ -69,10 +59,7 @@ impl Numbering {
     fn add(&mut self, row: TypeRow) -> Result<TypeId, Halt>
         ensures { Gives result self.new (add row self.old) }
     {
-        match self.types.add(row) {
-            Ok(id) => Ok(id),
-            Err(refusal) => Err(halt_of(refusal)),
-        }
+        Ok(self.types.add(row)?)
     }
 
     /// Notes the row of the type at a place.

@@ -1,10 +1,7 @@
-use Rattle.std.proofs.Common.{◌≡◌, sym, ◌∙◌}
-use Rattle.asn1_types.specs.Table.{refusal}
-use Rattle.module_compiler.specs.Numbering.{add}
-use Rattle.module_compiler.specs.declared.fault.Halt.TheVariants.{NoMemory, NoTables}
-use Rattle.module_compiler.proofs.Halting.{refused_row, is_refused}
+use Rattle.std.proofs.Common.{subst}
+use Rattle.module_compiler.specs.Numbering.{Numbered, Gives, add}
+use Rattle.module_compiler.proofs.Halting.{row_stops}
 use Rattle.module_compiler.proofs.numbering.Numbering.add.Goals as goal
 
-pub returns : goal.returns
-unfolding add
-returns c = ?
+pub returns-in_err-add : goal.returns-in_err-add
+returns-in_err-add c = ?
