@@ -1,8 +1,8 @@
 //! Whose values a message carries.
 
-/// Of which layer the presentation data values of a message are (X.226 8.4.2, X.227 9, X.228 9, X.882
-/// 9). A value on a context with their abstract syntax is read as one of them, also where another
-/// layer's has the same name.
+/// Of which layer the presentation data values of a message are (X.226 8.4.2, X.227 9, X.228 9,
+/// X.882 9). A value on a context with their abstract syntax is read as one of them, also where
+/// another layer's has the same name.
 #[derive(Clone, Copy, Debug, PartialEq, Eq)]
 pub enum Carriage {
     /// Association control: in openings and releases, and in their answers.

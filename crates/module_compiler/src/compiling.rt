@@ -59,8 +59,8 @@ fn tabled_module(alloc: Global, text: &ModuleText) -> Result<Tables, TableFault>
 /// # Errors
 ///
 /// `At` where the module has a fault: the least one by line, column and the order of kinds.
-/// `NoMemory` where an allocation is refused. The code answers so too where its table refuses a row,
-/// as it would one of a `ModuleText` that stands for no text, with an ENUMERATED of no items, say.
+/// `NoMemory` where an allocation is refused. The code answers so too where its table refuses a
+/// row, as it would one of a `ModuleText` that stands for no text, with an ENUMERATED of no items.
 /// A table takes each row of a module that was read and has no fault (`faultless_rows_are_sound`);
 /// that the walk through such a module halts for memory alone isn't proved.
 #[tactic(auto, using(crate::proofs::Least::no_fault_of))]

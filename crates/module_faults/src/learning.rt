@@ -167,8 +167,8 @@ fn learn_rest<'m>(
     }
 }
 
-/// The facts of all types that don't reach themselves. In an order in which each stands behind those
-/// that it names this takes one look at each.
+/// The facts of all types that don't reach themselves. In an order in which each stands behind
+/// those that it names this takes one look at each.
 pub(crate) fn learn_all<'m>(
     alloc: Global,
     names: &Names<'m>,

@@ -258,7 +258,7 @@ pub struct AddAnswer {
     pub result: u8,
     /// The transfer syntax that was chosen, where the addition is accepted.
     pub transfer: Option<Oid>,
-    /// Why the provider rejected it, where that is told.
+    /// Why the provider rejected it, as a number of X.226's `provider-reason`, where that is told.
     pub reason: Option<u8>,
 }
 

@@ -106,8 +106,8 @@ fn run_words<F: Files, O: Sink>(alloc: Global, words: &Words, files: &mut F, out
 ///   it, was written.
 ///
 /// The words come first, then the module, the second file and the run: the first fault decides. A
-/// file that isn't due isn't asked for, and one that failed isn't read again. A write that failed is
-/// told as that. The line isn't used.
+/// file that isn't due isn't asked for, and one that failed isn't read again. A write that failed
+/// is told as that. The line isn't used.
 pub fn osi_run<F: Files, O: Sink, L: Line>(
     alloc: Global,
     words: &Words,

@@ -14,8 +14,8 @@ use std::alloc::Global;
 use stub_tables::Tables;
 
 /// Runs the events of a schedule, oldest first, over two new ends with the configurations of its
-/// setup and a module's tables, and answers what came of each event and the phases in which the ends
-/// are left.
+/// setup and a module's tables, and answers what came of each event and the phases in which the
+/// ends are left.
 ///
 /// The run keeps all laws of such runs, in each mode and of every module.
 ///

@@ -1,6 +1,6 @@
-//! What stands first in octets that come bit by bit: one whole value of any type (X.690 8.1). A
-//! scanner looks at each octet once and keeps where it stands, so that what was seen isn't read
-//! again, however the octets are cut.
+//! What stands first in octets that come piece by piece: one whole value of any type (X.690 8.1).
+//! A scanner keeps where it stands, so that what was seen isn't read again, however the octets are
+//! cut.
 #![tactic(auto)]
 
 mod front;

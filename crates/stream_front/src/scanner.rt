@@ -1,4 +1,4 @@
-//! A scanner of octets that come bit by bit.
+//! A scanner of octets that come piece by piece.
 
 ghost use Rattle.std.specs.Prelude.{◌≡◌, ◌<◌, ◌^◌, ℕ, Bool, List, length, false};
 ghost use Rattle.stream_front.specs.Fronts.{front_at};
@@ -56,7 +56,7 @@ pub enum Stage {
     },
 }
 
-/// Where the scanning of octets stands that come bit by bit.
+/// Where the scanning of octets stands that come piece by piece.
 #[derive(Clone, Copy, Debug)]
 pub struct Scanner {
     /// How many octets were seen.
