@@ -10,15 +10,15 @@ use Rattle.end_rules.specs.Reacting as rules
 use Rattle.association_words.specs.declared.words.Message.{Message}
 use Rattle.association_words.specs.declared.faults.Fault.{Fault}
 use Rattle.association_words.specs.Seen.{seen_message, seen_fault}
-use Rattle.association_answers.specs.declared.taken.Taken.{Taken}
-use Rattle.association_answers.specs.declared.taken.Reaction.{Reaction}
-use Rattle.association_answers.specs.declared.taken.Reaction.TheVariants.{Passes, Takes, Fails}
+use Rattle.association_answers.specs.declared.brought.Brought.{Brought}
+use Rattle.association_answers.specs.declared.brought.Reaction.{Reaction}
+use Rattle.association_answers.specs.declared.brought.Reaction.TheVariants.{Passes, Takes, Fails}
 
 abbrev pub seen_messages : List Message → List meant.Message
 seen_messages messages = map seen_message messages
 
 -- what the taking answers and shows
-pub record TakenAs (answers : List meant.Message) (shown : List Indication) (taken : Taken) : Type 0 where
+pub record TakenAs (answers : List meant.Message) (shown : List Indication) (taken : Brought) : Type 0 where
   pub answers_are : seen_messages taken.answers ≡ answers
   pub shown_is : taken.shown ≡ shown
 

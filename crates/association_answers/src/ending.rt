@@ -8,7 +8,7 @@ ghost use Rattle.association_words.specs.Seen.{seen_fault, seen_message};
 ghost use Rattle.association_state.specs.Seen.{seen};
 ghost use Rattle.association_answers.specs.Reacted.{FailsAs};
 
-use crate::taken::{Messages, Reaction, one_message};
+use crate::brought::{Messages, Reaction, one_message};
 use crate::telling::push_cuts;
 use association_sends::abort_of;
 use association_state::{Body, Ground};

@@ -2,12 +2,12 @@
 //! contexts, and the end of an association.
 #![tactic(auto)]
 
+mod brought;
 mod choosing;
 mod ending;
-mod taken;
 mod telling;
 
+pub use brought::{Brought, Messages, Reaction, one_message};
 pub use choosing::policy;
 pub use ending::{fails, over};
-pub use taken::{Messages, Reaction, Taken, one_message};
 pub use telling::{answered, push_cuts, push_losses, quiet, tell, told};

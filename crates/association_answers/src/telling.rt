@@ -8,7 +8,7 @@ ghost use Rattle.association_words.specs.Seen.{seen_message};
 ghost use Rattle.association_state.specs.Seen.{seen};
 ghost use Rattle.association_answers.specs.Reacted.{TakenAs};
 
-use crate::taken::{Taken, one_message};
+use crate::brought::{Brought, one_message};
 use association_sets::Alteration;
 use association_state::Body;
 use association_words::Message;
@@ -27,30 +27,30 @@ pub fn tell(alloc: Global, indication: Indication) -> Result<Indications, NoMemo
 }
 
 /// One answer, and nothing that is shown.
-pub fn answered(alloc: Global, message: Message) -> Result<Taken, NoMemory>
+pub fn answered(alloc: Global, message: Message) -> Result<Brought, NoMemory>
     ensures { IfOk result (TakenAs (seen_message message ∷ []) []) }
 {
-    Ok(Taken {
+    Ok(Brought {
         answers: one_message(alloc, message)?,
         shown: ListOf::new(alloc),
     })
 }
 
 /// One indication, and no answer.
-pub fn told(alloc: Global, indication: Indication) -> Result<Taken, NoMemory>
+pub fn told(alloc: Global, indication: Indication) -> Result<Brought, NoMemory>
     ensures { IfOk result (TakenAs [] (indication ∷ [])) }
 {
-    Ok(Taken {
+    Ok(Brought {
         answers: ListOf::new(alloc),
         shown: tell(alloc, indication)?,
     })
 }
 
 /// No answer, and nothing that is shown.
-pub fn quiet(alloc: Global) -> Taken
+pub fn quiet(alloc: Global) -> Brought
     ensures { TakenAs [] [] result }
 {
-    Taken {
+    Brought {
         answers: ListOf::new(alloc),
         shown: ListOf::new(alloc),
     }

@@ -15,7 +15,7 @@ use crate::associated::{is_release_request, is_release_response};
 use crate::connect_faults::connect_fault;
 use crate::taking_accept::{accept_fault, take_accept};
 use crate::taking_connect::take_connect;
-use association_answers::{Taken, answered, over, push_cuts, quiet, told};
+use association_answers::{Brought, answered, over, push_cuts, quiet, told};
 use association_sends::disconnect_message;
 use association_sets::copy_set;
 use association_state::{Awaited, Body, Ground};
@@ -123,7 +123,7 @@ fn shown_end(basis: &Ground<'_>, body: &Body, last: Indication) -> Result<Indica
 }
 
 /// The association ends without an answer, and this is shown.
-fn end_quietly(basis: &Ground<'_>, body: &mut Body, last: Indication) -> Result<Taken, NoMemory>
+fn end_quietly(basis: &Ground<'_>, body: &mut Body, last: Indication) -> Result<Brought, NoMemory>
     ensures body { OnOk result (seen body.new ≡ over (seen body.old)) }
     ensures taken { IfOk result (TakenAs [] (cuts (seen body.old) ++ last ∷ [])) }
 {
@@ -134,7 +134,7 @@ fn end_quietly(basis: &Ground<'_>, body: &mut Body, last: Indication) -> Result<
 }
 
 /// Takes FN.
-fn take_finish(basis: &Ground<'_>, body: &mut Body) -> Result<Taken, NoMemory>
+fn take_finish(basis: &Ground<'_>, body: &mut Body) -> Result<Brought, NoMemory>
     ensures body { OnOk result (seen body.new ≡ over (seen body.old)) }
     ensures taken { IfOk result (TakenAs (disconnect_message (seen body.old) ∷ []) (cuts (seen
         body.old) ++ indications.Released ∷ [])) }
@@ -147,7 +147,7 @@ fn take_finish(basis: &Ground<'_>, body: &mut Body) -> Result<Taken, NoMemory>
 }
 
 /// Takes DN.
-fn take_disconnect(basis: &Ground<'_>, body: &mut Body) -> Result<Taken, NoMemory>
+fn take_disconnect(basis: &Ground<'_>, body: &mut Body) -> Result<Brought, NoMemory>
     ensures body { OnOk result (seen body.new ≡ awaiting NoAnswer (over (seen body.old))) }
     ensures taken { IfOk result (TakenAs [] (cuts (seen body.old) ++ indications.Released ∷ [])) }
 {
@@ -173,7 +173,7 @@ pub fn take_association(
     basis: &Ground<'_>,
     body: &mut Body,
     word: AssociationWord,
-) -> Result<Taken, NoMemory>
+) -> Result<Brought, NoMemory>
     requires { association_fault (base_in basis.now) (seen body.old) (seen_association word)
         ≡ None }
     ensures body { OnOk result (seen body.new ≡ after_association (base_in basis.now) (seen

@@ -16,7 +16,7 @@ use crate::answering::agreed_for;
 use crate::associated::{accept_information_fault, is_accepting, rtse_in, user_of};
 use crate::connect_faults::{has_acse, has_rtse};
 use crate::joining::{Terms, join};
-use association_answers::{Taken, push_losses, quiet};
+use association_answers::{Brought, push_losses, quiet};
 use association_calls::{manages_with, selected_with};
 use association_ground::{is_recovering, is_reliable};
 use association_sets::fit_proposals;
@@ -168,7 +168,7 @@ pub(crate) fn take_accept(
     session: &Accepting,
     presentation: &PresentationAccept,
     values: &[Value],
-) -> Result<Taken, NoMemory>
+) -> Result<Brought, NoMemory>
     ensures body { OnOk result (seen body.new ≡ after_accept (base_in basis.now) (seen body.old)
         (seen_accepting session.now) presentation.now (seen_values values.now)) }
     ensures taken { IfOk result (TakenAs [] (shown_at_accept (seen body.old))) }

@@ -13,7 +13,7 @@ use crate::answering::{acceptance_message, agreed_for, refusal_message};
 use crate::associated::{rtse_in, user_of};
 use crate::connect_faults::is_refused;
 use crate::joining::{Terms, begin, join, refuse};
-use association_answers::{Taken, answered, push_cuts, push_losses};
+use association_answers::{Brought, answered, push_cuts, push_losses};
 use association_calls::{manages_with, selected_with};
 use association_ground::{is_broken, is_reliable};
 use association_state::{Body, Ground};
@@ -92,7 +92,7 @@ fn begin_and_join(
 }
 
 /// Accepts a CN.
-fn accept(basis: &Ground<'_>, body: &mut Body, asked: &Asked<'_>) -> Result<Taken, NoMemory>
+fn accept(basis: &Ground<'_>, body: &mut Body, asked: &Asked<'_>) -> Result<Brought, NoMemory>
     requires accepted { asked.now.accepted.now ≡ set_for (base_in basis.now)
         asked.now.presentation.now }
     requires request { is_request (the_one (seen_values asked.now.values.now)) ≡ true }
@@ -113,7 +113,7 @@ fn accept(basis: &Ground<'_>, body: &mut Body, asked: &Asked<'_>) -> Result<Take
 }
 
 /// Refuses a CN.
-fn refuse_asked(basis: &Ground<'_>, body: &mut Body, asked: &Asked<'_>) -> Result<Taken, NoMemory>
+fn refuse_asked(basis: &Ground<'_>, body: &mut Body, asked: &Asked<'_>) -> Result<Brought, NoMemory>
     requires accepted { asked.now.accepted.now ≡ set_for (base_in basis.now)
         asked.now.presentation.now }
     requires request { has_acse asked.now.accepted.now ≡ true → is_request (the_one (seen_values
@@ -142,7 +142,7 @@ pub(crate) fn take_connect(
     session: &SessionConnect,
     presentation: &PresentationConnect,
     values: &[Value],
-) -> Result<Taken, NoMemory>
+) -> Result<Brought, NoMemory>
     requires { connect_fault (base_in basis.now) presentation.now (seen_values values.now) ≡ None }
     ensures body { OnOk result (seen body.new ≡ after_connect (base_in basis.now) (seen body.old)
         session.now presentation.now (seen_values values.now)) }

@@ -9,8 +9,8 @@ use Rattle.end_rules.specs.State.{Body, passes_over}
 use Rattle.association_reading.specs.Front.{Front}
 use Rattle.association_line.specs.Line.{first_size}
 use Rattle.association_line.specs.Reactions.{ReactionsAreSteps}
-use Rattle.association_answers.specs.declared.taken.Reaction.{Reaction}
-use Rattle.association_answers.specs.declared.taken.Reaction.TheVariants.{Passes, Takes, Fails}
+use Rattle.association_answers.specs.declared.brought.Reaction.{Reaction}
+use Rattle.association_answers.specs.declared.brought.Reaction.TheVariants.{Passes, Takes, Fails}
 use Rattle.association_answers.specs.Reacted.{seen_messages}
 use Rattle.association_reacting.specs.Reacts.{ReactsAs}
 use Rattle.association_end.specs.View.{EndView, base}

@@ -29,7 +29,7 @@ use Rattle.association_words.specs.Seen.{seen_fault}
 use Rattle.association_meaning.specs.declared.basis.Halt.{Halt}
 use Rattle.association_meaning.specs.declared.basis.Halt.TheVariants as halts
 use Rattle.association_meaning.specs.Grounds.{FailsAs}
-use Rattle.association_answers.specs.declared.taken.Reaction as reactions
+use Rattle.association_answers.specs.declared.brought.Reaction as reactions
 use Rattle.association_takes.specs.Acts.{is_end}
 use Rattle.association_reacting.specs.ActivityEnds.{is_end_word}
 use Rattle.association_reacting.specs.Reacts.{ReactsAs}

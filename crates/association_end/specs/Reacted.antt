@@ -14,8 +14,8 @@ use Rattle.association_reading.specs.Reacting.{react_to}
 use Rattle.association_line.specs.Line.{Line, first_size, size_of_unit}
 use Rattle.association_intake.specs.declared.front.Front as fronts
 use Rattle.association_intake.specs.Seen.{seen_front}
-use Rattle.association_answers.specs.declared.taken.Reaction.{Reaction}
-use Rattle.association_answers.specs.declared.taken.Reaction.TheVariants.{Passes, Takes, Fails}
+use Rattle.association_answers.specs.declared.brought.Reaction.{Reaction}
+use Rattle.association_answers.specs.declared.brought.Reaction.TheVariants.{Passes, Takes, Fails}
 use Rattle.association_answers.specs.Reacted.{seen_messages}
 use Rattle.association_reacting.specs.Reacts.{ReactsAs}
 use Rattle.association_end.specs.View.{EndView}

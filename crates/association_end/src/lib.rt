@@ -5,11 +5,11 @@
 mod calling;
 mod end;
 mod feeding;
-mod pumping;
+mod own_acts;
 mod reacting;
 mod reading;
 mod sending;
-mod settling;
 mod sizes;
+mod told_and_sent;
 
 pub use end::End;

@@ -25,7 +25,7 @@ ghost use Rattle.association_end.specs.Sound.{IsMessage};
 use association_answers::{Reaction, fails};
 use association_codecs::Codecs;
 use association_intake::Front;
-use association_meaning::{Ground as Reading, Halt, arrived_at, meaning};
+use association_meaning::{Halt, ReadingGround, arrived_at, meaning};
 use association_place::{is_unit_in_place, is_unit_purged};
 use association_reacting::{fails_on_accepted, has_connection, react, react_to_end};
 use association_sets::copy_set;
@@ -36,11 +36,11 @@ use presentation_pdus::{PpduFault, PpduPlace};
 use set_rules::set_for;
 
 /// What the reading of an end stands on.
-fn reading<'a>(basis: &'a Ground<'_>, codecs: &'a Codecs) -> Reading<'a>
+fn reading<'a>(basis: &'a Ground<'_>, codecs: &'a Codecs) -> ReadingGround<'a>
     ensures tables { result.tables.now ≡ basis.now.tables.now }
     ensures config { result.config.now ≡ basis.now.config }
 {
-    Reading {
+    ReadingGround {
         alloc: basis.alloc,
         codecs,
         tables: basis.tables,

@@ -8,7 +8,7 @@ use Rattle.end_rules.specs.Hearing.{Taken, hear, on_heard, head_of, take_head, t
 use Rattle.rose_roles.specs.declared.taken.RoseTaken as roses
 use Rattle.rose_roles.specs.declared.taken.RoseTaken.TheVariants as rose
 use Rattle.rose_roles.specs.Hearing.{heard_with}
-use Rattle.association_answers.specs.declared.taken.Taken as takens
+use Rattle.association_answers.specs.declared.brought.Brought as broughts
 use Rattle.association_answers.specs.Reacted.{seen_messages}
 use Rattle.association_words.specs.declared.values.Value as words
 use Rattle.association_words.specs.Seen.{seen_message, seen_value, seen_values}
@@ -35,7 +35,7 @@ taken_push base body (v ∷ values) value =
 -- ---- in code
 
 -- the taking of one value more, joined with those before
-pub took_more : (base : Base) (start now after : Body) (values : List DataValue) (value : DataValue) (all came joined : takens.Taken)
+pub took_more : (base : Base) (start now after : Body) (values : List DataValue) (value : DataValue) (all came joined : broughts.Brought)
     → TookAs (take_values base start values) now all → TookAs (take_head base now value.id (head_of base value)) after came → Joined all came joined
     → TookAs (take_values base start (values ++ value ∷ [])) after joined
 took_more base start now after values value all came joined h g j =
@@ -52,7 +52,7 @@ took_more base start now after values value all came joined h g j =
     }
 
 -- the same of the values of the code
-pub took_next : (base : Base) (start now after : Body) (values : List words.Value) (value : words.Value) (all came joined : takens.Taken)
+pub took_next : (base : Base) (start now after : Body) (values : List words.Value) (value : words.Value) (all came joined : broughts.Brought)
     → TookAs (take_values base start (seen_values values)) now all → TookAs (take_head base now value.id (head_of base (seen_value value))) after came → Joined all came joined
     → TookAs (take_values base start (seen_values (values ++ value ∷ []))) after joined
 took_next base start now after values value all came joined h g j =
@@ -60,7 +60,7 @@ took_next base start now after values value all came joined h g j =
     (took_more base start now after (seen_values values) (seen_value value) all came joined h g j)
 
 -- one value alone
-pub took_one : (base : Base) (body after : Body) (value : DataValue) (came : takens.Taken) → TookAs (take_head base body value.id (head_of base value)) after came → TookAs (take_values base body (value ∷ [])) after came
+pub took_one : (base : Base) (body after : Body) (value : DataValue) (came : broughts.Brought) → TookAs (take_head base body value.id (head_of base value)) after came → TookAs (take_values base body (value ∷ [])) after came
 took_one base body after value came h = subst (λ (t : Taken). TookAs t after came) (sym (ended (take_head base body value.id (head_of base value)))) h
 
 calls_told : (c : Calls) (t : roses.RoseTaken) → (heard_with c t).calls ≡ c
@@ -73,7 +73,7 @@ calls_told c rose.BadReject = refl
 calls_told c (rose.Reject id problem) = refl
 
 -- what is done with what was heard is the taking
-pub took_so : (base : Base) (old : Body) (others : Calls) (context : ℕ) (head : Head) (t : roses.RoseTaken) (after : Body) (came : takens.Taken)
+pub took_so : (base : Base) (old : Body) (others : Calls) (context : ℕ) (head : Head) (t : roses.RoseTaken) (after : Body) (came : broughts.Brought)
     → heard_with others t ≡ hear base old.calls context head → TookAs (on_heard base (record old { calls = others }) context (heard_with others t)) after came
     → TookAs (take_head base old context head) after came
 took_so base old others context head t after came h g =

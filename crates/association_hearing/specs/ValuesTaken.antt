@@ -2,16 +2,16 @@
 use Rattle.std.specs.Prelude.{◌≡◌, ◌++◌}
 use Rattle.end_rules.specs.State.{Body}
 use Rattle.end_rules.specs.Hearing as rules
-use Rattle.association_answers.specs.declared.taken.Taken.{Taken}
+use Rattle.association_answers.specs.declared.brought.Brought.{Brought}
 use Rattle.association_answers.specs.Reacted.{seen_messages}
 
 -- the body afterwards, the answers and what is shown are those of the rules
-pub record TookAs (taken : rules.Taken) (body : Body) (came : Taken) : Type 0 where
+pub record TookAs (taken : rules.Taken) (body : Body) (came : Brought) : Type 0 where
   pub body_is : body ≡ taken.body
   pub answers_are : seen_messages came.answers ≡ taken.answers
   pub shown_is : came.shown ≡ taken.shown
 
 -- one taking behind the other
-pub record Joined (before more after : Taken) : Type 0 where
+pub record Joined (before more after : Brought) : Type 0 where
   pub answers : after.answers ≡ before.answers ++ more.answers
   pub shown : after.shown ≡ before.shown ++ more.shown

@@ -10,7 +10,7 @@ ghost use Rattle.association_hearing.specs.ValuesTaken.{TookAs, Joined};
 
 use crate::apdus::hear_apdu;
 use crate::unread::hear_unread;
-use association_answers::{Taken, one_message, quiet, told};
+use association_answers::{Brought, one_message, quiet, told};
 use association_calls::carrier_in;
 use association_ground::is_reliable;
 use association_sends::pair_copied;
@@ -75,7 +75,7 @@ fn send_reject(
     context: u32,
     id: Option<i64>,
     problem: Problem,
-) -> Result<Taken, NoMemory>
+) -> Result<Brought, NoMemory>
     ensures { IfOk result (TookAs (with_reject (base_in basis.now) (seen body.old) context (Some
         (record { id = id; problem = problem }))) (seen body.new)) }
 {
@@ -98,7 +98,7 @@ fn take_heard(
     body: &mut Body,
     context: u32,
     taken: RoseTaken,
-) -> Result<Taken, NoMemory>
+) -> Result<Brought, NoMemory>
     ensures { IfOk result (TookAs (on_heard (base_in basis.now) (seen body.old) context (heard_with
         (seen body.old).calls taken)) (seen body.new)) }
 {
@@ -142,7 +142,7 @@ fn take_heard(
 }
 
 /// Takes a value of remote operations.
-pub fn take_value(basis: &Ground<'_>, body: &mut Body, value: Value) -> Result<Taken, NoMemory>
+pub fn take_value(basis: &Ground<'_>, body: &mut Body, value: Value) -> Result<Brought, NoMemory>
     ensures { IfOk result (TookAs (take_head (base_in basis.now) (seen body.old) value.id (head_of
         (base_in basis.now) (seen_value value))) (seen body.new)) }
 {
@@ -152,10 +152,10 @@ pub fn take_value(basis: &Ground<'_>, body: &mut Body, value: Value) -> Result<T
 }
 
 /// Puts what a taking answers and shows behind what earlier ones did.
-fn join(all: &mut Taken, taken: Taken) -> Result<(), NoMemory>
+fn join(all: &mut Brought, taken: Brought) -> Result<(), NoMemory>
     ensures { OnOk result (Joined all.old taken all.new) }
 {
-    let Taken { answers, shown } = taken;
+    let Brought { answers, shown } = taken;
     for message in answers.into_vec() {
         all.answers.push(message)?;
     }
@@ -166,7 +166,7 @@ fn join(all: &mut Taken, taken: Taken) -> Result<(), NoMemory>
 }
 
 /// Takes values of remote operations, one after the other.
-pub fn take_values(basis: &Ground<'_>, body: &mut Body, values: Values) -> Result<Taken, NoMemory>
+pub fn take_values(basis: &Ground<'_>, body: &mut Body, values: Values) -> Result<Brought, NoMemory>
     ensures { IfOk result (TookAs (take_values (base_in basis.now) (seen body.old)
         (seen_values values)) (seen body.new)) }
 {

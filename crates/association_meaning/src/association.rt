@@ -12,7 +12,7 @@ ghost use Rattle.association_words.specs.Seen.{seen_content, seen_value, seen_va
 ghost use Rattle.association_meaning.specs.Grounds.{association_base, GivesAs};
 ghost use Rattle.association_meaning.specs.Steps as steps;
 
-use crate::basis::{Ground, Halt};
+use crate::basis::{Halt, ReadingGround};
 use crate::contexts::{Carrier, Wrong, check, form_wrong, pdv_wrong};
 use crate::informed::{AcseKind, and_informed};
 use crate::layers::{acse_content, associated};
@@ -60,7 +60,7 @@ fn first_wrong_unless_left(definitions: &[Proposal], set: &[SetItem], pdvs: &[Pd
 
 /// What a value is of which nothing is asked: the APDU of association control that its octets
 /// spell, or its octets.
-fn left_content(basis: &Ground<'_>, octets: &[u8]) -> Result<ValueContent, NoMemory>
+fn left_content(basis: &ReadingGround<'_>, octets: &[u8]) -> Result<ValueContent, NoMemory>
     ensures { IfOk result (λ content. seen_content content ≡ reading.left_content octets.now
         (acse_at octets.now)) }
 {
@@ -75,7 +75,7 @@ fn left_content(basis: &Ground<'_>, octets: &[u8]) -> Result<ValueContent, NoMem
 
 /// A value of which nothing is asked where it is of association control.
 fn value_or_left(
-    basis: &Ground<'_>,
+    basis: &ReadingGround<'_>,
     definitions: &[Proposal],
     set: &[SetItem],
     pdv: &Pdv,
@@ -95,7 +95,7 @@ fn value_or_left(
 
 /// Values of a CN that doesn't get association control.
 fn left_values(
-    basis: &Ground<'_>,
+    basis: &ReadingGround<'_>,
     definitions: &[Proposal],
     set: &[SetItem],
     carrier: &Carrier<'_>,
@@ -116,7 +116,7 @@ fn left_values(
 
 /// Each value, of which nothing is asked where it is of association control.
 fn all_or_left(
-    basis: &Ground<'_>,
+    basis: &ReadingGround<'_>,
     definitions: &[Proposal],
     set: &[SetItem],
     pdvs: &[Pdv],
@@ -135,7 +135,7 @@ fn all_or_left(
 
 /// Values of a CN that gets association control.
 fn values_associated(
-    basis: &Ground<'_>,
+    basis: &ReadingGround<'_>,
     presentation: &PresentationConnect,
     set: &[SetItem],
     carrier: &Carrier<'_>,
@@ -157,7 +157,7 @@ fn values_associated(
 
 /// Values of a CN whose list may stand.
 fn values_for(
-    basis: &Ground<'_>,
+    basis: &ReadingGround<'_>,
     presentation: &PresentationConnect,
     set: &[SetItem],
     carrier: &Carrier<'_>,
@@ -183,7 +183,7 @@ fn values_for(
 
 /// Values of a CN. A list that is faulty ends the association before they are looked at.
 pub(crate) fn connect_values(
-    basis: &Ground<'_>,
+    basis: &ReadingGround<'_>,
     presentation: &PresentationConnect,
     carrier: &Carrier<'_>,
 ) -> Result<Values, Halt>
@@ -202,7 +202,7 @@ pub(crate) fn connect_values(
 /// Whether an AC stands: its results fit, and the contexts of the association are among those that
 /// it accepts.
 fn stands(
-    basis: &Ground<'_>,
+    basis: &ReadingGround<'_>,
     presentation: &PresentationAccept,
     accepted: &[SetItem],
 ) -> Result<bool, NoMemory>
@@ -219,7 +219,7 @@ fn stands(
 
 /// Values of an AC that stands, which accepts these contexts.
 fn accepted_values(
-    basis: &Ground<'_>,
+    basis: &ReadingGround<'_>,
     presentation: &PresentationAccept,
     accepted: &[SetItem],
     carrier: &Carrier<'_>,
@@ -236,7 +236,7 @@ fn accepted_values(
 
 /// Values of an AC. One that doesn't stand ends the association before they are looked at.
 pub(crate) fn accept_values(
-    basis: &Ground<'_>,
+    basis: &ReadingGround<'_>,
     presentation: &PresentationAccept,
     carrier: &Carrier<'_>,
 ) -> Result<Values, Halt>
@@ -266,7 +266,7 @@ fn first_form_wrong(pdvs: &[Pdv]) -> Option<Wrong>
 }
 
 /// A value of association control in BER, whatever its context.
-fn unasked_value(basis: &Ground<'_>, pdv: &Pdv) -> Result<Value, Halt>
+fn unasked_value(basis: &ReadingGround<'_>, pdv: &Pdv) -> Result<Value, Halt>
     ensures { GivesAs seen_value result (reading.unasked_value pdv.now) }
 {
     let content = acse_content(basis, pdv.content.octets().as_slice())?;
@@ -282,7 +282,11 @@ fn unasked_value(basis: &Ground<'_>, pdv: &Pdv) -> Result<Value, Halt>
 }
 
 /// Values of a refusal or of an abort, of which no contexts are asked.
-fn unasked_values(basis: &Ground<'_>, carrier: &Carrier<'_>, pdvs: &[Pdv]) -> Result<Values, Halt>
+fn unasked_values(
+    basis: &ReadingGround<'_>,
+    carrier: &Carrier<'_>,
+    pdvs: &[Pdv],
+) -> Result<Values, Halt>
     requires { carrier.now.start + length carrier.now.user.now < 2 ^ 63 }
     ensures { GivesAs seen_values result (reading.unasked_values (pdv_places carrier.now.place
         carrier.now.start carrier.now.user.now) pdvs.now) }
@@ -292,7 +296,7 @@ fn unasked_values(basis: &Ground<'_>, carrier: &Carrier<'_>, pdvs: &[Pdv]) -> Re
 }
 
 /// Each value of association control in BER, whatever its context.
-fn all_unasked(basis: &Ground<'_>, pdvs: &[Pdv]) -> Result<Values, Halt>
+fn all_unasked(basis: &ReadingGround<'_>, pdvs: &[Pdv]) -> Result<Values, Halt>
     ensures { GivesAs seen_values result (values_read.all_values reading.unasked_value pdvs.now) }
 {
     let mut values: Values = ListOf::new(basis.alloc);
@@ -304,7 +308,10 @@ fn all_unasked(basis: &Ground<'_>, pdvs: &[Pdv]) -> Result<Values, Halt>
 }
 
 /// The contexts that a refusal accepts.
-fn set_refused(basis: &Ground<'_>, presentation: &PresentationReject) -> Result<SetList, NoMemory>
+fn set_refused(
+    basis: &ReadingGround<'_>,
+    presentation: &PresentationReject,
+) -> Result<SetList, NoMemory>
     ensures { IfOk result (λ set. set ≡ reading.set_refused (association_base basis.now.tables.now
         basis.now.config.now) presentation.now) }
 {
@@ -313,7 +320,7 @@ fn set_refused(basis: &Ground<'_>, presentation: &PresentationReject) -> Result<
 
 /// Values of an RF.
 pub(crate) fn refuse_values(
-    basis: &Ground<'_>,
+    basis: &ReadingGround<'_>,
     presentation: &PresentationReject,
     carrier: &Carrier<'_>,
 ) -> Result<Values, Halt>
@@ -329,7 +336,7 @@ pub(crate) fn refuse_values(
 
 /// Values of an AB.
 pub(crate) fn abort_values(
-    basis: &Ground<'_>,
+    basis: &ReadingGround<'_>,
     accepted: &[SetItem],
     carrier: &Carrier<'_>,
     pdvs: &[Pdv],

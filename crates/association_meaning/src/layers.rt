@@ -9,7 +9,7 @@ ghost use Rattle.association_reading.specs.Values as reading;
 ghost use Rattle.association_words.specs.Seen.{seen_information, seen_content};
 ghost use Rattle.association_meaning.specs.Grounds.{GivesAs};
 
-use crate::basis::{Ground, Halt, fault_at};
+use crate::basis::{Halt, ReadingGround, fault_at};
 use crate::names::rtse_name;
 use acse::AcseFault;
 use association_ground::same_name;
@@ -93,7 +93,7 @@ pub(crate) fn associated(alloc: Global, apdu: Acse) -> Result<ValueContent, NoMe
 }
 
 /// What octets are as an APDU of association control.
-pub(crate) fn acse_content(basis: &Ground<'_>, octets: &[u8]) -> Result<ValueContent, Halt>
+pub(crate) fn acse_content(basis: &ReadingGround<'_>, octets: &[u8]) -> Result<ValueContent, Halt>
     ensures { GivesAs seen_content result (reading.acse_content (acse_fields.acse_at octets.now)) }
 {
     match basis.codecs.acse.read(basis.alloc, octets) {
@@ -104,7 +104,7 @@ pub(crate) fn acse_content(basis: &Ground<'_>, octets: &[u8]) -> Result<ValueCon
 }
 
 /// What octets are as an APDU of reliable transfer: among values a plea or a part of a transfer.
-fn rtse_content(basis: &Ground<'_>, octets: &[u8]) -> Result<ValueContent, Halt>
+fn rtse_content(basis: &ReadingGround<'_>, octets: &[u8]) -> Result<ValueContent, Halt>
     ensures { GivesAs seen_content result (reading.rtse_content (rtse_reading.rtse_at octets.now)) }
 {
     match basis.codecs.rtse.read(basis.alloc, octets) {
@@ -120,7 +120,11 @@ fn rtse_content(basis: &Ground<'_>, octets: &[u8]) -> Result<ValueContent, Halt>
 }
 
 /// What octets are under a pair in a message of reliable transfer.
-fn transfer_content(basis: &Ground<'_>, pair: &Pair, octets: &[u8]) -> Result<ValueContent, Halt>
+fn transfer_content(
+    basis: &ReadingGround<'_>,
+    pair: &Pair,
+    octets: &[u8],
+) -> Result<ValueContent, Halt>
     ensures { GivesAs seen_content result (reading.content_under basis.now.tables.now
         carriages.Transfer pair.now octets.now) }
 {
@@ -132,7 +136,11 @@ fn transfer_content(basis: &Ground<'_>, pair: &Pair, octets: &[u8]) -> Result<Va
 }
 
 /// What octets are under a pair in a message of the module.
-fn module_content(basis: &Ground<'_>, pair: &Pair, octets: &[u8]) -> Result<ValueContent, Halt>
+fn module_content(
+    basis: &ReadingGround<'_>,
+    pair: &Pair,
+    octets: &[u8],
+) -> Result<ValueContent, Halt>
     ensures { GivesAs seen_content result (reading.content_under basis.now.tables.now
         carriages.Module pair.now octets.now) }
 {
@@ -151,7 +159,7 @@ fn module_content(basis: &Ground<'_>, pair: &Pair, octets: &[u8]) -> Result<Valu
 
 /// What octets are under a pair in a message that carries these values.
 pub(crate) fn content_under(
-    basis: &Ground<'_>,
+    basis: &ReadingGround<'_>,
     carried: Carriage,
     pair: &Pair,
     octets: &[u8],
@@ -168,7 +176,7 @@ pub(crate) fn content_under(
 
 /// What octets are under the pair of their context, where there is one.
 pub(crate) fn content_by(
-    basis: &Ground<'_>,
+    basis: &ReadingGround<'_>,
     carried: Carriage,
     pair: Option<&Pair>,
     octets: &[u8],

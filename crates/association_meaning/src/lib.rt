@@ -13,6 +13,6 @@ mod transfers;
 mod units;
 mod values;
 
-pub use basis::{Ground, Halt};
+pub use basis::{Halt, ReadingGround};
 pub use transfers::arrived_at;
 pub use units::meaning;

@@ -12,7 +12,7 @@ ghost use Rattle.association_meaning.specs.Steps as steps;
 ghost use Rattle.association_meaning.specs.Words as words;
 
 use crate::association::{abort_values, accept_values, connect_values, refuse_values};
-use crate::basis::{Ground, Halt, fault_at, invalid_ppdu};
+use crate::basis::{Halt, ReadingGround, fault_at, invalid_ppdu};
 use crate::contexts::Carrier;
 use crate::values::values_under;
 use association_ground::is_reliable;
@@ -26,7 +26,7 @@ use presentation_pdus::{PpduFault, PpduPlace, ppdu_fault_is_first};
 use std::alloc::Global;
 
 /// The unit of the presentation that user data are. The place of a fault counts from the TSDU.
-fn unit_in(basis: &Ground<'_>, carrier: &Carrier<'_>) -> Result<PresentationWord, Halt>
+fn unit_in(basis: &ReadingGround<'_>, carrier: &Carrier<'_>) -> Result<PresentationWord, Halt>
     requires { carrier.now.start + length carrier.now.user.now < 2 ^ 63 }
     ensures { GivesAs (λ unit. unit) result (steps.read_unit carrier.now.start (ppdu_at
         carrier.now.place carrier.now.user.now)) }
@@ -67,7 +67,7 @@ fn without_user(alloc: Global, session: &SessionConnect) -> Result<SessionConnec
 }
 
 /// CP in the user data of CN.
-fn connect_in(basis: &Ground<'_>, carrier: &Carrier<'_>) -> Result<PresentationConnect, Halt>
+fn connect_in(basis: &ReadingGround<'_>, carrier: &Carrier<'_>) -> Result<PresentationConnect, Halt>
     requires { carrier.now.start + length carrier.now.user.now < 2 ^ 63 }
     ensures { GivesAs (λ p. p) result (words.connect_in carrier.now.start (ppdu_at carrier.now.place
         carrier.now.user.now)) }
@@ -88,7 +88,7 @@ fn connect_in(basis: &Ground<'_>, carrier: &Carrier<'_>) -> Result<PresentationC
 }
 
 /// CPA in the user data of AC.
-fn accept_in(basis: &Ground<'_>, carrier: &Carrier<'_>) -> Result<PresentationAccept, Halt>
+fn accept_in(basis: &ReadingGround<'_>, carrier: &Carrier<'_>) -> Result<PresentationAccept, Halt>
     requires { carrier.now.start + length carrier.now.user.now < 2 ^ 63 }
     ensures { GivesAs (λ p. p) result (words.accept_in carrier.now.start (ppdu_at carrier.now.place
         carrier.now.user.now)) }
@@ -109,7 +109,7 @@ fn accept_in(basis: &Ground<'_>, carrier: &Carrier<'_>) -> Result<PresentationAc
 }
 
 /// CPR in the user data of RF.
-fn reject_in(basis: &Ground<'_>, carrier: &Carrier<'_>) -> Result<PresentationReject, Halt>
+fn reject_in(basis: &ReadingGround<'_>, carrier: &Carrier<'_>) -> Result<PresentationReject, Halt>
     requires { carrier.now.start + length carrier.now.user.now < 2 ^ 63 }
     ensures { GivesAs (λ p. p) result (words.reject_in carrier.now.start (ppdu_at carrier.now.place
         carrier.now.user.now)) }
@@ -130,7 +130,7 @@ fn reject_in(basis: &Ground<'_>, carrier: &Carrier<'_>) -> Result<PresentationRe
 }
 
 /// Values that stand alone in user data.
-fn data_in(basis: &Ground<'_>, carrier: &Carrier<'_>) -> Result<Pdvs, Halt>
+fn data_in(basis: &ReadingGround<'_>, carrier: &Carrier<'_>) -> Result<Pdvs, Halt>
     requires { carrier.now.start + length carrier.now.user.now < 2 ^ 63 }
     ensures { GivesAs (λ p. p) result (words.data_in carrier.now.start (ppdu_at carrier.now.place
         carrier.now.user.now)) }
@@ -152,7 +152,7 @@ fn data_in(basis: &Ground<'_>, carrier: &Carrier<'_>) -> Result<Pdvs, Halt>
 
 /// CN with CP.
 pub(crate) fn connect_meaning(
-    basis: &Ground<'_>,
+    basis: &ReadingGround<'_>,
     session: &SessionConnect,
     start: usize,
 ) -> Result<Word, Halt>
@@ -181,7 +181,7 @@ pub(crate) fn connect_meaning(
 
 /// AC with CPA.
 pub(crate) fn accept_meaning(
-    basis: &Ground<'_>,
+    basis: &ReadingGround<'_>,
     session: Accepting,
     start: usize,
     user: &[u8],
@@ -210,7 +210,7 @@ pub(crate) fn accept_meaning(
 
 /// RF with CPR.
 fn refuse_meaning(
-    basis: &Ground<'_>,
+    basis: &ReadingGround<'_>,
     transport: Option<u8>,
     reason: Option<u8>,
     start: usize,
@@ -241,7 +241,7 @@ fn refuse_meaning(
 
 /// RF with CPR, or without user data.
 pub(crate) fn refused_with(
-    basis: &Ground<'_>,
+    basis: &ReadingGround<'_>,
     transport: Option<u8>,
     reason: Option<u8>,
     start: usize,
@@ -264,7 +264,7 @@ pub(crate) fn refused_with(
 
 /// Values of ARU in the user data of AB.
 fn user_abort(
-    basis: &Ground<'_>,
+    basis: &ReadingGround<'_>,
     accepted: &[SetItem],
     carrier: &Carrier<'_>,
     pdvs: &[Pdv],
@@ -280,7 +280,7 @@ fn user_abort(
 
 /// What ARU or ARP in the user data of AB says.
 fn abort_in(
-    basis: &Ground<'_>,
+    basis: &ReadingGround<'_>,
     accepted: &[SetItem],
     carrier: &Carrier<'_>,
 ) -> Result<AbortData, Halt>
@@ -308,7 +308,7 @@ fn abort_in(
 
 /// AB with ARU or ARP.
 fn abort_meaning(
-    basis: &Ground<'_>,
+    basis: &ReadingGround<'_>,
     accepted: &[SetItem],
     transport: Option<u8>,
     start: usize,
@@ -329,7 +329,7 @@ fn abort_meaning(
 
 /// AB with ARU or ARP, or without user data.
 pub(crate) fn aborted_with(
-    basis: &Ground<'_>,
+    basis: &ReadingGround<'_>,
     accepted: &[SetItem],
     transport: Option<u8>,
     start: usize,
@@ -350,7 +350,7 @@ pub(crate) fn aborted_with(
 
 /// Values alone in user data under the held set.
 fn values_with(
-    basis: &Ground<'_>,
+    basis: &ReadingGround<'_>,
     held: &[SetItem],
     carried: Carriage,
     carrier: &Carrier<'_>,
@@ -365,7 +365,7 @@ fn values_with(
 
 /// FN, with values of association control.
 pub(crate) fn finish_meaning(
-    basis: &Ground<'_>,
+    basis: &ReadingGround<'_>,
     held: &[SetItem],
     transport: Option<u8>,
     start: usize,
@@ -386,7 +386,7 @@ pub(crate) fn finish_meaning(
 
 /// DN, with values of association control.
 pub(crate) fn disconnect_meaning(
-    basis: &Ground<'_>,
+    basis: &ReadingGround<'_>,
     held: &[SetItem],
     start: usize,
     user: &[u8],
@@ -405,7 +405,7 @@ pub(crate) fn disconnect_meaning(
 }
 
 /// The values that DT carries.
-fn carried_by_data(basis: &Ground<'_>) -> Carriage
+fn carried_by_data(basis: &ReadingGround<'_>) -> Carriage
     ensures { result ≡ reading.carried_by_data (association_base basis.now.tables.now
         basis.now.config.now) }
 {
@@ -418,7 +418,7 @@ fn carried_by_data(basis: &Ground<'_>) -> Carriage
 
 /// DT, with the module's values, in reliable mode with parts of transfers.
 pub(crate) fn data_meaning(
-    basis: &Ground<'_>,
+    basis: &ReadingGround<'_>,
     held: &[SetItem],
     start: usize,
     user: &[u8],
@@ -438,7 +438,7 @@ pub(crate) fn data_meaning(
 
 /// PT that carries values.
 fn plea_meaning(
-    basis: &Ground<'_>,
+    basis: &ReadingGround<'_>,
     held: &[SetItem],
     tokens: u8,
     start: usize,
@@ -462,7 +462,7 @@ fn plea_meaning(
 
 /// PT. A plea without a token item says nothing, whatever it carries.
 pub(crate) fn pleaded_with(
-    basis: &Ground<'_>,
+    basis: &ReadingGround<'_>,
     held: &[SetItem],
     tokens: Option<u8>,
     start: usize,
@@ -488,7 +488,11 @@ pub(crate) fn pleaded_with(
 }
 
 /// TD with AC or ACA.
-pub(crate) fn typed_meaning(basis: &Ground<'_>, start: usize, user: &[u8]) -> Result<Word, Halt>
+pub(crate) fn typed_meaning(
+    basis: &ReadingGround<'_>,
+    start: usize,
+    user: &[u8],
+) -> Result<Word, Halt>
     requires { start + length user.now < 2 ^ 63 }
     ensures { GivesAs seen_word result (words.typed start (ppdu_at places.Td user.now)) }
 {
@@ -517,7 +521,12 @@ pub(crate) fn typed_meaning(basis: &Ground<'_>, start: usize, user: &[u8]) -> Re
 }
 
 /// RS with its list.
-fn restart_meaning(basis: &Ground<'_>, number: u32, start: usize, user: &[u8]) -> Result<Word, Halt>
+fn restart_meaning(
+    basis: &ReadingGround<'_>,
+    number: u32,
+    start: usize,
+    user: &[u8],
+) -> Result<Word, Halt>
     requires { start + length user.now < 2 ^ 63 }
     ensures { GivesAs seen_word result (words.restarted number start (ppdu_at places.Rs user.now)) }
 {
@@ -546,7 +555,7 @@ fn restart_meaning(basis: &Ground<'_>, number: u32, start: usize, user: &[u8]) -
 
 /// RS with its list, or without user data.
 pub(crate) fn restarted_with(
-    basis: &Ground<'_>,
+    basis: &ReadingGround<'_>,
     number: u32,
     start: usize,
     user: &Option<Octets>,
@@ -562,7 +571,7 @@ pub(crate) fn restarted_with(
 
 /// RA with its list.
 fn restart_ack_meaning(
-    basis: &Ground<'_>,
+    basis: &ReadingGround<'_>,
     number: u32,
     start: usize,
     user: &[u8],
@@ -598,7 +607,7 @@ fn restart_ack_meaning(
 
 /// RA with its list, or without user data.
 pub(crate) fn restart_acked_with(
-    basis: &Ground<'_>,
+    basis: &ReadingGround<'_>,
     number: u32,
     start: usize,
     user: &Option<Octets>,

@@ -10,18 +10,18 @@ ghost use Rattle.association_words.specs.Seen.{seen_content, seen_arrived};
 ghost use Rattle.association_meaning.specs.Grounds.{GivesAs};
 ghost use Rattle.association_meaning.specs.Steps as steps;
 
-use crate::basis::{Ground, Halt, fault_at};
+use crate::basis::{Halt, ReadingGround, fault_at};
 use crate::contexts::pdv_wrong;
 use crate::layers::content_under;
 use association_reading::Carriage;
 use association_sets::pair_of;
-use association_words::{Arrived, Item, ValueContent};
+use association_words::{Arrived, TransferItem, ValueContent};
 use fixed_tables::PduFault;
 use osi_base::{Copied, Layer, Pair, Pdv, SetItem};
 use pdv_places::{PdvField, transfer_place};
 
 /// An invalid unit (6) at the place of a field of the value, counted in the octets of the transfer.
-fn invalid_at(basis: &Ground<'_>, octets: &[u8], field: PdvField) -> Result<Arrived, Halt>
+fn invalid_at(basis: &ReadingGround<'_>, octets: &[u8], field: PdvField) -> Result<Arrived, Halt>
     ensures { GivesAs seen_arrived result (Err (invalid_at (place_in field (places_of (spot_at 0
         octets.now))))) }
 {
@@ -31,7 +31,7 @@ fn invalid_at(basis: &Ground<'_>, octets: &[u8], field: PdvField) -> Result<Arri
 
 /// A transfer carries one value of the module.
 fn arrived_as(
-    basis: &Ground<'_>,
+    basis: &ReadingGround<'_>,
     octets: &[u8],
     id: u32,
     pair: &Pair,
@@ -41,7 +41,7 @@ fn arrived_as(
         pair.now (Ok (seen_content content))) }
 {
     match content {
-        ValueContent::Remote(apdu) => Ok(Arrived::Whole(Item {
+        ValueContent::Remote(apdu) => Ok(Arrived::Whole(TransferItem {
             id,
             pair: pair.copy(basis.alloc)?,
             apdu,
@@ -59,7 +59,7 @@ fn arrived_as(
 
 /// The value of a transfer, which may stand, under the pair of its context.
 fn arrived_under(
-    basis: &Ground<'_>,
+    basis: &ReadingGround<'_>,
     octets: &[u8],
     pdv: &Pdv,
     pair: Option<&Pair>,
@@ -77,7 +77,7 @@ fn arrived_under(
 
 /// The value of a transfer under the pair of its context, unless it may not stand.
 fn arrived_by(
-    basis: &Ground<'_>,
+    basis: &ReadingGround<'_>,
     octets: &[u8],
     pdv: &Pdv,
     pair: Option<&Pair>,
@@ -93,7 +93,7 @@ fn arrived_by(
 
 /// The value of a transfer under a set.
 fn arrived_in(
-    basis: &Ground<'_>,
+    basis: &ReadingGround<'_>,
     set: &[SetItem],
     octets: &[u8],
     pdv: &Pdv,
@@ -107,7 +107,11 @@ fn arrived_in(
 /// What the octets of a transfer are under a set: an APDU, or octets on a context of the module
 /// that spell none; or the fault that ends the association, of which places count in the octets.
 /// `NoMemory` where memory runs out.
-pub fn arrived_at(basis: &Ground<'_>, set: &[SetItem], octets: &[u8]) -> Result<Arrived, Halt>
+pub fn arrived_at(
+    basis: &ReadingGround<'_>,
+    set: &[SetItem],
+    octets: &[u8],
+) -> Result<Arrived, Halt>
     ensures { GivesAs seen_arrived result (reading.arrived_at basis.now.tables.now set.now
         octets.now) }
 {

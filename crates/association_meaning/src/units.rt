@@ -9,7 +9,7 @@ ghost use Rattle.association_meaning.specs.Grounds.{association_base, GivesAs};
 ghost use Rattle.association_meaning.specs.Words as words;
 ghost use Rattle.association_intake.specs.Seen.{HasPlaces};
 
-use crate::basis::{Ground, Halt};
+use crate::basis::{Halt, ReadingGround};
 use crate::parts::{
     aborted_with, accept_meaning, connect_meaning, data_meaning, disconnect_meaning,
     finish_meaning, pleaded_with, refused_with, restart_acked_with, restarted_with, typed_meaning,
@@ -66,7 +66,7 @@ fn of_activities(word: ActivityWord) -> Option<Word>
 
 /// What the other units mean: those that may carry values, and AA.
 fn carried_word(
-    basis: &Ground<'_>,
+    basis: &ReadingGround<'_>,
     accepted: &[SetItem],
     held: &[SetItem],
     unit: &SessionWord,
@@ -134,7 +134,7 @@ fn accepting(
 
 /// As `meaning`, step by step.
 fn unit_meaning(
-    basis: &Ground<'_>,
+    basis: &ReadingGround<'_>,
     accepted: &[SetItem],
     held: &[SetItem],
     unit: &SessionWord,
@@ -155,7 +155,7 @@ fn unit_meaning(
 /// forms of values, then their APDUs. Its user data begin at this place of its TSDU. `NoMemory`
 /// where memory runs out; the unit is left as it is.
 pub fn meaning(
-    basis: &Ground<'_>,
+    basis: &ReadingGround<'_>,
     accepted: &[SetItem],
     held: &[SetItem],
     unit: &SessionWord,

@@ -7,7 +7,7 @@ ghost use Rattle.association_reading.specs.Values as reading;
 ghost use Rattle.association_words.specs.Seen.{seen_value, seen_values};
 ghost use Rattle.association_meaning.specs.Grounds.{GivesAs};
 
-use crate::basis::{Ground, Halt};
+use crate::basis::{Halt, ReadingGround};
 use crate::contexts::{Carrier, check, first_wrong};
 use crate::layers::content_by;
 use crate::names::name_carried;
@@ -29,7 +29,7 @@ fn copied(alloc: Global, pair: Option<&Pair>) -> Result<Option<Pair>, NoMemory>
 
 /// A value under the pair of its context, where there is one.
 fn value_by(
-    basis: &Ground<'_>,
+    basis: &ReadingGround<'_>,
     carried: Carriage,
     pair: Option<&Pair>,
     pdv: &Pdv,
@@ -48,7 +48,7 @@ fn value_by(
 
 /// A value under a set.
 pub(crate) fn value_in(
-    basis: &Ground<'_>,
+    basis: &ReadingGround<'_>,
     carried: Carriage,
     set: &[SetItem],
     pdv: &Pdv,
@@ -61,7 +61,7 @@ pub(crate) fn value_in(
 
 /// Values under a set, one after the other.
 fn all_in(
-    basis: &Ground<'_>,
+    basis: &ReadingGround<'_>,
     carried: Carriage,
     set: &[SetItem],
     pdvs: &[Pdv],
@@ -79,7 +79,7 @@ fn all_in(
 
 /// Values of a message that carries these: the contexts and forms of all, then what each is.
 pub(crate) fn values_under(
-    basis: &Ground<'_>,
+    basis: &ReadingGround<'_>,
     set: &[SetItem],
     carried: Carriage,
     carrier: &Carrier<'_>,

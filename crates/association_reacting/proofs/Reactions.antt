@@ -17,9 +17,9 @@ use Rattle.end_rules.specs.TakesActivities.{activity_fault}
 use Rattle.end_rules.specs.Reacting as rules
 use Rattle.end_rules.specs.Reacting.{fault_above, word_fault, fails, on_word, react_to_word, on_transport, react_to_transport, react_to_session, react_alive, react}
 use Rattle.association_reading.specs.Reacting.{has_connection}
-use Rattle.association_answers.specs.declared.taken.Taken.{Taken}
-use Rattle.association_answers.specs.declared.taken.Reaction.{Reaction}
-use Rattle.association_answers.specs.declared.taken.Reaction.TheVariants as reaction
+use Rattle.association_answers.specs.declared.brought.Brought.{Brought}
+use Rattle.association_answers.specs.declared.brought.Reaction.{Reaction}
+use Rattle.association_answers.specs.declared.brought.Reaction.TheVariants as reaction
 use Rattle.association_answers.specs.Reacted.{TakenAs, FailsAs}
 use Rattle.association_takes.specs.Acts.{is_end}
 use Rattle.association_reacting.specs.Reacts.{TakesSo, ReactsAs}
@@ -54,7 +54,7 @@ failed_so old new accepted fault (reaction.Fails came aborts shown) e p = record
   is = λ i. rules.Fails fault (sym e i) (sym p.aborts_are i) (sym p.shown_is i);
 }
 
-pub taken_so : (rule : rules.Reaction) (new after : Body) (answers : List meant.Message) (shown : List Indication) (taken : Taken)
+pub taken_so : (rule : rules.Reaction) (new after : Body) (answers : List meant.Message) (shown : List Indication) (taken : Brought)
     → rule ≡ rules.Takes after answers shown → new ≡ after → TakenAs answers shown taken → TakesSo rule new taken
 taken_so rule new after answers shown taken e b t = record { is = e ∙ (λ i. rules.Takes (sym b i) (sym t.answers_are i) (sym t.shown_is i)) }
 

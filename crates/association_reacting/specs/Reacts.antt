@@ -6,9 +6,9 @@ use Rattle.end_rules.specs.State.{Body}
 use Rattle.end_rules.specs.Reacting as rules
 use Rattle.association_words.specs.declared.faults.Fault.{Fault}
 use Rattle.association_words.specs.declared.words.Message.{Message}
-use Rattle.association_answers.specs.declared.taken.Taken.{Taken}
-use Rattle.association_answers.specs.declared.taken.Reaction.{Reaction}
-use Rattle.association_answers.specs.declared.taken.Reaction.TheVariants.{Passes, Takes, Fails}
+use Rattle.association_answers.specs.declared.brought.Brought.{Brought}
+use Rattle.association_answers.specs.declared.brought.Reaction.{Reaction}
+use Rattle.association_answers.specs.declared.brought.Reaction.TheVariants.{Passes, Takes, Fails}
 use Rattle.association_answers.specs.Reacted.{seen_messages}
 
 -- the message is passed over, and nothing changes
@@ -17,7 +17,7 @@ pub record PassesSo (rule : rules.Reaction) (old new : Body) : Type 0 where
   pub body : new ≡ old
 
 -- it is taken, with this body afterwards, these answers and these indications
-pub record TakesSo (rule : rules.Reaction) (new : Body) (taken : Taken) : Type 0 where
+pub record TakesSo (rule : rules.Reaction) (new : Body) (taken : Brought) : Type 0 where
   pub is : rule ≡ rules.Takes new (seen_messages taken.answers) taken.shown
 
 -- it ends the association for a fault of this layer, place and reason, with this abort and these indications

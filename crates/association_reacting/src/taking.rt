@@ -9,7 +9,7 @@ ghost use Rattle.association_reacting.specs.ActivityEnds.{is_end_word};
 ghost use Rattle.association_reacting.specs.Reacts.{ReactsAs};
 
 use crate::faults::word_fault;
-use association_answers::{Reaction, Taken, fails};
+use association_answers::{Brought, Reaction, fails};
 use association_connecting::{contexts_for, take_association};
 use association_sets::copy_set;
 use association_state::{Body, Ground};
@@ -18,7 +18,7 @@ use association_words::{Fault, Word};
 use osi_base::{NoMemory, SetList};
 
 /// Takes a unit in which nothing is faulty.
-fn take_word(basis: &Ground<'_>, body: &mut Body, word: Word) -> Result<Taken, NoMemory>
+fn take_word(basis: &Ground<'_>, body: &mut Body, word: Word) -> Result<Brought, NoMemory>
     requires right { word_fault (base_in basis.now) (seen body.old) (seen_word word) ≡ None }
     requires other { is_end_word (seen_word word) ≡ false }
     ensures body { OnOk result (seen body.new ≡ after_word (base_in basis.now) (seen body.old)

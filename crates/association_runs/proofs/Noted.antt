@@ -41,7 +41,7 @@ use Rattle.outcome_laws.specs.Outcomes.{IsIn as IsAmong, value_of}
 use Rattle.outcome_laws.proofs.Open.{asked_in, Once, Found, found}
 use Rattle.outcome_laws.proofs.Hearing.{no-first, rest-none, head-once}
 use Rattle.outcome_laws.proofs.Transferred.{shown_of}
-use Rattle.run_laws.specs.Outcomes.{Invocation, Outcome, returned, failed, rejected as was_rejected, id_of, has_result, takes_parameter, has_error, has_outcome, IsIn, IsAllowed}
+use Rattle.run_laws.specs.Outcomes.{Invocation, ToldOutcome, returned, failed, rejected as was_rejected, id_of, has_result, takes_parameter, has_error, has_outcome, IsIn, IsAllowed}
 
 -- ---- members
 
@@ -61,33 +61,33 @@ pub record MadeAs (tables : Tables) (made : List Invocation) (id : ℤ) (linked 
   pub is_its : operation_with tables code ≡ Some place
   pub is_made : IsIn (record { id = id; operation = place; argument = argument; linked = linked }) made
 
-pub record FailedAs (tables : Tables) (given : List Outcome) (id : ℤ) (code : Code) (parameter : Option Val) : Type 0 where
+pub record FailedAs (tables : Tables) (given : List ToldOutcome) (id : ℤ) (code : Code) (parameter : Option Val) : Type 0 where
   pub place : ℕ
   pub is_its : error_with tables code ≡ Some place
   pub is_given : IsIn (failed id place parameter) given
 
-abbrev pub IsOurs : Tables → List Invocation → List Outcome → Apdu → Type 0
+abbrev pub IsOurs : Tables → List Invocation → List ToldOutcome → Apdu → Type 0
 IsOurs tables made given (apdus.Invoke id linked code argument) = MadeAs tables made id linked code argument
 IsOurs tables made given (apdus.Result id value) = IsIn (returned id (value_of value)) given
 IsOurs tables made given (apdus.Error id code parameter) = FailedAs tables given id code parameter
 IsOurs tables made given (apdus.Reject id problem) = Unit {0}
 
-pub ours-on : (tables : Tables) (made more : List Invocation) (given later : List Outcome) (apdu : Apdu) → IsOurs tables made given apdu → IsOurs tables (made ++ more) (given ++ later) apdu
+pub ours-on : (tables : Tables) (made more : List Invocation) (given later : List ToldOutcome) (apdu : Apdu) → IsOurs tables made given apdu → IsOurs tables (made ++ more) (given ++ later) apdu
 ours-on tables made more given later (apdus.Invoke id linked code argument) h = record { place = h.place; is_its = h.is_its; is_made = in-front made more _ h.is_made }
 ours-on tables made more given later (apdus.Result id value) h = in-front given later _ h
 ours-on tables made more given later (apdus.Error id code parameter) h = record { place = h.place; is_its = h.is_its; is_given = in-front given later _ h.is_given }
 ours-on tables made more given later (apdus.Reject id problem) h = tt
 
-pub record HoldsOurs (tables : Tables) (made : List Invocation) (given : List Outcome) (content : ValueContent) : Type 0 where
+pub record HoldsOurs (tables : Tables) (made : List Invocation) (given : List ToldOutcome) (content : ValueContent) : Type 0 where
   pub apdu : Apdu
   pub is_it : content ≡ Remote apdu
   pub is_ours : IsOurs tables made given apdu
 
-abbrev pub HoldOurs : Tables → List Invocation → List Outcome → List DataValue → Type 0
+abbrev pub HoldOurs : Tables → List Invocation → List ToldOutcome → List DataValue → Type 0
 HoldOurs tables made given [] = Unit {0}
 HoldOurs tables made given (value ∷ values) = HoldsOurs tables made given value.content × HoldOurs tables made given values
 
-pub hold-on : (tables : Tables) (made more : List Invocation) (given later : List Outcome) (values : List DataValue) → HoldOurs tables made given values → HoldOurs tables (made ++ more) (given ++ later) values
+pub hold-on : (tables : Tables) (made more : List Invocation) (given later : List ToldOutcome) (values : List DataValue) → HoldOurs tables made given values → HoldOurs tables (made ++ more) (given ++ later) values
 hold-on tables made more given later [] h = tt
 hold-on tables made more given later (value ∷ values) h =
     (record { apdu = h.0.apdu; is_it = h.0.is_it; is_ours = ours-on tables made more given later h.0.apdu h.0.is_ours }, hold-on tables made more given later values h.1)
@@ -118,32 +118,32 @@ made-of tables own (y ∷ ys) x h (inr k) = made-of tables own ys x h.1 k
 
 -- ---- what is noted
 
-abbrev pub IsNoted : Tables → List Invocation → List Invocation → List Outcome → Indication → Type 0
+abbrev pub IsNoted : Tables → List Invocation → List Invocation → List ToldOutcome → Indication → Type 0
 IsNoted tables own made given (indications.Invoked id place linked argument) = IsIn (record { id = id; operation = place; argument = argument; linked = linked }) made
 IsNoted tables own made given (indications.Result id value) = IsIn (returned id value) given × IsAllowed tables own (returned id value)
 IsNoted tables own made given (indications.Error id place parameter) = IsIn (failed id place parameter) given × IsAllowed tables own (failed id place parameter)
 IsNoted tables own made given (indications.Rejected id problem) = IsAllowed tables own (was_rejected id problem)
 IsNoted tables own made given indication = Unit {0}
 
-abbrev pub AreNoted : Tables → List Invocation → List Invocation → List Outcome → List Indication → Type 0
+abbrev pub AreNoted : Tables → List Invocation → List Invocation → List ToldOutcome → List Indication → Type 0
 AreNoted tables own made given [] = Unit {0}
 AreNoted tables own made given (i ∷ shown) = IsNoted tables own made given i × AreNoted tables own made given shown
 
-allowed-on : (tables : Tables) (own more : List Invocation) (outcome : Outcome) → IsAllowed tables own outcome → IsAllowed tables (own ++ more) outcome
+allowed-on : (tables : Tables) (own more : List Invocation) (outcome : ToldOutcome) → IsAllowed tables own outcome → IsAllowed tables (own ++ more) outcome
 allowed-on tables own more outcome h = record { invocation = h.invocation; operation = h.operation; is_made = in-front own more h.invocation h.is_made; is_its = h.is_its; is_there = h.is_there; has_it = h.has_it }
 
-noted-on : (tables : Tables) (own others made more : List Invocation) (given later : List Outcome) (i : Indication) → IsNoted tables own made given i → IsNoted tables (own ++ others) (made ++ more) (given ++ later) i
+noted-on : (tables : Tables) (own others made more : List Invocation) (given later : List ToldOutcome) (i : Indication) → IsNoted tables own made given i → IsNoted tables (own ++ others) (made ++ more) (given ++ later) i
 noted-on tables own others made more given later (indications.Invoked id place linked argument) h = in-front made more _ h
 noted-on tables own others made more given later (indications.Result id value) h = (in-front given later _ h.0, allowed-on tables own others (returned id value) h.1)
 noted-on tables own others made more given later (indications.Error id place parameter) h = (in-front given later _ h.0, allowed-on tables own others (failed id place parameter) h.1)
 noted-on tables own others made more given later (indications.Rejected id problem) h = allowed-on tables own others (was_rejected id problem) h
 noted-on tables own others made more given later _ h = tt
 
-pub all-noted_on : (tables : Tables) (own others made more : List Invocation) (given later : List Outcome) (shown : List Indication) → AreNoted tables own made given shown → AreNoted tables (own ++ others) (made ++ more) (given ++ later) shown
+pub all-noted_on : (tables : Tables) (own others made more : List Invocation) (given later : List ToldOutcome) (shown : List Indication) → AreNoted tables own made given shown → AreNoted tables (own ++ others) (made ++ more) (given ++ later) shown
 all-noted_on tables own others made more given later [] h = tt
 all-noted_on tables own others made more given later (i ∷ shown) h = (noted-on tables own others made more given later i h.0, all-noted_on tables own others made more given later shown h.1)
 
-pub noted-append : (tables : Tables) (own made : List Invocation) (given : List Outcome) (xs ys : List Indication) → AreNoted tables own made given xs → AreNoted tables own made given ys → AreNoted tables own made given (xs ++ ys)
+pub noted-append : (tables : Tables) (own made : List Invocation) (given : List ToldOutcome) (xs ys : List Indication) → AreNoted tables own made given xs → AreNoted tables own made given ys → AreNoted tables own made given (xs ++ ys)
 noted-append tables own made given [] ys h k = k
 noted-append tables own made given (x ∷ xs) ys h k = (h.0, noted-append tables own made given xs ys h.1 k)
 
@@ -164,14 +164,14 @@ plain-append : (xs ys : List Indication) → ArePlain xs → ArePlain ys → Are
 plain-append [] ys h k = k
 plain-append (x ∷ xs) ys h k = (h.0, plain-append xs ys h.1 k)
 
-plain-one : (tables : Tables) (own made : List Invocation) (given : List Outcome) (i : Indication) → IsPlain i → IsNoted tables own made given i
+plain-one : (tables : Tables) (own made : List Invocation) (given : List ToldOutcome) (i : Indication) → IsPlain i → IsNoted tables own made given i
 plain-one tables own made given (indications.Invoked id place linked argument) h = absurd h
 plain-one tables own made given (indications.Result id value) h = absurd h
 plain-one tables own made given (indications.Error id place parameter) h = absurd h
 plain-one tables own made given (indications.Rejected id problem) h = absurd h
 plain-one tables own made given _ h = tt
 
-plain-noted : (tables : Tables) (own made : List Invocation) (given : List Outcome) (shown : List Indication) → ArePlain shown → AreNoted tables own made given shown
+plain-noted : (tables : Tables) (own made : List Invocation) (given : List ToldOutcome) (shown : List Indication) → ArePlain shown → AreNoted tables own made given shown
 plain-noted tables own made given [] h = tt
 plain-noted tables own made given (i ∷ shown) h = (plain-one tables own made given i h.0, plain-noted tables own made given shown h.1)
 
@@ -339,7 +339,7 @@ heard_values base body (Session (OfData (Values values))) = if is_reliable base.
 heard_values base body (Session (OfActivities (End number))) = handed_up base body
 heard_values base body message = []
 
-module _ (base : Base) (own made : List Invocation) (given : List Outcome) where
+module _ (base : Base) (own made : List Invocation) (given : List ToldOutcome) where
   abbrev Notes : Heard → Type 0
   Notes heard = AreNoted base.tables own made given heard.shown
 
@@ -348,7 +348,7 @@ module _ (base : Base) (own made : List Invocation) (given : List Outcome) where
   unless (Some n) refused heard f h = f n
 
   -- an outcome of an open invocation
-  allowed-so : (asked : List Asked) (calls : Calls) (id : ℤ) (o : OpenCall) (outcome : Outcome) → AreMade base.tables own asked → Found asked calls.made id o → id_of outcome ≡ id → ((row : Operation) → operation_at base.tables o.operation ≡ Some row → has_outcome base.tables row outcome ≡ true) → IsAllowed base.tables own outcome
+  allowed-so : (asked : List Asked) (calls : Calls) (id : ℤ) (o : OpenCall) (outcome : ToldOutcome) → AreMade base.tables own asked → Found asked calls.made id o → id_of outcome ≡ id → ((row : Operation) → operation_at base.tables o.operation ≡ Some row → has_outcome base.tables row outcome ≡ true) → IsAllowed base.tables own outcome
   allowed-so asked calls id o outcome m f e h =
       let x = made-of base.tables own asked (asked_in o) m f.asked_it in
       record {

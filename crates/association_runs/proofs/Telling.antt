@@ -19,7 +19,7 @@ use Rattle.end_model.proofs.Numbered.{or-first, or-second}
 use Rattle.outcome_laws.specs.Deals.{Asked, outcomes_in, AreDistinct}
 use Rattle.outcome_laws.specs.Links.{Fits, AllFit, links_in}
 use Rattle.run_laws.specs.Showing.{indications_at, EachCarryShows}
-use Rattle.run_laws.specs.Outcomes.{Invocation, Outcome, id_of, invoked_by, answered_by, invocations, answers, invocation_in, outcome_in, told_invocations, outcomes, IsIn, IsAllowed, IsAnswer, Differ, AreOnce, IsLinkAllowed, OneOutcome}
+use Rattle.run_laws.specs.Outcomes.{Invocation, ToldOutcome, id_of, invoked_by, answered_by, invocations, answers, invocation_in, outcome_in, told_invocations, outcomes, IsIn, IsAllowed, IsAnswer, Differ, AreOnce, IsLinkAllowed, OneOutcome}
 use Rattle.association_runs.specs.Worlds.{Runs}
 use Rattle.association_runs.proofs.Transcribed.{calls_at, calls-told, seen_at, seen-told}
 use Rattle.association_runs.proofs.Noted.{IsMade, AreMade, made-of, AreNoted, IsPlain, ArePlain}
@@ -106,7 +106,7 @@ AreFresh (i ∷ is) = IsFresh i is × AreFresh is
 
 -- ---- what one end is told
 
-pub record TellsRightly (tables : Tables) (own made : List Invocation) (given : List Outcome) (invoked : List Invocation) (outcomes : List Outcome) : Type 0 where
+pub record TellsRightly (tables : Tables) (own made : List Invocation) (given : List ToldOutcome) (invoked : List Invocation) (outcomes : List ToldOutcome) : Type 0 where
   pub invoked_right : AllByRecursion (λ (i : Invocation). IsIn i made) invoked
   pub invoked_once : AreOnce invoked
   pub linked : AllByRecursion (IsLinkAllowed tables own) invoked
@@ -114,7 +114,7 @@ pub record TellsRightly (tables : Tables) (own made : List Invocation) (given : 
   pub allowed : AllByRecursion (IsAllowed tables own) outcomes
   pub answered : AllByRecursion (IsAnswer given) outcomes
 
-module _ (tables : Tables) (own made : List Invocation) (given : List Outcome) where
+module _ (tables : Tables) (own made : List Invocation) (given : List ToldOutcome) where
   invoked-told : (shown : List Indication) → AreNoted tables own made given shown → AllByRecursion (λ (i : Invocation). IsIn i made) (flat_map invocation_in shown)
   invoked-told [] h = tt
   invoked-told (indications.Invoked id place linked argument ∷ shown) h = (h.0, invoked-told shown h.1)
@@ -155,7 +155,7 @@ module _ (tables : Tables) (own made : List Invocation) (given : List Outcome) w
 differs : (i j : ℤ) → int_eq i j ≡ false → j ≢ i
 differs i j h e = let same : int_eq i j ≡ true = (Decides-int_eq i j).1 (sym e) in absurd cc
 
-apart-told : (i : ℤ) (shown : List Indication) → list_any (int_eq i) (outcomes_in shown) ≡ false → AllByRecursion (λ (p : Outcome). id_of p ≢ i) (flat_map outcome_in shown)
+apart-told : (i : ℤ) (shown : List Indication) → list_any (int_eq i) (outcomes_in shown) ≡ false → AllByRecursion (λ (p : ToldOutcome). id_of p ≢ i) (flat_map outcome_in shown)
 apart-told i [] h = tt
 apart-told i (indications.Result id value ∷ shown) h = (differs i id (or-first (int_eq i id) (list_any (int_eq i) (outcomes_in shown)) h), apart-told i shown (or-second (int_eq i id) (list_any (int_eq i) (outcomes_in shown)) h))
 apart-told i (indications.Error id place parameter ∷ shown) h = (differs i id (or-first (int_eq i id) (list_any (int_eq i) (outcomes_in shown)) h), apart-told i shown (or-second (int_eq i id) (list_any (int_eq i) (outcomes_in shown)) h))
@@ -180,10 +180,10 @@ invoked-once (indications.Invoked id place linked argument ∷ shown) h = (fresh
 invoked-once (_ ∷ shown) h = invoked-once shown h
 
 -- What one end was told, where it has these notes.
-pub tells-rightly : (tables : Tables) (own made : List Invocation) (given : List Outcome) (asked : List Asked) (seen shown : List Indication) → notes_of seen ≡ notes_of shown → AreMade tables own asked → AreNoted tables own made given shown → AreFresh (invoked_ids shown) → AreDistinct (outcomes_in shown) → AllFit tables asked (links_in shown)
+pub tells-rightly : (tables : Tables) (own made : List Invocation) (given : List ToldOutcome) (asked : List Asked) (seen shown : List Indication) → notes_of seen ≡ notes_of shown → AreMade tables own asked → AreNoted tables own made given shown → AreFresh (invoked_ids shown) → AreDistinct (outcomes_in shown) → AllFit tables asked (links_in shown)
     → TellsRightly tables own made given (flat_map invocation_in seen) (flat_map outcome_in seen)
 tells-rightly tables own made given asked seen shown e m n f d l =
-    subst (λ (os : List Outcome). TellsRightly tables own made given (flat_map invocation_in seen) os) (same-flat outcome_in note-outcome seen shown e)
+    subst (λ (os : List ToldOutcome). TellsRightly tables own made given (flat_map invocation_in seen) os) (same-flat outcome_in note-outcome seen shown e)
     (subst (λ (is : List Invocation). TellsRightly tables own made given is (flat_map outcome_in shown)) (same-flat invocation_in note-invocation seen shown e)
     (record {
       invoked_right = invoked-told tables own made given shown n;
@@ -207,7 +207,7 @@ module _ (tables : Tables) (ends : Ends) (w : World) (all : List Event) (told : 
       subst (λ (l : List Indication). TellsRightly tables (invocations side told) (invocations (other side) told) (answers (other side) told) (flat_map invocation_in l) (flat_map outcome_in l)) seen
       (subst (λ (l : List Invocation). TellsRightly tables l (invocations (other side) told) (answers (other side) told) (flat_map invocation_in (seen_at ends side w)) (flat_map outcome_in (seen_at ends side w))) (calls-told invoked_by ends side w all told r)
       (subst (λ (l : List Invocation). TellsRightly tables (calls_at invoked_by side w) l (answers (other side) told) (flat_map invocation_in (seen_at ends side w)) (flat_map outcome_in (seen_at ends side w))) (calls-told invoked_by ends (other side) w all told r)
-      (subst (λ (l : List Outcome). TellsRightly tables (calls_at invoked_by side w) (calls_at invoked_by (other side) w) l (flat_map invocation_in (seen_at ends side w)) (flat_map outcome_in (seen_at ends side w))) (calls-told answered_by ends (other side) w all told r) (h side))))
+      (subst (λ (l : List ToldOutcome). TellsRightly tables (calls_at invoked_by side w) (calls_at invoked_by (other side) w) l (flat_map invocation_in (seen_at ends side w)) (flat_map outcome_in (seen_at ends side w))) (calls-told answered_by ends (other side) w all told r) (h side))))
 
   pub one-outcome : OneOutcome tables told
   one-outcome = record {

@@ -15,7 +15,7 @@ ghost use Rattle.association_state.specs.Seen.{base_in, seen};
 ghost use Rattle.association_answers.specs.Reacted.{TakenAs};
 ghost use Rattle.association_sends.specs.Due.{listed};
 
-use association_answers::{Taken, answered, push_losses, quiet, told};
+use association_answers::{Brought, answered, push_losses, quiet, told};
 use association_hearing::{set_resumed, suspend, take_value};
 use association_sets::copy_set;
 use association_state::{Awaited, Body, Ground, Receiving};
@@ -43,7 +43,7 @@ fn start_record(receiving: &mut Receiving, activity: u32)
 }
 
 /// Takes AS: both ends keep the held set as the inter-activity set.
-fn take_start(basis: &Ground<'_>, body: &mut Body, activity: u32) -> Result<Taken, NoMemory>
+fn take_start(basis: &Ground<'_>, body: &mut Body, activity: u32) -> Result<Brought, NoMemory>
     ensures body { OnOk result (seen body.new ≡ keeping (received (λ r. started_record activity)
         (seen body.old))) }
     ensures taken { IfOk result (TakenAs [] []) }
@@ -74,7 +74,7 @@ fn take_resume(
     body: &mut Body,
     activity: u32,
     mark: u32,
-) -> Result<Taken, NoMemory>
+) -> Result<Brought, NoMemory>
     ensures body { OnOk result (seen body.new ≡ after_resume activity mark (seen body.old)) }
     ensures taken { IfOk result (TakenAs [] (indications.Resumed activity mark ∷ [])) }
 {
@@ -111,7 +111,7 @@ fn take_arrived(
     basis: &Ground<'_>,
     body: &mut Body,
     arrived: Option<Value>,
-) -> Result<Taken, NoMemory>
+) -> Result<Brought, NoMemory>
     ensures { IfOk result (TookAs (take_values (base_in basis.now) (seen body.old) (map seen_value
         (listed arrived))) (seen body.new)) }
 {
@@ -128,7 +128,7 @@ pub fn end_taken(
     body: &mut Body,
     number: u32,
     arrived: Option<Value>,
-) -> Result<Taken, NoMemory>
+) -> Result<Brought, NoMemory>
     requires { map seen_value (listed arrived) ≡ handed_up (base_in basis.now) (seen body.old) }
     ensures body { OnOk result (seen body.new ≡ after_activity (base_in basis.now) (seen body.old)
         (End number)) }
@@ -139,14 +139,14 @@ pub fn end_taken(
     body.receiving.active = false;
     let taken = take_arrived(basis, body, arrived)?;
     between(basis.alloc, body)?;
-    let Taken { answers: _, shown } = taken;
+    let Brought { answers: _, shown } = taken;
     let mut all = answered(basis.alloc, word(ActivityWord::EndAck { number }))?;
     all.shown = shown;
     Ok(all)
 }
 
 /// Takes AEA.
-fn take_end_ack(basis: &Ground<'_>, body: &mut Body) -> Result<Taken, NoMemory>
+fn take_end_ack(basis: &Ground<'_>, body: &mut Body) -> Result<Brought, NoMemory>
     ensures body { OnOk result (seen body.new ≡ between (without_current (seen body.old))) }
     ensures taken { IfOk result (TakenAs [] (indications.Transferred (seen body.old).sending.started
         ∷ [])) }
@@ -162,7 +162,7 @@ fn take_end_ack(basis: &Ground<'_>, body: &mut Body) -> Result<Taken, NoMemory>
 }
 
 /// Takes AI.
-fn take_interrupt(basis: &Ground<'_>, body: &mut Body) -> Result<Taken, NoMemory>
+fn take_interrupt(basis: &Ground<'_>, body: &mut Body) -> Result<Brought, NoMemory>
     ensures body { OnOk result (seen body.new ≡ between (received (λ r. record r { active = false })
         (seen body.old))) }
     ensures taken { IfOk result (TakenAs (Session (OfActivities InterruptAck) ∷ [])
@@ -181,7 +181,7 @@ fn take_interrupt(basis: &Ground<'_>, body: &mut Body) -> Result<Taken, NoMemory
 }
 
 /// Takes AD.
-fn take_discard(basis: &Ground<'_>, body: &mut Body) -> Result<Taken, NoMemory>
+fn take_discard(basis: &Ground<'_>, body: &mut Body) -> Result<Brought, NoMemory>
     ensures body { OnOk result (seen body.new ≡ between (received (λ r. record r {
       pieces = [];
       active = false;
@@ -211,7 +211,7 @@ fn calm(body: &mut Body)
 }
 
 /// Takes AIA.
-fn take_interrupt_ack(basis: &Ground<'_>, body: &mut Body) -> Result<Taken, NoMemory>
+fn take_interrupt_ack(basis: &Ground<'_>, body: &mut Body) -> Result<Brought, NoMemory>
     ensures body { OnOk result (seen body.new ≡ between (calmed (on_transfer (λ (t : rule_transfer).
         record t { progress = Suspended }) (seen body.old)))) }
     ensures taken { IfOk result (TakenAs [] (losses (seen body.old) ++ indications.Interrupted
@@ -274,7 +274,7 @@ fn cut(body: &mut Body, id: Option<i64>)
 }
 
 /// Takes ADA: a discarded transfer is forgotten, and an invocation in it is cut.
-fn take_discard_ack(basis: &Ground<'_>, body: &mut Body) -> Result<Taken, NoMemory>
+fn take_discard_ack(basis: &Ground<'_>, body: &mut Body) -> Result<Brought, NoMemory>
     ensures body { OnOk result (seen body.new ≡ after_discard (seen body.old)) }
     ensures taken { IfOk result (TakenAs [] ((losses (seen body.old) ++ shown_cut (invocation_in
         (seen body.old).sending.current) (seen body.old).calls) ++ indications.Discarded
@@ -299,7 +299,7 @@ pub fn take_activity(
     basis: &Ground<'_>,
     body: &mut Body,
     word: ActivityWord,
-) -> Result<Taken, NoMemory>
+) -> Result<Brought, NoMemory>
     requires { is_end (seen_activities word) ≡ false }
     ensures body { OnOk result (seen body.new ≡ after_activity (base_in basis.now) (seen body.old)
         (seen_activities word)) }

@@ -10,7 +10,7 @@ ghost use Rattle.association_words.specs.Seen.{seen_fault};
 ghost use Rattle.association_state.specs.Seen.{base_in, seen};
 ghost use Rattle.association_answers.specs.Reacted.{TakenAs};
 
-use association_answers::{Taken, policy, quiet, told};
+use association_answers::{Brought, policy, quiet, told};
 use association_ground::is_reliable;
 use association_sets::{Alteration, alter, fit_alteration, proposed_ids};
 use association_state::{Body, Ground, take_oldest};
@@ -115,7 +115,7 @@ fn alter_answered(
     basis: &Ground<'_>,
     asked: &Alteration,
     answers: Answers,
-) -> Result<Taken, NoMemory>
+) -> Result<Brought, NoMemory>
     ensures { IfOk result (TakenAs (Session (OfData (AlterContextAck answers)) ∷ [])
         (indications.AlterTaken (proposed_ids asked.now.add) asked.now.delete answers ∷ [])) }
 {
@@ -131,7 +131,7 @@ pub fn take_alter(
     body: &mut Body,
     add: Proposals,
     delete: Ids,
-) -> Result<Taken, NoMemory>
+) -> Result<Brought, NoMemory>
     ensures body { OnOk result (seen body.new ≡ after_data (base_in basis.now) (seen body.old)
         (AlterContext add delete)) }
     ensures taken { IfOk result (TakenAs (answers_to_data (base_in basis.now) (seen body.old)
@@ -151,7 +151,7 @@ pub fn take_answers(
     basis: &Ground<'_>,
     body: &mut Body,
     answers: Answers,
-) -> Result<Taken, NoMemory>
+) -> Result<Brought, NoMemory>
     ensures body { OnOk result (seen body.new ≡ after_data (base_in basis.now) (seen body.old)
         (AlterContextAck answers)) }
     ensures taken { IfOk result (TakenAs (answers_to_data (base_in basis.now) (seen body.old)

@@ -9,7 +9,7 @@ ghost use Rattle.association_answers.specs.Reacted.{TakenAs};
 
 use crate::alterations::{alter_fault, answered_fault, take_alter, take_answers};
 use crate::parts::{take_parts, values_fault};
-use association_answers::{Taken, quiet};
+use association_answers::{Brought, quiet};
 use association_ground::is_reliable;
 use association_hearing::take_values;
 use association_state::{Body, Ground};
@@ -29,7 +29,7 @@ pub fn data_fault(basis: &Ground<'_>, body: &Body, word: &DataWord) -> Option<Fa
 }
 
 /// Takes values: in reliable mode as pieces of the peer's activity, else as APDUs.
-fn take_all(basis: &Ground<'_>, body: &mut Body, values: Values) -> Result<Taken, NoMemory>
+fn take_all(basis: &Ground<'_>, body: &mut Body, values: Values) -> Result<Brought, NoMemory>
     ensures body { OnOk result (seen body.new ≡ after_data (base_in basis.now) (seen body.old)
         (values_word (seen_values values))) }
     ensures taken { IfOk result (TakenAs (answers_to_data (base_in basis.now) (seen body.old)
@@ -44,7 +44,7 @@ fn take_all(basis: &Ground<'_>, body: &mut Body, values: Values) -> Result<Taken
 }
 
 /// Takes a unit of data.
-pub fn take_data(basis: &Ground<'_>, body: &mut Body, word: DataWord) -> Result<Taken, NoMemory>
+pub fn take_data(basis: &Ground<'_>, body: &mut Body, word: DataWord) -> Result<Brought, NoMemory>
     ensures body { OnOk result (seen body.new ≡ after_data (base_in basis.now) (seen body.old)
         (seen_data word)) }
     ensures taken { IfOk result (TakenAs (answers_to_data (base_in basis.now) (seen body.old)

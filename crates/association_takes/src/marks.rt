@@ -12,7 +12,7 @@ ghost use Rattle.association_state.specs.Seen.{base_in, seen};
 ghost use Rattle.association_answers.specs.Reacted.{TakenAs};
 
 use crate::parts::has_associated;
-use association_answers::{Taken, answered, push_cuts, push_losses, quiet, told};
+use association_answers::{Brought, answered, push_cuts, push_losses, quiet, told};
 use association_sets::{copy_set, listed, same_lists};
 use association_state::{Awaited, Body, Ground};
 use association_words::{Fault, MarkWord, Message, Value, ValueContent, Word};
@@ -39,7 +39,7 @@ fn save_mark(basis: &Ground<'_>, body: &mut Body, number: u32) -> Result<(), NoM
 }
 
 /// A mark is confirmed in reliable mode, and shown in direct mode.
-fn mark_taken(basis: &Ground<'_>, number: u32) -> Result<Taken, NoMemory>
+fn mark_taken(basis: &Ground<'_>, number: u32) -> Result<Brought, NoMemory>
     ensures { IfOk result (TakenAs (mark_answer basis.now.config.mode number) (mark_shown
         basis.now.config.mode number)) }
 {
@@ -216,7 +216,7 @@ fn restart_answer(basis: &Ground<'_>, body: &Body, n: u32) -> Result<Message, No
 }
 
 /// Takes a restart.
-fn take_restart(basis: &Ground<'_>, body: &mut Body, n: u32) -> Result<Taken, NoMemory>
+fn take_restart(basis: &Ground<'_>, body: &mut Body, n: u32) -> Result<Brought, NoMemory>
     ensures body { OnOk result (seen body.new ≡ restarted (base_in basis.now) n (seen body.old)) }
     ensures taken { IfOk result (TakenAs (Session (OfMarks (RestartAck n (Some (listed (restored_set
         (seen body.old) n))))) ∷ []) (shown_restarted (seen body.old) n)) }
@@ -231,7 +231,7 @@ fn take_restart(basis: &Ground<'_>, body: &mut Body, n: u32) -> Result<Taken, No
 }
 
 /// Takes the answer to a restart.
-fn take_restart_ack(basis: &Ground<'_>, body: &mut Body, n: u32) -> Result<Taken, NoMemory>
+fn take_restart_ack(basis: &Ground<'_>, body: &mut Body, n: u32) -> Result<Brought, NoMemory>
     ensures body { OnOk result (seen body.new ≡ restarted (base_in basis.now) n (seen body.old)) }
     ensures taken { IfOk result (TakenAs [] (shown_restarted (seen body.old) n)) }
 {
@@ -253,7 +253,7 @@ fn take_turn(body: &mut Body)
 }
 
 /// Takes GT.
-fn take_give(basis: &Ground<'_>, body: &mut Body, tokens: Option<u8>) -> Result<Taken, NoMemory>
+fn take_give(basis: &Ground<'_>, body: &mut Body, tokens: Option<u8>) -> Result<Brought, NoMemory>
     ensures body { OnOk result (seen body.new ≡ with_turn tokens (seen body.old)) }
     ensures taken { IfOk result (TakenAs [] (shown_turn tokens)) }
 {
@@ -267,7 +267,11 @@ fn take_give(basis: &Ground<'_>, body: &mut Body, tokens: Option<u8>) -> Result<
 }
 
 /// What is shown of a plea.
-fn shown_please(basis: &Ground<'_>, tokens: Option<u8>, values: &[Value]) -> Result<Taken, NoMemory>
+fn shown_please(
+    basis: &Ground<'_>,
+    tokens: Option<u8>,
+    values: &[Value],
+) -> Result<Brought, NoMemory>
     ensures { IfOk result (TakenAs [] (shown_please tokens (seen_values values.now))) }
 {
     if tokens.is_none() {
@@ -280,7 +284,7 @@ fn shown_please(basis: &Ground<'_>, tokens: Option<u8>, values: &[Value]) -> Res
 }
 
 /// Takes GTC.
-fn take_give_confirm(basis: &Ground<'_>, body: &mut Body) -> Result<Taken, NoMemory>
+fn take_give_confirm(basis: &Ground<'_>, body: &mut Body) -> Result<Brought, NoMemory>
     ensures body { OnOk result (seen body.new ≡ record (seen body.old) {
       link = record (seen body.old).link { turn = true; gave = false };
     }) }
@@ -295,7 +299,7 @@ fn take_give_confirm(basis: &Ground<'_>, body: &mut Body) -> Result<Taken, NoMem
 }
 
 /// Takes a unit of marks or tokens.
-pub fn take_mark(basis: &Ground<'_>, body: &mut Body, word: MarkWord) -> Result<Taken, NoMemory>
+pub fn take_mark(basis: &Ground<'_>, body: &mut Body, word: MarkWord) -> Result<Brought, NoMemory>
     ensures body { OnOk result (seen body.new ≡ after_mark (base_in basis.now) (seen body.old)
         (seen_marks word)) }
     ensures taken { IfOk result (TakenAs (answers_to_mark (base_in basis.now) (seen body.old)

@@ -10,7 +10,7 @@ ghost use Rattle.association_pieces.specs.Link.{seen_stage};
 ghost use Rattle.association_state.specs.Seen.{base_in, seen};
 ghost use Rattle.association_answers.specs.Reacted.{TakenAs};
 
-use association_answers::{Taken, answered, quiet, told};
+use association_answers::{Brought, answered, quiet, told};
 use association_ground::{is_recovering, is_waiting};
 use association_sends::connect_message;
 use association_state::{Body, Ground, Stage};
@@ -140,7 +140,7 @@ pub fn take_transport(
     basis: &Ground<'_>,
     body: &mut Body,
     unit: TransportUnit,
-) -> Result<Taken, NoMemory>
+) -> Result<Brought, NoMemory>
     ensures body { OnOk result (seen body.new ≡ after_transport (base_in basis.now) (seen body.old)
         (seen_transport unit)) }
     ensures taken { IfOk result (TakenAs (answers_to_transport (base_in basis.now) (seen body.old)

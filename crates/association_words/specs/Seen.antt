@@ -8,7 +8,7 @@ use Rattle.association_words.specs.declared.values.Information.TheVariants.{Tran
 use Rattle.association_words.specs.declared.values.ValueContent.{ValueContent}
 use Rattle.association_words.specs.declared.values.ValueContent.TheVariants.{Remote, Unread, Association, Plea, Part}
 use Rattle.association_words.specs.declared.values.Value.{Value}
-use Rattle.association_words.specs.declared.values.Item.{Item}
+use Rattle.association_words.specs.declared.values.TransferItem.{TransferItem}
 use Rattle.association_words.specs.declared.values.Arrived.{Arrived}
 use Rattle.association_words.specs.declared.values.Arrived.TheVariants.{Whole, Raw}
 use Rattle.association_words.specs.declared.words.TransportUnit.{TransportUnit}
@@ -48,7 +48,7 @@ seen_value value = record { id = value.id; pair = value.pair; content = seen_con
 abbrev pub seen_values : List Value → List meant.DataValue
 seen_values values = map seen_value values
 
-abbrev pub seen_item : Item → rules.Item
+abbrev pub seen_item : TransferItem → rules.Item
 seen_item item = record { id = item.id; pair = item.pair; apdu = item.apdu }
 
 abbrev pub seen_arrived : Arrived → rules.Arrived

@@ -7,7 +7,7 @@ mod words;
 
 pub use faults::Fault;
 pub use values::{
-    Arrived, Information, Item, UserInformation, Value, ValueContent, Values, syntax_of,
+    Arrived, Information, TransferItem, UserInformation, Value, ValueContent, Values, syntax_of,
 };
 pub use words::{
     AbortData, Accepting, ActivityWord, AssociationWord, DataWord, MarkWord, Message,

@@ -50,7 +50,7 @@ pub type Values = ListOf<Value>;
 
 /// An APDU on a context, with the pair under which it is written or was read.
 #[derive(Debug, Drop)]
-pub struct Item {
+pub struct TransferItem {
     /// The identifier of the presentation context.
     pub id: u32,
     /// The pair of abstract and transfer syntax under which the APDU is written or was read.
@@ -63,7 +63,7 @@ pub struct Item {
 #[derive(Debug, Drop)]
 pub enum Arrived {
     /// An APDU.
-    Whole(Item),
+    Whole(TransferItem),
     /// Octets on a context of the module that spell none.
     Raw { id: u32, pair: Pair, octets: Octets },
 }

@@ -12,7 +12,7 @@ ghost use Rattle.association_writing.specs.Room.{item_pdv};
 ghost use Rattle.association_wire.specs.Values.{external_of, with_user, content_octets, in_form, pdv_of, pdvs_of};
 
 use association_codecs::Codecs;
-use association_words::{Information, Item, Value, ValueContent, syntax_of};
+use association_words::{Information, TransferItem, Value, ValueContent, syntax_of};
 use osi_base::{
     Acse, Copied, External, Externals, ListOf, NoMemory, Octets, Pdv, PdvContent, Pdvs, Rtse,
     Syntax,
@@ -215,7 +215,7 @@ pub fn write_item(
     alloc: Global,
     codecs: &Codecs,
     tables: &Tables,
-    item: &Item,
+    item: &TransferItem,
 ) -> Result<Octets, NoMemory>
     ensures { IfOk result (λ octets. octets ≡ written_transfer
         (item_pdv tables.now (seen_item item.now))) }

@@ -46,7 +46,7 @@ use Rattle.end_model.proofs.Facts.{is-up}
 use Rattle.bare_duo.proofs.Flights.{AllSent, sent-append, written_all, written-append, next_of, none_faulty}
 use Rattle.bare_duo.specs.Shows.{shown_of, apdu_in, shown_by, shown_all}
 use Rattle.bare_duo.specs.Passing.{sent_in, took_in}
-use Rattle.run_laws.specs.Outcomes.{Invocation, Outcome, invocation_in, outcome_in}
+use Rattle.run_laws.specs.Outcomes.{Invocation, ToldOutcome, invocation_in, outcome_in}
 use Rattle.bare_duo.specs.Outcomes.{invocations_in, outcomes_in}
 use Rattle.bare_duo.specs.Allowed.{may_take, MightTake}
 use Rattle.bare_duo.specs.Carrying.{given_by}
@@ -128,7 +128,7 @@ way_took t over rest waiting later given s k c left m up is behind good w =
 abbrev pub asked : Tables → List Message → List Invocation
 asked t ms = invocations_in (shown_all t ms)
 
-abbrev pub answered_in : Tables → List Message → List Outcome
+abbrev pub answered_in : Tables → List Message → List ToldOutcome
 answered_in t ms = outcomes_in (shown_all t ms)
 
 pub shown-append : (t : Tables) (ms ns : List Message) → shown_all t (ms ++ ns) ≡ shown_all t ms ++ shown_all t ns
@@ -506,7 +506,7 @@ module _ (t : Tables) (ca cb : Config) (free : Free) (readable : IsReadable t) (
                   (way_up (passes_over v.own.body.link.phase) (passes_over (after_taken base v.own.body m).link.phase) (drop used rest) v.peer.line.waiting v.peer_given v.peer_sent (v.own_took ++ x.message ∷ []) x.left n
                   (way_took t (passes_over v.own.body.link.phase) rest v.peer.line.waiting (drop used rest) v.peer_given v.peer_sent v.own_took (coming_to role h.two) x.left x.message n x.is_first x.behind x.others h.to));
               own_settled = subst (λ (k : Body). Settled t k.calls (asked t v.own_sent) (answered_in t (v.own_took ++ x.message ∷ []))) (sym left_so)
-                  (subst (λ (os : List Outcome). Settled t heard.calls (asked t v.own_sent) os) tells settled);
+                  (subst (λ (os : List ToldOutcome). Settled t heard.calls (asked t v.own_sent) os) tells settled);
               peer_settled = h.peer_settled;
             });
       }

@@ -34,7 +34,7 @@ use Rattle.end_model.specs.Acting.{ReadsBack}
 use Rattle.end_model.specs.Pairs.{base_at, bare_pair, HasCodec, BareModelled, WritesAll}
 use Rattle.bare_duo.specs.Worlds.{ends_of, end_at, Runs}
 use Rattle.bare_duo.specs.Passing.{sent_in, sent_by, taken_by, as_read, at_sending, values_in, sendings, BeginsWith, TakenAsSent, ShownAsTaken}
-use Rattle.run_laws.specs.Outcomes.{Invocation, Outcome, invocations, answers, told_invocations, outcomes, IsAllowed, Differ}
+use Rattle.run_laws.specs.Outcomes.{Invocation, ToldOutcome, invocations, answers, told_invocations, outcomes, IsAllowed, Differ}
 use Rattle.bare_duo.specs.Outcomes.{invocations_in, outcomes_in, AreNumbered}
 use Rattle.bare_duo.specs.Laws.{IsCalm, NothingWrong, NobodyIsDead, KeepsLaws, EveryRunKeepsLaws}
 use Rattle.bare_duo.specs.Shows.{shown_all}
@@ -206,8 +206,8 @@ module _ (t : Tables) (ca cb : Config) (free : Free) (readable : IsReadable t) (
       once x A = subst Differ (told_is x A) x.kept.holds.own_settled.once
       once x B = subst Differ (told_is x B) x.kept.holds.peer_settled.once
 
-      of_these : (made was : List Invocation) (now is_now : List Outcome) → made ≡ was → now ≡ is_now → AllByRecursion (IsAllowed t made) now → AllByRecursion (IsAllowed t was) is_now
-      of_these made was now is_now e f h = subst (λ (os : List Outcome). AllByRecursion (IsAllowed t was) os) f (subst (λ (is : List Invocation). AllByRecursion (IsAllowed t is) now) e h)
+      of_these : (made was : List Invocation) (now is_now : List ToldOutcome) → made ≡ was → now ≡ is_now → AllByRecursion (IsAllowed t made) now → AllByRecursion (IsAllowed t was) is_now
+      of_these made was now is_now e f h = subst (λ (os : List ToldOutcome). AllByRecursion (IsAllowed t was) os) f (subst (λ (is : List Invocation). AllByRecursion (IsAllowed t is) now) e h)
 
       allowed : Added t ca cb free readable writes modelled first_law one_content back [] w told → (side : Side) → AllByRecursion (IsAllowed t (invocations side told)) (outcomes side told)
       allowed x A = of_these (asked t (sent_by A w)) (invocations A told) (answered_in t (taken_by A w)) (outcomes A told) (made_is x A) (told_is x A) x.kept.holds.own_settled.allowed

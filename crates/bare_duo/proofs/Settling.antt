@@ -12,7 +12,7 @@ use Rattle.end_rules.specs.Base.{Base}
 use Rattle.end_rules.specs.State.{OpenCall, Calls, is_key, opened_with, closed, close, orphaned}
 use Rattle.end_rules.specs.Hearing.{is_silent_at, opening}
 use Rattle.end_model.proofs.Numbered.{opened-snoc, opened-closed, same-own, same-id, same-key}
-use Rattle.run_laws.specs.Outcomes.{Invocation, Outcome, id_of, has_outcome, IsIn, IsAllowed, Differ}
+use Rattle.run_laws.specs.Outcomes.{Invocation, ToldOutcome, id_of, has_outcome, IsIn, IsAllowed, Differ}
 use Rattle.bare_duo.specs.Outcomes.{AreNumbered}
 
 -- ---- lists
@@ -133,19 +133,19 @@ closed-none i (o ∷ os) = go (closed-none i os) (is_key true i o) refl
 
 -- ---- nothing that was told is open
 
-abbrev pub IsPast : List OpenCall → Outcome → Type 0
+abbrev pub IsPast : List OpenCall → ToldOutcome → Type 0
 IsPast os outcome = is_some (opened_with true (id_of outcome) os) ≡ false
 
-abbrev pub AllPast : List OpenCall → List Outcome → Type 0
+abbrev pub AllPast : List OpenCall → List ToldOutcome → Type 0
 AllPast os told = AllByRecursion (IsPast os) told
 
-differ-push : (told : List Outcome) (outcome : Outcome) → Differ told → AllByRecursion (λ (o : Outcome). id_of outcome ≢ id_of o) told → Differ (told ++ outcome ∷ [])
+differ-push : (told : List ToldOutcome) (outcome : ToldOutcome) → Differ told → AllByRecursion (λ (o : ToldOutcome). id_of outcome ≢ id_of o) told → Differ (told ++ outcome ∷ [])
 differ-push [] outcome h k = (tt, tt)
-differ-push (o ∷ os) outcome h k = (push_all (λ (p : Outcome). id_of p ≢ id_of o) os outcome h.0 k.0, differ-push os outcome h.1 k.1)
+differ-push (o ∷ os) outcome h k = (push_all (λ (p : ToldOutcome). id_of p ≢ id_of o) os outcome h.0 k.0, differ-push os outcome h.1 k.1)
 
 -- ---- what one end keeps
 
-pub record Settled (t : Tables) (calls : Calls) (made : List Invocation) (told : List Outcome) : Type 0 where
+pub record Settled (t : Tables) (calls : Calls) (made : List Invocation) (told : List ToldOutcome) : Type 0 where
   pub counted : calls.made ≡ length made
   pub numbered : AreNumbered 0 made
   pub own : OwnMade made calls.opens
@@ -157,11 +157,11 @@ module _ (t : Tables) where
   pub settled-new : Settled t (record { opens = []; made = 0 }) [] []
   settled-new = record { counted = refl; numbered = tt; own = tt; past = tt; once = tt; allowed = tt }
 
-  pub settled-cut : (calls : Calls) (made : List Invocation) (told : List Outcome) → Settled t calls made told → Settled t (record calls { opens = [] }) made told
+  pub settled-cut : (calls : Calls) (made : List Invocation) (told : List ToldOutcome) → Settled t calls made told → Settled t (record calls { opens = [] }) made told
   settled-cut calls made told h =
       record { counted = h.counted; numbered = h.numbered; own = tt; past = all-on (IsPast calls.opens) (IsPast []) told (λ o p. refl) h.past; once = h.once; allowed = h.allowed }
 
-  pub settled-close : (own : Bool) (i : ℤ) (calls : Calls) (made : List Invocation) (told : List Outcome) → Settled t calls made told → Settled t (close own i calls) made told
+  pub settled-close : (own : Bool) (i : ℤ) (calls : Calls) (made : List Invocation) (told : List ToldOutcome) → Settled t calls made told → Settled t (close own i calls) made told
   settled-close own i calls made told h =
       record {
         counted = h.counted;
@@ -173,13 +173,13 @@ module _ (t : Tables) where
       }
 
   -- an invocation of the other end
-  pub settled-peer : (base : Base) (o : OpenCall) (calls : Calls) (made : List Invocation) (told : List Outcome) → o.own ≡ false → Settled t calls made told → Settled t (opening base o calls) made told
+  pub settled-peer : (base : Base) (o : OpenCall) (calls : Calls) (made : List Invocation) (told : List ToldOutcome) → o.own ≡ false → Settled t calls made told → Settled t (opening base o calls) made told
   settled-peer base o calls made told e h = go (is_silent_at base (Some o.operation))
     where
       not-own : o.own ≡ true → IsMade made o
       not-own w = absurd (let k : false ≡ true = sym e ∙ w in cc)
 
-      later : (q : Outcome) → IsPast calls.opens q → IsPast (calls.opens ++ o ∷ []) q
+      later : (q : ToldOutcome) → IsPast calls.opens q → IsPast (calls.opens ++ o ∷ []) q
       later q p =
           let key : is_key true (id_of q) o ≡ false = ap (λ (w : Bool). w && int_eq o.id (id_of q)) e in
           opened-snoc true (id_of q) calls.opens o ∙ ap (λ (b : Bool). b || is_key true (id_of q) o) p ∙ key
@@ -197,7 +197,7 @@ module _ (t : Tables) where
           }
 
   -- an own invocation, with the next identifier
-  pub settled-own : (base : Base) (o : OpenCall) (i : Invocation) (calls : Calls) (made : List Invocation) (told : List Outcome) → o.own ≡ true → o.id ≡ pos (suc calls.made) → o.id ≡ i.id → o.operation ≡ i.operation
+  pub settled-own : (base : Base) (o : OpenCall) (i : Invocation) (calls : Calls) (made : List Invocation) (told : List ToldOutcome) → o.own ≡ true → o.id ≡ pos (suc calls.made) → o.id ≡ i.id → o.operation ≡ i.operation
       → Settled t calls made told → Settled t (opening base o (record calls { made = suc calls.made })) (made ++ i ∷ []) told
   settled-own base o i calls made told w e same its h = go (is_silent_at base (Some o.operation))
     where
@@ -212,7 +212,7 @@ module _ (t : Tables) where
           all-on (IsAllowed t made) (IsAllowed t (made ++ i ∷ [])) told
           (λ q a. record { invocation = a.invocation; operation = a.operation; is_made = in-more a.invocation made (i ∷ []) a.is_made; is_its = a.is_its; is_there = a.is_there; has_it = a.has_it }) h.allowed
 
-      later : (q : Outcome) → IsPast calls.opens q → IsAllowed t made q → IsPast (calls.opens ++ o ∷ []) q
+      later : (q : ToldOutcome) → IsPast calls.opens q → IsAllowed t made q → IsPast (calls.opens ++ o ∷ []) q
       later q p a =
           let n = numbered-in 0 made a.invocation h.numbered a.is_made in
           let few : n.number ≤ calls.made = (let f = n.few in let c = h.counted in omega arith) in
@@ -233,7 +233,7 @@ module _ (t : Tables) where
           }
 
   -- an outcome closes its invocation
-  pub settled-told : (outcome : Outcome) (o : OpenCall) (operation : Operation) (calls : Calls) (made : List Invocation) (told : List Outcome) → opened_with true (id_of outcome) calls.opens ≡ Some o
+  pub settled-told : (outcome : ToldOutcome) (o : OpenCall) (operation : Operation) (calls : Calls) (made : List Invocation) (told : List ToldOutcome) → opened_with true (id_of outcome) calls.opens ≡ Some o
       → operation_at t o.operation ≡ Some operation → has_outcome t operation outcome ≡ true → Settled t calls made told → Settled t (close true (id_of outcome) calls) made (told ++ outcome ∷ [])
   settled-told outcome o operation calls made told opened there has h =
       record {
@@ -241,7 +241,7 @@ module _ (t : Tables) where
         numbered = closed_so.numbered;
         own = closed_so.own;
         past = push_all (IsPast (closed true (id_of outcome) calls.opens)) told outcome closed_so.past (closed-none (id_of outcome) calls.opens);
-        once = differ-push told outcome h.once (all-on (IsPast calls.opens) (λ (q : Outcome). id_of outcome ≢ id_of q) told apart h.past);
+        once = differ-push told outcome h.once (all-on (IsPast calls.opens) (λ (q : ToldOutcome). id_of outcome ≢ id_of q) told apart h.past);
         allowed = push_all (IsAllowed t made) told outcome h.allowed one;
       }
     where
@@ -262,7 +262,7 @@ module _ (t : Tables) where
             has_it = has;
           }
 
-      apart : (q : Outcome) → IsPast calls.opens q → id_of outcome ≢ id_of q
+      apart : (q : ToldOutcome) → IsPast calls.opens q → id_of outcome ≢ id_of q
       apart q p e =
           let yes : is_some (opened_with true (id_of outcome) calls.opens) ≡ true = ap is_some opened in
           let no : is_some (opened_with true (id_of outcome) calls.opens) ≡ false = ap (λ (x : ℤ). is_some (opened_with true x calls.opens)) e ∙ p in

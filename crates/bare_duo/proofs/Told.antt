@@ -36,7 +36,7 @@ use Rattle.end_model.proofs.Ladder.{passed, called}
 use Rattle.end_model.proofs.InvokeRungs.{invokable, answerable, refusable}
 use Rattle.end_model.proofs.HandingRows.{next-is}
 use Rattle.bare_duo.specs.Shows.{value_of, shown_of, shown_invoke, shown_error, shown_all}
-use Rattle.run_laws.specs.Outcomes.{Invocation, Outcome, returned, failed, has_result, invoked_by, answered_by}
+use Rattle.run_laws.specs.Outcomes.{Invocation, ToldOutcome, returned, failed, has_result, invoked_by, answered_by}
 use Rattle.bare_duo.specs.Outcomes.{invocations_in, outcomes_in}
 use Rattle.bare_duo.proofs.Allowing.{opens_of_invoke, closes_of_result, closes_of_error}
 use Rattle.bare_duo.proofs.Settling.{Settled, settled-close, settled-peer, settled-own, settled-told}
@@ -47,7 +47,7 @@ value-back : (r : Option Returned) → value_in (value_returned r) ≡ value_of 
 value-back None = refl
 value-back (Some r) = refl
 
-pub settled_heard : (base : Base) (calls : Calls) (context : ℕ) (apdu : Apdu) (made : List Invocation) (told : List Outcome) → ((id : Option ℤ) (problem : Problem) → apdu ≡ apdus.Reject id problem → ⊥)
+pub settled_heard : (base : Base) (calls : Calls) (context : ℕ) (apdu : Apdu) (made : List Invocation) (told : List ToldOutcome) → ((id : Option ℤ) (problem : Problem) → apdu ≡ apdus.Reject id problem → ⊥)
     → (hear base calls context (head_of_apdu apdu)).reject ≡ None → Settled base.tables calls made told
     → Settled base.tables (hear base calls context (head_of_apdu apdu)).calls made (told ++ outcomes_in (shown_of base.tables apdu))
 settled_heard base calls context (apdus.Invoke id linked code argument) made told n h s =
@@ -56,8 +56,8 @@ settled_heard base calls context (apdus.Invoke id linked code argument) made tol
     let opened : Settled base.tables (opening base (record { own = false; id = id; operation = o.at; context = context; parent = linked }) calls) made told =
     settled-peer base.tables base (record { own = false; id = id; operation = o.at; context = context; parent = linked }) calls made told refl s in
     subst (λ (c : Calls). Settled base.tables c made (told ++ outcomes_in (shown_invoke (operation_with base.tables code) id linked argument))) (sym o.calls_are)
-    (subst (λ (os : List Outcome). Settled base.tables (opening base (record { own = false; id = id; operation = o.at; context = context; parent = linked }) calls) made os)
-    (sym (ap (λ (os : List Outcome). told ++ os) quiet ∙ append-nil told)) opened)
+    (subst (λ (os : List ToldOutcome). Settled base.tables (opening base (record { own = false; id = id; operation = o.at; context = context; parent = linked }) calls) made os)
+    (sym (ap (λ (os : List ToldOutcome). told ++ os) quiet ∙ append-nil told)) opened)
 settled_heard base calls context (apdus.Result id r) made told n h s =
     let c = (closes_of_result base calls id r h).closes in
     let has : has_result base.tables c.operation (value_of r) ≡ true = ap (has_result base.tables c.operation) (sym (value-back r)) ∙ c.has_it in
@@ -68,7 +68,7 @@ settled_heard base calls context (apdus.Error id code parameter) made told n h s
     let c = f.closes in
     let tells : outcomes_in (shown_error (error_with base.tables code) id parameter) ≡ failed id f.at parameter ∷ [] = ap (λ (p : Option ℕ). outcomes_in (shown_error p id parameter)) f.is_at in
     subst (λ (x : Calls). Settled base.tables x made (told ++ outcomes_in (shown_error (error_with base.tables code) id parameter))) (sym c.calls_are)
-    (subst (λ (os : List Outcome). Settled base.tables (close true id calls) made (told ++ os)) (sym tells)
+    (subst (λ (os : List ToldOutcome). Settled base.tables (close true id calls) made (told ++ os)) (sym tells)
     (settled-told base.tables (failed id f.at parameter) c.invocation c.operation calls made told c.is_open c.is_there c.has_it s))
 settled_heard base calls context (apdus.Reject id problem) made told n h s = absurd (n id problem refl)
 
@@ -76,7 +76,7 @@ settled_heard base calls context (apdus.Reject id problem) made told n h s = abs
 
 -- what it changes, asks for and answers
 pub record CalledSo (t : Tables) (body later : Body) (call : Call) (reply : Reply) (due : List Message) : Type 0 where
-  pub settles : (made : List Invocation) (told : List Outcome) → Settled t body.calls made told → Settled t later.calls (made ++ invoked_by call reply) told
+  pub settles : (made : List Invocation) (told : List ToldOutcome) → Settled t body.calls made told → Settled t later.calls (made ++ invoked_by call reply) told
   pub asks : invocations_in (shown_all t due) ≡ invoked_by call reply
   pub gives : outcomes_in (shown_all t due) ≡ answered_by call reply
   pub same_phase : later.link.phase ≡ body.link.phase
@@ -142,7 +142,7 @@ module _ (t : Tables) (ca cb : Config) where
   AnsweredSo role body id call answer o apdu =
       CalledSo t body (after_outcome (at_role role) body id o apdu) call (Ok answer) (due_outcome (at_role role) body o apdu)
 
-  one_answered : (role : Role) (body : Body) (id : ℤ) (call : Call) (answer : Option ℤ) (o : OpenCall) (apdu : Apdu) (outcome : Outcome) → HasBareSet (at_role role) body
+  one_answered : (role : Role) (body : Body) (id : ℤ) (call : Call) (answer : Option ℤ) (o : OpenCall) (apdu : Apdu) (outcome : ToldOutcome) → HasBareSet (at_role role) body
       → invoked_by call (Ok answer) ≡ [] → answered_by call (Ok answer) ≡ outcome ∷ [] → invocations_in (shown_of t apdu) ≡ [] → outcomes_in (shown_of t apdu) ≡ outcome ∷ []
       → AnsweredSo role body id call answer (Some o) (Some apdu)
   one_answered role body id call answer o apdu outcome bare none is shows tells =

@@ -7,13 +7,13 @@ use Rattle.stub_tables.specs.declared.tables.Tables.{Tables}
 use Rattle.dialogue.specs.declared.event.Entry.{Entry}
 use Rattle.dialogue.specs.declared.indication.Indication.{Indication}
 use Rattle.end_rules.specs.World.{other}
-use Rattle.run_laws.specs.Outcomes.{Invocation, Outcome, invocations, answers, invocation_in, outcome_in, told_invocations, outcomes, IsAllowed, Differ}
+use Rattle.run_laws.specs.Outcomes.{Invocation, ToldOutcome, invocations, answers, invocation_in, outcome_in, told_invocations, outcomes, IsAllowed, Differ}
 use Rattle.bare_duo.specs.Passing.{BeginsWith}
 
 abbrev pub invocations_in : List Indication → List Invocation
 invocations_in shown = flat_map invocation_in shown
 
-abbrev pub outcomes_in : List Indication → List Outcome
+abbrev pub outcomes_in : List Indication → List ToldOutcome
 outcomes_in shown = flat_map outcome_in shown
 
 -- the k-th invocation has the identifier k

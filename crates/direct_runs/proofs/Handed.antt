@@ -49,7 +49,7 @@ use Rattle.end_model.proofs.HandingRows.{next-is}
 use Rattle.outcome_laws.specs.Deals.{Asked, asked_by}
 use Rattle.said_words.specs.Words.{value_of_item, IsWord, IsUnit}
 use Rattle.said_words.proofs.TransferEnds.{is_early}
-use Rattle.run_laws.specs.Outcomes.{Invocation, Outcome, returned, failed, invoked_by, answered_by}
+use Rattle.run_laws.specs.Outcomes.{Invocation, ToldOutcome, returned, failed, invoked_by, answered_by}
 use Rattle.association_runs.proofs.Telling.{invoked_ids, ids-append, plain-ids}
 use Rattle.run_lemmas.proofs.Numbers.{apdu_invokes, IsGood, good-next, good-none}
 use Rattle.run_lemmas.proofs.Handing.{result-kind, result-ours, error-kind, error-ours, opened-made, hear-made, IsOneOf, hear-ids}
@@ -61,16 +61,16 @@ use Rattle.run_lemmas.proofs.Calling.{asks-none}
 
 -- ---- messages whose values the end handed in
 
-abbrev pub Holds : Tables → List Invocation → List Outcome → Message → Type 0
+abbrev pub Holds : Tables → List Invocation → List ToldOutcome → Message → Type 0
 Holds tables made given (Session (OfData (Values values))) = HoldOurs tables made given values
 Holds tables made given (Session (OfActivities word)) = ⊥
 Holds tables made given message = Unit {0}
 
-abbrev pub AllHold : Tables → List Invocation → List Outcome → List Message → Type 0
+abbrev pub AllHold : Tables → List Invocation → List ToldOutcome → List Message → Type 0
 AllHold tables made given [] = Unit {0}
 AllHold tables made given (m ∷ ms) = Holds tables made given m × AllHold tables made given ms
 
-one-on : (tables : Tables) (made more : List Invocation) (given later : List Outcome) (m : Message) → Holds tables made given m → Holds tables (made ++ more) (given ++ later) m
+one-on : (tables : Tables) (made more : List Invocation) (given later : List ToldOutcome) (m : Message) → Holds tables made given m → Holds tables (made ++ more) (given ++ later) m
 one-on tables made more given later (Session (OfData (Values values))) h = hold-on tables made more given later values h
 one-on tables made more given later (Session (OfData (AlterContext add delete))) h = tt
 one-on tables made more given later (Session (OfData (AlterContextAck answers))) h = tt
@@ -79,11 +79,11 @@ one-on tables made more given later (Session (OfMarks word)) h = tt
 one-on tables made more given later (Session (OfActivities word)) h = absurd h
 one-on tables made more given later (Transport unit) h = tt
 
-pub all-on : (tables : Tables) (made more : List Invocation) (given later : List Outcome) (ms : List Message) → AllHold tables made given ms → AllHold tables (made ++ more) (given ++ later) ms
+pub all-on : (tables : Tables) (made more : List Invocation) (given later : List ToldOutcome) (ms : List Message) → AllHold tables made given ms → AllHold tables (made ++ more) (given ++ later) ms
 all-on tables made more given later [] h = tt
 all-on tables made more given later (m ∷ ms) h = (one-on tables made more given later m h.0, all-on tables made more given later ms h.1)
 
-pub hold-append : (tables : Tables) (made : List Invocation) (given : List Outcome) (xs ys : List Message) → AllHold tables made given xs → AllHold tables made given ys → AllHold tables made given (xs ++ ys)
+pub hold-append : (tables : Tables) (made : List Invocation) (given : List ToldOutcome) (xs ys : List Message) → AllHold tables made given xs → AllHold tables made given ys → AllHold tables made given (xs ++ ys)
 hold-append tables made given [] ys h k = k
 hold-append tables made given (x ∷ xs) ys h k = (h.0, hold-append tables made given xs ys h.1 k)
 
@@ -149,7 +149,7 @@ pub all-rejects_none : (ms : List Message) → AllRejects ms → all_invokes ms 
 all-rejects_none [] h = refl
 all-rejects_none (m ∷ ms) h = ap (λ (l : List ℤ). l ++ all_invokes ms) (reject-none m h.0) ∙ all-rejects_none ms h.1
 
-rejects-hold : (tables : Tables) (made : List Invocation) (given : List Outcome) (values : List DataValue) → AreRejects values → HoldOurs tables made given values
+rejects-hold : (tables : Tables) (made : List Invocation) (given : List ToldOutcome) (values : List DataValue) → AreRejects values → HoldOurs tables made given values
 rejects-hold tables made given [] h = tt
 rejects-hold tables made given (value ∷ values) h = (one value.content h.0, rejects-hold tables made given values h.1)
   where
@@ -157,7 +157,7 @@ rejects-hold tables made given (value ∷ values) h = (one value.content h.0, re
     one (Remote (apdus.Reject id problem)) h = record { apdu = apdus.Reject id problem; is_it = refl; is_ours = tt }
     one c h = absurd h
 
-reject-holds : (tables : Tables) (made : List Invocation) (given : List Outcome) (m : Message) → Rejects m → Holds tables made given m
+reject-holds : (tables : Tables) (made : List Invocation) (given : List ToldOutcome) (m : Message) → Rejects m → Holds tables made given m
 reject-holds tables made given (Session (OfData (Values values))) h = rejects-hold tables made given values h
 reject-holds tables made given (Session (OfData (AlterContext add delete))) h = tt
 reject-holds tables made given (Session (OfData (AlterContextAck answers))) h = tt
@@ -166,7 +166,7 @@ reject-holds tables made given (Session (OfMarks word)) h = tt
 reject-holds tables made given (Session (OfActivities word)) h = absurd h
 reject-holds tables made given (Transport unit) h = tt
 
-pub all-rejects_hold : (tables : Tables) (made : List Invocation) (given : List Outcome) (ms : List Message) → AllRejects ms → AllHold tables made given ms
+pub all-rejects_hold : (tables : Tables) (made : List Invocation) (given : List ToldOutcome) (ms : List Message) → AllRejects ms → AllHold tables made given ms
 all-rejects_hold tables made given [] h = tt
 all-rejects_hold tables made given (m ∷ ms) h = (reject-holds tables made given m h.0, all-rejects_hold tables made given ms h.1)
 
@@ -174,14 +174,14 @@ all-rejects_hold tables made given (m ∷ ms) h = (reject-holds tables made give
 
 -- what a call hands in, which numbers it gives, and where it leads
 pub record CallHands (base : Base) (body : Body) (call : Call) (answer : Option ℤ) : Type 0 where
-  pub holds : (made : List Invocation) (given : List Outcome) → AllHold base.tables (made ++ invoked_by call (Ok answer)) (given ++ answered_by call (Ok answer)) (due_of (at Direct base) body call (Ok answer))
+  pub holds : (made : List Invocation) (given : List ToldOutcome) → AllHold base.tables (made ++ invoked_by call (Ok answer)) (given ++ answered_by call (Ok answer)) (due_of (at Direct base) body call (Ok answer))
   pub numbers : (xs : List ℤ) → IsGood body.calls.made xs → IsGood (after_called Direct base body call answer).calls.made (xs ++ all_invokes (due_of (at Direct base) body call (Ok answer)))
   pub early : is_early (after_called Direct base body call answer).link.phase ≡ true → (is_early body.link.phase ≡ true) × ((after_called Direct base body call answer).calls.made ≡ body.calls.made)
   pub asks : (made : List Invocation) (asked : List Asked) → AreMade base.tables made asked → AreMade base.tables (made ++ invoked_by call (Ok answer)) (asked_by call answer ++ asked)
 
 module _ (base : Base) (body : Body) where
   -- one that hands nothing in
-  hands-none : (call : Call) (answer : Option ℤ) → ((made : List Invocation) (given : List Outcome) → AllHold base.tables made given (due_of (at Direct base) body call (Ok answer))) → asked_by call answer ≡ [] → all_invokes (due_of (at Direct base) body call (Ok answer)) ≡ [] →
+  hands-none : (call : Call) (answer : Option ℤ) → ((made : List Invocation) (given : List ToldOutcome) → AllHold base.tables made given (due_of (at Direct base) body call (Ok answer))) → asked_by call answer ≡ [] → all_invokes (due_of (at Direct base) body call (Ok answer)) ≡ [] →
       (after_called Direct base body call answer).calls.made ≡ body.calls.made → (is_early (after_called Direct base body call answer).link.phase ≡ true → is_early body.link.phase ≡ true) → CallHands base body call answer
   hands-none call answer holds e n m early = record {
     holds = λ made given. holds (made ++ invoked_by call (Ok answer)) (given ++ answered_by call (Ok answer));
@@ -193,7 +193,7 @@ module _ (base : Base) (body : Body) where
   late : (call : Call) (answer : Option ℤ) → is_up body.link.phase ≡ true → is_early body.link.phase ≡ true → is_early body.link.phase ≡ true
   late call answer up h = h
 
-  invoke-holds : (context place : ℕ) (id : ℤ) (linked : Option ℤ) (o : Option Operation) (argument : Option Val) (made : List Invocation) (given : List Outcome) → operation_at base.tables place ≡ o →
+  invoke-holds : (context place : ℕ) (id : ℤ) (linked : Option ℤ) (o : Option Operation) (argument : Option Val) (made : List Invocation) (given : List ToldOutcome) → operation_at base.tables place ≡ o →
       AllHold base.tables (made ++ record { id = id; operation = place; argument = argument; linked = linked } ∷ []) (given ++ []) (due_invoke (at Direct base) body context id linked o argument)
   invoke-holds context place id linked None argument made given e = tt
   invoke-holds context place id linked (Some row) argument made given e =
@@ -211,7 +211,7 @@ module _ (base : Base) (body : Body) where
   invoke-phase context place id linked None argument = refl
   invoke-phase context place id linked (Some op) argument = refl
 
-  outcome-holds : (made : List Invocation) (given : List Outcome) (o : Option OpenCall) (x : Option Apdu) → ((apdu : Apdu) → x ≡ Some apdu → IsOurs base.tables made given apdu) → AllHold base.tables made given (due_outcome (at Direct base) body o x)
+  outcome-holds : (made : List Invocation) (given : List ToldOutcome) (o : Option OpenCall) (x : Option Apdu) → ((apdu : Apdu) → x ≡ Some apdu → IsOurs base.tables made given apdu) → AllHold base.tables made given (due_outcome (at Direct base) body o x)
   outcome-holds made given None None f = tt
   outcome-holds made given None (Some apdu) f = tt
   outcome-holds made given (Some o) None f = tt
@@ -251,7 +251,7 @@ module _ (base : Base) (body : Body) where
       go None = refl
       go (Some k) = refl
 
-  abort-none : (c : Bool) → ((made : List Invocation) (given : List Outcome) → AllHold base.tables made given (if c then user_abort body.link.accepted 0 [] ∷ [] else [])) × (all_invokes (if c then user_abort body.link.accepted 0 [] ∷ [] else []) ≡ []) × ((sent_all Direct (over body) (if c then user_abort body.link.accepted 0 [] ∷ [] else [])).calls.made ≡ body.calls.made) × (is_early (sent_all Direct (over body) (if c then user_abort body.link.accepted 0 [] ∷ [] else [])).link.phase ≡ false)
+  abort-none : (c : Bool) → ((made : List Invocation) (given : List ToldOutcome) → AllHold base.tables made given (if c then user_abort body.link.accepted 0 [] ∷ [] else [])) × (all_invokes (if c then user_abort body.link.accepted 0 [] ∷ [] else []) ≡ []) × ((sent_all Direct (over body) (if c then user_abort body.link.accepted 0 [] ∷ [] else [])).calls.made ≡ body.calls.made) × (is_early (sent_all Direct (over body) (if c then user_abort body.link.accepted 0 [] ∷ [] else [])).link.phase ≡ false)
   abort-none true = (λ made given. (tt, tt), refl, refl, refl)
   abort-none false = (λ made given. tt, refl, refl, refl)
 

@@ -47,7 +47,7 @@ use Rattle.said_words.specs.Laws.{ProposesContexts}
 use Rattle.said_words.proofs.Sharing.{no-own, kept-in}
 use Rattle.said_words.proofs.TransferEnds.{is_early}
 use Rattle.run_laws.specs.Showing.{shown_in}
-use Rattle.run_laws.specs.Outcomes.{Invocation, Outcome, invoked_by, answered_by, invocation_in, outcome_in, OneOutcome}
+use Rattle.run_laws.specs.Outcomes.{Invocation, ToldOutcome, invoked_by, answered_by, invocation_in, outcome_in, OneOutcome}
 use Rattle.association_worlds.specs.Laws.{IsMeant}
 use Rattle.association_runs.specs.Worlds.{stepping, Runs}
 use Rattle.association_runs.specs.Laws.{AreEvents}
@@ -71,7 +71,7 @@ use Rattle.direct_runs.proofs.Sent.{took-word, first-said}
 -- ---- what is kept of one end: what it made itself, what the other made and gave, all that it was shown, its body, how many invocations
 -- the other made, what comes to it, and its dealings since its association began
 
-pub record Facts (tables : Tables) (own made : List Invocation) (given : List Outcome) (seen : List Indication) (body : Body) (count : ℕ) (coming : List Message) (asked : List Asked) (shown : List Indication) : Type 0 where
+pub record Facts (tables : Tables) (own made : List Invocation) (given : List ToldOutcome) (seen : List Indication) (body : Body) (count : ℕ) (coming : List Message) (asked : List Asked) (shown : List Indication) : Type 0 where
   pub coming_so : AllHold tables made given coming
   pub noted : AreNoted tables own made given shown
   pub asked_so : AreMade tables own asked
@@ -79,7 +79,7 @@ pub record Facts (tables : Tables) (own made : List Invocation) (given : List Ou
   pub young : is_early body.link.phase ≡ true → (notes_of seen ≡ []) × (body.calls.made ≡ 0)
   pub good : IsGood count (invoked_ids shown ++ all_invokes coming)
 
-module _ (tables : Tables) (own made : List Invocation) (given : List Outcome) (seen : List Indication) (body : Body) (count : ℕ) (coming : List Message) (asked : List Asked) (shown : List Indication) (x : Facts tables own made given seen body count coming asked shown) where
+module _ (tables : Tables) (own made : List Invocation) (given : List ToldOutcome) (seen : List Indication) (body : Body) (count : ℕ) (coming : List Message) (asked : List Asked) (shown : List Indication) (x : Facts tables own made given seen body count coming asked shown) where
   -- more comes
   more-comes : (later : ℕ) (more : List Message) → IsGood later ((invoked_ids shown ++ all_invokes coming) ++ all_invokes more) → IsGood later (invoked_ids shown ++ all_invokes (coming ++ more))
   more-comes later more g =
@@ -218,11 +218,11 @@ module _ (tables : Tables) (own made : List Invocation) (given : List Outcome) (
   }
 
 -- what is made, given and seen is this
-changed : (tables : Tables) (own own_now made made_now : List Invocation) (given given_now : List Outcome) (seen seen_now : List Indication) (body : Body) (count : ℕ) (coming : List Message) (asked : List Asked) (shown : List Indication) → own_now ≡ own → made_now ≡ made → given_now ≡ given → seen_now ≡ seen → Facts tables own made given seen body count coming asked shown → Facts tables own_now made_now given_now seen_now body count coming asked shown
+changed : (tables : Tables) (own own_now made made_now : List Invocation) (given given_now : List ToldOutcome) (seen seen_now : List Indication) (body : Body) (count : ℕ) (coming : List Message) (asked : List Asked) (shown : List Indication) → own_now ≡ own → made_now ≡ made → given_now ≡ given → seen_now ≡ seen → Facts tables own made given seen body count coming asked shown → Facts tables own_now made_now given_now seen_now body count coming asked shown
 changed tables own own_now made made_now given given_now seen seen_now body count coming asked shown e f g h x =
     subst (λ (l : List Invocation). Facts tables l made_now given_now seen_now body count coming asked shown) (sym e)
     (subst (λ (l : List Invocation). Facts tables own l given_now seen_now body count coming asked shown) (sym f)
-    (subst (λ (l : List Outcome). Facts tables own made l seen_now body count coming asked shown) (sym g)
+    (subst (λ (l : List ToldOutcome). Facts tables own made l seen_now body count coming asked shown) (sym g)
     (subst (λ (l : List Indication). Facts tables own made given l body count coming asked shown) (sym h) x)))
 
 module _ (free : Free) (tables : Tables) (spellings : Spellings) (a b : Config) where
@@ -238,7 +238,7 @@ module _ (free : Free) (tables : Tables) (spellings : Spellings) (a b : Config) 
   abbrev pub made : Role → World → List Invocation
   made role w = calls_at invoked_by (side_of role) w
 
-  abbrev pub given : Role → World → List Outcome
+  abbrev pub given : Role → World → List ToldOutcome
   given role w = calls_at answered_by (side_of role) w
 
   abbrev pub Told : Role → World → Two → Dealings → Type 0
@@ -328,7 +328,7 @@ module _ (free : Free) (tables : Tables) (spellings : Spellings) (a b : Config) 
         (subst (λ (z : Body). TakeHands body z (Session word) answers (shown_of (base role) body (Session word))) t.later_is
         (subst (λ (ms : List Message). TakeHands body (after_word (base role) body word) (Session word) ms (shown_of (base role) body (Session word))) t.answers_are (word-hands tables spellings a b role body word i (in-place (base role) body word t.fine))))
 
-    heard-holds : (role : Role) (body : Body) (own : List Invocation) (outcomes : List Outcome) (message : Message) → Holds tables own outcomes message → HoldOurs tables own outcomes (heard_values (base role) body message)
+    heard-holds : (role : Role) (body : Body) (own : List Invocation) (outcomes : List ToldOutcome) (message : Message) → Holds tables own outcomes message → HoldOurs tables own outcomes (heard_values (base role) body message)
     heard-holds role body own outcomes (Transport unit) h = tt
     heard-holds role body own outcomes (Session (OfAssociation word)) h = tt
     heard-holds role body own outcomes (Session (OfData (Values values))) h = h

@@ -30,12 +30,12 @@ pub record Invocation : Type 0 where
   pub linked : Option ℤ
 
 -- an outcome: a result, an error with its place, or a reject of the invocation
-pub data Outcome : Type 0 where
-  returned : ℤ → Option Val → Outcome
-  failed : ℤ → ℕ → Option Val → Outcome
-  rejected : ℤ → Problem → Outcome
+pub data ToldOutcome : Type 0 where
+  returned : ℤ → Option Val → ToldOutcome
+  failed : ℤ → ℕ → Option Val → ToldOutcome
+  rejected : ℤ → Problem → ToldOutcome
 
-abbrev pub id_of : Outcome → ℤ
+abbrev pub id_of : ToldOutcome → ℤ
 id_of (returned id value) = id
 id_of (failed id place parameter) = id
 id_of (rejected id problem) = id
@@ -46,7 +46,7 @@ abbrev pub invoked_by : Call → Reply → List Invocation
 invoked_by (the_calls.Invoke context operation argument linked) (Ok (Some id)) = record { id = id; operation = operation; argument = argument; linked = linked } ∷ []
 invoked_by _ _ = []
 
-abbrev pub answered_by : Call → Reply → List Outcome
+abbrev pub answered_by : Call → Reply → List ToldOutcome
 answered_by (the_calls.Answer id value) (Ok answer) = returned id value ∷ []
 answered_by (the_calls.Refuse id place parameter) (Ok answer) = failed id place parameter ∷ []
 answered_by _ _ = []
@@ -63,7 +63,7 @@ all_called tells side (e ∷ es) = called_at tells side e ++ all_called tells si
 abbrev pub invocations : Side → List Entry → List Invocation
 invocations side told = all_called invoked_by side told
 
-abbrev pub answers : Side → List Entry → List Outcome
+abbrev pub answers : Side → List Entry → List ToldOutcome
 answers side told = all_called answered_by side told
 
 -- ---- what an end was told
@@ -72,7 +72,7 @@ abbrev pub invocation_in : Indication → List Invocation
 invocation_in (indications.Invoked id place linked argument) = record { id = id; operation = place; argument = argument; linked = linked } ∷ []
 invocation_in _ = []
 
-abbrev pub outcome_in : Indication → List Outcome
+abbrev pub outcome_in : Indication → List ToldOutcome
 outcome_in (indications.Result id value) = returned id value ∷ []
 outcome_in (indications.Error id place parameter) = failed id place parameter ∷ []
 outcome_in (indications.Rejected id problem) = rejected id problem ∷ []
@@ -81,7 +81,7 @@ outcome_in _ = []
 abbrev pub told_invocations : Side → List Entry → List Invocation
 told_invocations side told = flat_map invocation_in (indications_at side told)
 
-abbrev pub outcomes : Side → List Entry → List Outcome
+abbrev pub outcomes : Side → List Entry → List ToldOutcome
 outcomes side told = flat_map outcome_in (indications_at side told)
 
 -- ---- which outcomes an operation has
@@ -99,7 +99,7 @@ abbrev pub has_error : Tables → Operation → ℕ → Option Val → Bool
 has_error tables operation place parameter = is_error_of operation place && takes_parameter tables (error_at tables place) parameter
 
 -- and a reject of the invocation itself
-abbrev pub has_outcome : Tables → Operation → Outcome → Bool
+abbrev pub has_outcome : Tables → Operation → ToldOutcome → Bool
 has_outcome tables operation (returned id value) = has_result tables operation value
 has_outcome tables operation (failed id place parameter) = has_error tables operation place parameter
 has_outcome tables operation (rejected id problem) = is_of_invocation problem.kind
@@ -111,7 +111,7 @@ IsIn x [] = ⊥
 IsIn x (y ∷ ys) = (y ≡ x) ⊎ IsIn x ys
 
 -- it is the outcome of one of these invocations, and one that its operation has
-pub record IsAllowed (tables : Tables) (made : List Invocation) (outcome : Outcome) : Type 0 where
+pub record IsAllowed (tables : Tables) (made : List Invocation) (outcome : ToldOutcome) : Type 0 where
   pub invocation : Invocation
   pub operation : Operation
   pub is_made : IsIn invocation made
@@ -120,15 +120,15 @@ pub record IsAllowed (tables : Tables) (made : List Invocation) (outcome : Outco
   pub has_it : has_outcome tables operation outcome ≡ true
 
 -- a result or an error is one of these answers; a reject is made by the end itself
-abbrev pub IsAnswer : List Outcome → Outcome → Type 0
+abbrev pub IsAnswer : List ToldOutcome → ToldOutcome → Type 0
 IsAnswer given (returned id value) = IsIn (returned id value) given
 IsAnswer given (failed id place parameter) = IsIn (failed id place parameter) given
 IsAnswer given (rejected id problem) = Unit {0}
 
 -- no two are of one invocation
-abbrev pub Differ : List Outcome → Type 0
+abbrev pub Differ : List ToldOutcome → Type 0
 Differ [] = Unit {0}
-Differ (o ∷ os) = AllByRecursion (λ (p : Outcome). id_of p ≢ id_of o) os × Differ os
+Differ (o ∷ os) = AllByRecursion (λ (p : ToldOutcome). id_of p ≢ id_of o) os × Differ os
 
 abbrev pub AreOnce : List Invocation → Type 0
 AreOnce [] = Unit {0}

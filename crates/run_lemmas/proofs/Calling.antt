@@ -11,7 +11,7 @@ use Rattle.end_rules.specs.World.{World}
 use Rattle.agreement.specs.Sets.{Role}
 use Rattle.end_model.specs.Sharing.{side_of}
 use Rattle.outcome_laws.specs.Deals.{Asked, asked_by}
-use Rattle.run_laws.specs.Outcomes.{Invocation, Outcome, invoked_by, answered_by}
+use Rattle.run_laws.specs.Outcomes.{Invocation, ToldOutcome, invoked_by, answered_by}
 use Rattle.association_runs.specs.Worlds.{stepping}
 use Rattle.association_runs.proofs.Keeps.{IsQuiet}
 use Rattle.association_runs.proofs.Transcribed.{calls_at, all_calls, own-calls, sents-call}
@@ -46,7 +46,7 @@ quiet-invokes (gave n) q = refl
 quiet-invokes _ q = absurd q
 
 pub quiet-answers : (x : Step) → IsQuiet x → all_calls answered_by (x ∷ []) ≡ []
-quiet-answers (called call (Err refusal)) q = ap (λ (l : List Outcome). l ++ []) (answers-none call refusal)
+quiet-answers (called call (Err refusal)) q = ap (λ (l : List ToldOutcome). l ++ []) (answers-none call refusal)
 quiet-answers (fed octets) q = refl
 quiet-answers feed_end q = refl
 quiet-answers (gave n) q = refl

@@ -21,7 +21,7 @@ use Rattle.end_rules.specs.Invoking.{result_apdu, error_apdu, returned_with}
 use Rattle.end_rules.specs.Hearing.{Heard, told, unless_problem, invoke_problem, invoked, opening, is_silent_at, result_problem, hear_result_of, error_problem, error_told, hear_error_of, is_of_invocation, hear_reject, hear, head_of_apdu, carried_in, code_returned, value_returned}
 use Rattle.end_rules.specs.Requesting.{result_for, error_for}
 use Rattle.outcome_laws.specs.Outcomes.{value_of}
-use Rattle.run_laws.specs.Outcomes.{Invocation, Outcome, returned, failed, IsIn}
+use Rattle.run_laws.specs.Outcomes.{Invocation, ToldOutcome, returned, failed, IsIn}
 use Rattle.association_runs.proofs.Telling.{invoked_ids}
 use Rattle.association_runs.proofs.Noted.{in-behind, IsOurs, AreNoted, all-noted_on}
 use Rattle.run_lemmas.proofs.Numbers.{apdu_invokes}
@@ -36,7 +36,7 @@ pub result-kind : (id : ℤ) (value : Option Val) (p : Option Operation) (apdu :
 result-kind id value None apdu e = cc
 result-kind id value (Some row) apdu e = let same : result_apdu row id value ≡ apdu = cc in subst (λ (x : Apdu). apdu_invokes x ≡ []) same refl
 
-pub result-ours : (tables : Tables) (id : ℤ) (value : Option Val) (p : Option Operation) (made : List Invocation) (given : List Outcome) (apdu : Apdu) → result_for id value p ≡ Some apdu → IsOurs tables made (given ++ returned id value ∷ []) apdu
+pub result-ours : (tables : Tables) (id : ℤ) (value : Option Val) (p : Option Operation) (made : List Invocation) (given : List ToldOutcome) (apdu : Apdu) → result_for id value p ≡ Some apdu → IsOurs tables made (given ++ returned id value ∷ []) apdu
 result-ours tables id value None made given apdu e = absurd cc
 result-ours tables id value (Some row) made given apdu e =
     let same : result_apdu row id value ≡ apdu = cc in
@@ -47,7 +47,7 @@ pub error-kind : (id : ℤ) (parameter : Option Val) (r : Option ErrorRow) (apdu
 error-kind id parameter None apdu e = cc
 error-kind id parameter (Some error) apdu e = let same : error_apdu error id parameter ≡ apdu = cc in subst (λ (x : Apdu). apdu_invokes x ≡ []) same refl
 
-pub error-ours : (tables : Tables) (id : ℤ) (place : ℕ) (parameter : Option Val) (r : Option ErrorRow) (made : List Invocation) (given : List Outcome) (apdu : Apdu) → error_at tables place ≡ r → error_for id parameter r ≡ Some apdu → IsOurs tables made (given ++ failed id place parameter ∷ []) apdu
+pub error-ours : (tables : Tables) (id : ℤ) (place : ℕ) (parameter : Option Val) (r : Option ErrorRow) (made : List Invocation) (given : List ToldOutcome) (apdu : Apdu) → error_at tables place ≡ r → error_for id parameter r ≡ Some apdu → IsOurs tables made (given ++ failed id place parameter ∷ []) apdu
 error-ours tables id place parameter None made given apdu f e = absurd cc
 error-ours tables id place parameter (Some error) made given apdu f e =
     let same : error_apdu error id parameter ≡ apdu = cc in
@@ -56,12 +56,12 @@ error-ours tables id place parameter (Some error) made given apdu f e =
 
 -- ---- what was noted stays so, as more is handed in
 
-pub noted-own : (tables : Tables) (own more made : List Invocation) (given : List Outcome) (shown : List Indication) → AreNoted tables own made given shown → AreNoted tables (own ++ more) made given shown
+pub noted-own : (tables : Tables) (own more made : List Invocation) (given : List ToldOutcome) (shown : List Indication) → AreNoted tables own made given shown → AreNoted tables (own ++ more) made given shown
 noted-own tables own more made given shown h =
     subst (λ (l : List Invocation). AreNoted tables (own ++ more) l given shown) (append-nil made)
-    (subst (λ (l : List Outcome). AreNoted tables (own ++ more) (made ++ []) l shown) (append-nil given) (all-noted_on tables own more made [] given [] shown h))
+    (subst (λ (l : List ToldOutcome). AreNoted tables (own ++ more) (made ++ []) l shown) (append-nil given) (all-noted_on tables own more made [] given [] shown h))
 
-pub noted-peer : (tables : Tables) (own made more : List Invocation) (given later : List Outcome) (shown : List Indication) → AreNoted tables own made given shown → AreNoted tables own (made ++ more) (given ++ later) shown
+pub noted-peer : (tables : Tables) (own made more : List Invocation) (given later : List ToldOutcome) (shown : List Indication) → AreNoted tables own made given shown → AreNoted tables own (made ++ more) (given ++ later) shown
 noted-peer tables own made more given later shown h =
     subst (λ (l : List Invocation). AreNoted tables l (made ++ more) (given ++ later) shown) (append-nil own) (all-noted_on tables own [] made more given later shown h)
 

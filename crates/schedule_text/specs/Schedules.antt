@@ -9,8 +9,8 @@ use Rattle.value_reading.specs.Words.{after_spaces}
 use Rattle.script_lines.specs.declared.fault.ScriptFault.{ScriptFault}
 use Rattle.script_lines.specs.declared.fault.ScriptFault.TheVariants as script
 use Rattle.script_lines.specs.declared.fault.ScriptKind.TheVariants.{UnknownWord, OutOfOrder, TooMany, BadSetup}
-use Rattle.script_lines.specs.declared.line_fault.LineFault.{LineFault}
-use Rattle.script_lines.specs.declared.line_fault.LineFault.TheVariants as faults
+use Rattle.script_lines.specs.declared.line_fault.ScriptLineFault.{ScriptLineFault}
+use Rattle.script_lines.specs.declared.line_fault.ScriptLineFault.TheVariants as faults
 use Rattle.script_lines.specs.Lines.{lines_of}
 use Rattle.script_lines.specs.Reading.{Reading, ◌>>=◌}
 use Rattle.script_lines.specs.Fields.{field_at, is_next}
@@ -115,6 +115,6 @@ abbrev pub schedule_of : Modes → Tables → List ℕ → Result Said ScriptFau
 schedule_of modes tables text = if nat_lt text_most (length text) then Err (script.At 1 TooMany) else of_lines modes tables (lines_of text)
 
 -- a fault of a line, as one of the text
-abbrev pub TellsOf : ℕ → LineFault → ScriptFault → Type 0
+abbrev pub TellsOf : ℕ → ScriptLineFault → ScriptFault → Type 0
 TellsOf number (faults.Kind kind) fault = fault ≡ script.At number kind
 TellsOf number faults.NoMemory fault = fault ≡ script.NoMemory

@@ -14,8 +14,8 @@ use Rattle.dialogue.specs.declared.config.Mode.TheVariants.{Bare, Direct, Reliab
 use Rattle.end_rules.specs.Base.{is_bare}
 use Rattle.end_config.specs.Refusing.{config_refusal}
 use Rattle.script_lines.specs.declared.fault.ScriptKind.TheVariants.{BadSetup}
-use Rattle.script_lines.specs.declared.line_fault.LineFault.{LineFault}
-use Rattle.script_lines.specs.declared.line_fault.LineFault.TheVariants as faults
+use Rattle.script_lines.specs.declared.line_fault.ScriptLineFault.{ScriptLineFault}
+use Rattle.script_lines.specs.declared.line_fault.ScriptLineFault.TheVariants as faults
 use Rattle.script_lines.specs.Reading.{Reading, ◌>>=◌}
 use Rattle.schedule_text.specs.declared.setting.Modes.{Modes}
 use Rattle.schedule_text.specs.declared.setting.Setting.{Setting}
@@ -79,7 +79,7 @@ config_of tables initiator s = record {
 }
 
 -- want of memory is no refusal
-abbrev pub fault_of : ConfigRefusal → LineFault
+abbrev pub fault_of : ConfigRefusal → ScriptLineFault
 fault_of refusals.NoMemory = faults.NoMemory
 fault_of refusal = faults.Kind BadSetup
 

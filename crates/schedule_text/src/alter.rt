@@ -7,8 +7,8 @@ ghost use Rattle.schedule_text.specs.Alterations.{abstract_at, addition_at, more
 use dialogue::Call;
 use osi_base::{Copied, Ids, ListOf, Oid, Proposal, Proposals};
 use script_lines::{
-    EndsBefore, LineFault, ScriptKind, is_next, is_over, number, object_identifier, over, skip,
-    syntaxes,
+    EndsBefore, ScriptKind, ScriptLineFault, is_next, is_over, number, object_identifier, over,
+    skip, syntaxes,
 };
 use std::alloc::Global;
 use stub_tables::Tables;
@@ -18,7 +18,7 @@ fn abstract_name<'a>(
     alloc: Global,
     tables: &Tables,
     text: &'a [u8],
-) -> Result<(Oid, &'a [u8]), LineFault>
+) -> Result<(Oid, &'a [u8]), ScriptLineFault>
     ensures { Gives (λ x. (x.0, x.1.now)) result (abstract_at tables.now text.now) }
 {
     if is_next("as", text) {
@@ -34,7 +34,7 @@ fn addition<'a>(
     alloc: Global,
     tables: &Tables,
     text: &'a [u8],
-) -> Result<(Proposal, &'a [u8]), LineFault>
+) -> Result<(Proposal, &'a [u8]), ScriptLineFault>
     ensures { Gives (λ x. (x.0, x.1.now)) result (addition_at tables.now text.now) }
 {
     let (id, rest) = number(text)?;
@@ -56,7 +56,7 @@ fn additions<'a>(
     alloc: Global,
     tables: &Tables,
     text: &'a [u8],
-) -> Result<(Proposals, &'a [u8]), LineFault>
+) -> Result<(Proposals, &'a [u8]), ScriptLineFault>
     ensures { Gives (λ x. (x.0, x.1.now)) result (additions_at tables.now text.now) }
 {
     let mut proposals = ListOf::new(alloc);
@@ -74,7 +74,7 @@ fn additions<'a>(
 
 /// The numbers up to the end of the line.
 #[tactic(auto, using(crate::proofs::Turns::numbers_end, crate::proofs::Turns::numbers_more, crate::proofs::Turns::numbers_bad, crate::proofs::Turns::numbers_over))]
-fn more_numbers(alloc: Global, text: &[u8]) -> Result<(Ids, &[u8]), LineFault>
+fn more_numbers(alloc: Global, text: &[u8]) -> Result<(Ids, &[u8]), ScriptLineFault>
     ensures { Gives (λ x. (x.0, x.1.now)) result (more_numbers (length text.now) [] text.now) }
 {
     let mut numbers = ListOf::new(alloc);
@@ -91,17 +91,17 @@ fn more_numbers(alloc: Global, text: &[u8]) -> Result<(Ids, &[u8]), LineFault>
 }
 
 /// The numbers up to the end of the line, one at least.
-fn numbers(alloc: Global, text: &[u8]) -> Result<(Ids, &[u8]), LineFault>
+fn numbers(alloc: Global, text: &[u8]) -> Result<(Ids, &[u8]), ScriptLineFault>
     ensures { Gives (λ x. (x.0, x.1.now)) result (numbers_at text.now) }
 {
     if is_over(text) {
-        return Err(LineFault::Kind(ScriptKind::BadField));
+        return Err(ScriptLineFault::Kind(ScriptKind::BadField));
     }
     more_numbers(alloc, text)
 }
 
 /// The deletions, behind the word `delete`, if it stands next.
-fn deletions(alloc: Global, text: &[u8]) -> Result<(Ids, &[u8]), LineFault>
+fn deletions(alloc: Global, text: &[u8]) -> Result<(Ids, &[u8]), ScriptLineFault>
     ensures { Gives (λ x. (x.0, x.1.now)) result (deletions_at text.now) }
 {
     if is_next("delete", text) {
@@ -113,7 +113,7 @@ fn deletions(alloc: Global, text: &[u8]) -> Result<(Ids, &[u8]), LineFault>
 
 /// What follows the word `alter`.
 #[tactic(auto, unfolding(crate::specs::Alterations::alter_at))]
-pub(crate) fn alter(alloc: Global, tables: &Tables, text: &[u8]) -> Result<Call, LineFault>
+pub(crate) fn alter(alloc: Global, tables: &Tables, text: &[u8]) -> Result<Call, ScriptLineFault>
     ensures { Gives (λ x. x) result (alter_at tables.now text.now) }
 {
     let (add, rest) = additions(alloc, tables, text)?;

@@ -11,7 +11,7 @@ ghost use Rattle.schedule_text.specs.Calls.{narrowed};
 use crate::alter::alter;
 use dialogue::Call;
 use script_lines::{
-    LineFault, ScriptKind, field, identifier, is_over, number, over, result_type, used_value,
+    ScriptKind, ScriptLineFault, field, identifier, is_over, number, over, result_type, used_value,
     value_of_result,
 };
 use std::alloc::Global;
@@ -36,20 +36,20 @@ fn error_place(errors: &[ErrorRow], name: &[u8]) -> Option<usize>
 }
 
 /// The place of 32 bits, or a `BadName`.
-fn narrowed(place: Option<usize>) -> Result<u32, LineFault>
+fn narrowed(place: Option<usize>) -> Result<u32, ScriptLineFault>
     ensures { Gives (λ x. x) result (or_kind ScriptKind.BadName (narrowed place)) }
 {
     let Some(place) = place else {
-        return Err(LineFault::Kind(ScriptKind::BadName));
+        return Err(ScriptLineFault::Kind(ScriptKind::BadName));
     };
     match u32::try_from(place) {
         Ok(place) => Ok(place),
-        Err(_) => Err(LineFault::Kind(ScriptKind::BadName)),
+        Err(_) => Err(ScriptLineFault::Kind(ScriptKind::BadName)),
     }
 }
 
 /// The operation of this name.
-fn operation_named(tables: &Tables, name: &[u8]) -> Result<u32, LineFault>
+fn operation_named(tables: &Tables, name: &[u8]) -> Result<u32, ScriptLineFault>
     ensures { Gives (λ x. x) result (or_kind ScriptKind.BadName
         (operation_named tables.now name.now)) }
 {
@@ -57,7 +57,7 @@ fn operation_named(tables: &Tables, name: &[u8]) -> Result<u32, LineFault>
 }
 
 /// The error of this name.
-fn error_named(tables: &Tables, name: &[u8]) -> Result<u32, LineFault>
+fn error_named(tables: &Tables, name: &[u8]) -> Result<u32, ScriptLineFault>
     ensures { Gives (λ x. x) result (or_kind ScriptKind.BadName (error_named tables.now name.now)) }
 {
     narrowed(error_place(tables.errors.as_slice(), name))
@@ -94,19 +94,19 @@ fn parameter_of(tables: &Tables, place: u32) -> Use
 }
 
 /// The word `linked`, which has to stand next.
-fn linked_word(text: &[u8]) -> Result<&[u8], LineFault>
+fn linked_word(text: &[u8]) -> Result<&[u8], ScriptLineFault>
     ensures { Gives (λ x. x.now) result (linked_word text.now) }
 {
     let (word, rest) = field(text)?;
     if word == b"linked".as_slice() {
         Ok(rest)
     } else {
-        Err(LineFault::Kind(ScriptKind::BadField))
+        Err(ScriptLineFault::Kind(ScriptKind::BadField))
     }
 }
 
 /// The invocation to which one is linked, if a field is left.
-fn linked(text: &[u8]) -> Result<(Option<i64>, &[u8]), LineFault>
+fn linked(text: &[u8]) -> Result<(Option<i64>, &[u8]), ScriptLineFault>
     ensures { Gives (λ x. (x.0, x.1.now)) result (linked_at text.now) }
 {
     if is_over(text) {
@@ -119,7 +119,7 @@ fn linked(text: &[u8]) -> Result<(Option<i64>, &[u8]), LineFault>
 
 /// What follows the word `invoke`.
 #[tactic(auto, unfolding(crate::specs::Calls::invoke_at))]
-fn invoke(alloc: Global, tables: &Tables, text: &[u8]) -> Result<Call, LineFault>
+fn invoke(alloc: Global, tables: &Tables, text: &[u8]) -> Result<Call, ScriptLineFault>
     ensures { Gives (λ x. x) result (invoke_at tables.now text.now) }
 {
     let (context, rest) = number(text)?;
@@ -141,7 +141,7 @@ fn invoke(alloc: Global, tables: &Tables, text: &[u8]) -> Result<Call, LineFault
 
 /// What follows the word `refuse`.
 #[tactic(auto, unfolding(crate::specs::Calls::refuse_at))]
-fn refuse(alloc: Global, tables: &Tables, text: &[u8]) -> Result<Call, LineFault>
+fn refuse(alloc: Global, tables: &Tables, text: &[u8]) -> Result<Call, ScriptLineFault>
     ensures { Gives (λ x. x) result (refuse_at tables.now text.now) }
 {
     let (id, rest) = identifier(text)?;
@@ -161,7 +161,12 @@ fn refuse(alloc: Global, tables: &Tables, text: &[u8]) -> Result<Call, LineFault
 
 /// What follows the word `answer`.
 #[tactic(auto, unfolding(crate::specs::Calls::answer_at))]
-fn answer(alloc: Global, tables: &Tables, invoked: &[u32], text: &[u8]) -> Result<Call, LineFault>
+fn answer(
+    alloc: Global,
+    tables: &Tables,
+    invoked: &[u32],
+    text: &[u8],
+) -> Result<Call, ScriptLineFault>
     ensures { Gives (λ x. x) result (answer_at tables.now invoked.now text.now) }
 {
     let (id, rest) = identifier(text)?;
@@ -177,7 +182,7 @@ fn answer(alloc: Global, tables: &Tables, invoked: &[u32], text: &[u8]) -> Resul
 }
 
 /// What follows the word `please`.
-fn please(text: &[u8]) -> Result<Call, LineFault>
+fn please(text: &[u8]) -> Result<Call, ScriptLineFault>
     ensures { Gives (λ x. x) result (please_at text.now) }
 {
     let (priority, rest) = number(text)?;
@@ -185,7 +190,7 @@ fn please(text: &[u8]) -> Result<Call, LineFault>
 }
 
 /// What follows the word `resync`.
-fn resync(text: &[u8]) -> Result<Call, LineFault>
+fn resync(text: &[u8]) -> Result<Call, ScriptLineFault>
     ensures { Gives (λ x. x) result (resync_at text.now) }
 {
     let (n, rest) = number(text)?;
@@ -226,7 +231,7 @@ fn long_call(
     invoked: &[u32],
     word: &[u8],
     rest: &[u8],
-) -> Result<Call, LineFault>
+) -> Result<Call, ScriptLineFault>
     ensures { Gives (λ x. x) result (long_call tables.now invoked.now word.now rest.now) }
 {
     if word == b"invoke".as_slice() {
@@ -242,7 +247,7 @@ fn long_call(
     } else if word == b"resync".as_slice() {
         resync(rest)
     } else {
-        Err(LineFault::Kind(ScriptKind::UnknownWord))
+        Err(ScriptLineFault::Kind(ScriptKind::UnknownWord))
     }
 }
 
@@ -254,7 +259,7 @@ pub(crate) fn call(
     invoked: &[u32],
     word: &[u8],
     rest: &[u8],
-) -> Result<Call, LineFault>
+) -> Result<Call, ScriptLineFault>
     ensures { Gives (λ x. x) result (call_of tables.now invoked.now word.now rest.now) }
 {
     match plain_call(word) {

@@ -10,7 +10,7 @@ use crate::call::call;
 use crate::draft::{Draft, with_event};
 use dialogue::Event;
 use osi_base::Side;
-use script_lines::{LineFault, ScriptKind, field, over};
+use script_lines::{ScriptKind, ScriptLineFault, field, over};
 use std::alloc::Global;
 use stub_tables::Tables;
 
@@ -31,12 +31,12 @@ pub(crate) fn side_of(word: &[u8]) -> Option<Side>
 }
 
 /// The end that a letter names, or an `UnknownWord`.
-pub(crate) fn side_or_unknown(word: &[u8]) -> Result<Side, LineFault>
+pub(crate) fn side_or_unknown(word: &[u8]) -> Result<Side, ScriptLineFault>
     ensures { Gives (λ x. x) result (or_kind ScriptKind.UnknownWord (side_of word.now)) }
 {
     match side_of(word) {
         Some(side) => Ok(side),
-        None => Err(LineFault::Kind(ScriptKind::UnknownWord)),
+        None => Err(ScriptLineFault::Kind(ScriptKind::UnknownWord)),
     }
 }
 
@@ -51,18 +51,18 @@ fn amount_of(word: &[u8]) -> Option<Option<u32>>
     }
 }
 
-fn amount_or_bad(word: &[u8]) -> Result<Option<u32>, LineFault>
+fn amount_or_bad(word: &[u8]) -> Result<Option<u32>, ScriptLineFault>
     ensures { Gives (λ x. x) result (or_kind ScriptKind.BadNumber (amount_of word.now)) }
 {
     match amount_of(word) {
         Some(amount) => Ok(amount),
-        None => Err(LineFault::Kind(ScriptKind::BadNumber)),
+        None => Err(ScriptLineFault::Kind(ScriptKind::BadNumber)),
     }
 }
 
 /// What follows the word `carry`.
 #[tactic(auto, unfolding(crate::specs::Events::carry_at))]
-fn carry(text: &[u8]) -> Result<Event, LineFault>
+fn carry(text: &[u8]) -> Result<Event, ScriptLineFault>
     ensures { Gives (λ x. x) result (carry_at text.now) }
 {
     let (letter, rest) = field(text)?;
@@ -90,7 +90,7 @@ fn call_event(
     draft: &Draft,
     side: Side,
     text: &[u8],
-) -> Result<Event, LineFault>
+) -> Result<Event, ScriptLineFault>
     ensures { Gives (λ x. x) result (call_at tables.now draft.now side text.now) }
 {
     let (word, rest) = field(text)?;
@@ -115,7 +115,7 @@ fn event(
     draft: &Draft,
     word: &[u8],
     rest: &[u8],
-) -> Result<Event, LineFault>
+) -> Result<Event, ScriptLineFault>
     ensures { Gives (λ x. x) result (event_of tables.now draft.now word.now rest.now) }
 {
     if word == b"carry".as_slice() {
@@ -135,11 +135,11 @@ pub(crate) fn event_line(
     draft: Draft,
     word: &[u8],
     rest: &[u8],
-) -> Result<Draft, LineFault>
+) -> Result<Draft, ScriptLineFault>
     ensures { Gives (λ x. x) result (event_line tables.now draft word.now rest.now) }
 {
     if draft.events.len() >= EVENT_MOST {
-        return Err(LineFault::Kind(ScriptKind::TooMany));
+        return Err(ScriptLineFault::Kind(ScriptKind::TooMany));
     }
     let event = event(alloc, tables, &draft, word, rest)?;
     Ok(with_event(draft, event)?)

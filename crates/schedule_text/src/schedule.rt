@@ -14,7 +14,7 @@ use crate::setting::{Modes, settled};
 use crate::setup::Setup;
 use crate::setup_line::setup_line;
 use dialogue::Events;
-use script_lines::{LineFault, Lines, ScriptFault, ScriptKind, field, is_next};
+use script_lines::{Lines, ScriptFault, ScriptKind, ScriptLineFault, field, is_next};
 use std::alloc::Global;
 use stub_tables::Tables;
 use value_reading::after_spaces;
@@ -45,11 +45,11 @@ fn setup_in_draft(
     draft: Draft,
     word: &[u8],
     rest: &[u8],
-) -> Result<Draft, LineFault>
+) -> Result<Draft, ScriptLineFault>
     ensures { Gives (λ x. x) result (setup_in_draft modes tables.now draft word.now rest.now) }
 {
     if draft.events.len() > 0 {
-        return Err(LineFault::Kind(ScriptKind::OutOfOrder));
+        return Err(ScriptLineFault::Kind(ScriptKind::OutOfOrder));
     }
     let Draft {
         setting,
@@ -72,7 +72,7 @@ fn line_of_word(
     draft: Draft,
     word: &[u8],
     rest: &[u8],
-) -> Result<Draft, LineFault>
+) -> Result<Draft, ScriptLineFault>
     ensures { Gives (λ x. x) result (line_of_word modes tables.now draft word.now rest.now) }
 {
     if is_setup_word(word) {
@@ -80,7 +80,7 @@ fn line_of_word(
     } else if is_event_word(word) {
         event_line(alloc, tables, draft, word, rest)
     } else {
-        Err(LineFault::Kind(ScriptKind::UnknownWord))
+        Err(ScriptLineFault::Kind(ScriptKind::UnknownWord))
     }
 }
 
@@ -101,7 +101,7 @@ fn after_line(
     tables: &Tables,
     draft: Draft,
     line: &[u8],
-) -> Result<Draft, LineFault>
+) -> Result<Draft, ScriptLineFault>
     ensures { Gives (λ x. x) result (after_line modes tables.now draft line.now) }
 {
     if is_blank(line) {
@@ -112,12 +112,12 @@ fn after_line(
 }
 
 /// A fault of the line of this number.
-fn at_line(line: u32, fault: LineFault) -> ScriptFault
+fn at_line(line: u32, fault: ScriptLineFault) -> ScriptFault
     ensures { TellsOf line fault result }
 {
     match fault {
-        LineFault::Kind(kind) => ScriptFault::At { line, kind },
-        LineFault::NoMemory => ScriptFault::NoMemory,
+        ScriptLineFault::Kind(kind) => ScriptFault::At { line, kind },
+        ScriptLineFault::NoMemory => ScriptFault::NoMemory,
     }
 }
 
@@ -153,7 +153,7 @@ fn finished(
     modes: Modes,
     tables: &Tables,
     draft: Draft,
-) -> Result<Schedule, LineFault>
+) -> Result<Schedule, ScriptLineFault>
     ensures { Gives said result (finished modes tables.now draft) }
 {
     let (a, b) = settled(alloc, modes, tables, &draft.setting)?;
@@ -184,10 +184,10 @@ fn first_or_lack(alloc: Global, modes: Modes, tables: &Tables, text: &[u8]) -> S
 {
     let mut lines = Lines::new(text);
     let Some(line) = lines.next() else {
-        return at_line(1, LineFault::Kind(ScriptKind::BadSetup));
+        return at_line(1, ScriptLineFault::Kind(ScriptKind::BadSetup));
     };
     match after_line(alloc, modes, tables, no_draft(alloc), line) {
-        Ok(_) => at_line(1, LineFault::Kind(ScriptKind::BadSetup)),
+        Ok(_) => at_line(1, ScriptLineFault::Kind(ScriptKind::BadSetup)),
         Err(fault) => at_line(1, fault),
     }
 }
@@ -209,7 +209,7 @@ pub fn read_schedule(
         ≡ Err fault) }
 {
     if bytes.len() > SCHEDULE_MOST {
-        return Err(at_line(1, LineFault::Kind(ScriptKind::TooMany)));
+        return Err(at_line(1, ScriptLineFault::Kind(ScriptKind::TooMany)));
     }
     if !modes.direct && !names_a_mode(bytes) {
         return Err(first_or_lack(alloc, modes, tables, bytes));

@@ -9,7 +9,7 @@ use association_ground::is_bare;
 use dialogue::{Config, ConfigRefusal, Mode};
 use end_config::check_config;
 use osi_base::{Copied, ListOf, NoMemory, Octets, Oids, Proposal, Proposals, Side, Syntax};
-use script_lines::{LineFault, ScriptKind};
+use script_lines::{ScriptKind, ScriptLineFault};
 use std::alloc::Global;
 use stub_tables::Tables;
 
@@ -153,17 +153,17 @@ fn config_of(
 }
 
 /// The fault of a configuration that an end refuses. Want of memory is no refusal.
-fn fault_of(refusal: ConfigRefusal) -> LineFault
+fn fault_of(refusal: ConfigRefusal) -> ScriptLineFault
     ensures { result ≡ fault_of refusal }
 {
     match refusal {
-        ConfigRefusal::NoMemory => LineFault::NoMemory,
-        _ => LineFault::Kind(ScriptKind::BadSetup),
+        ConfigRefusal::NoMemory => ScriptLineFault::NoMemory,
+        _ => ScriptLineFault::Kind(ScriptKind::BadSetup),
     }
 }
 
 /// Whether no end refuses a configuration; else a `BadSetup`.
-fn accepted(alloc: Global, config: &Config) -> Result<(), LineFault>
+fn accepted(alloc: Global, config: &Config) -> Result<(), ScriptLineFault>
     ensures { Gives (λ x. x) result (accepted config.now) }
 {
     match check_config(alloc, config) {
@@ -178,7 +178,7 @@ fn accepted_config(
     tables: &Tables,
     initiator: bool,
     setting: &Setting,
-) -> Result<Config, LineFault>
+) -> Result<Config, ScriptLineFault>
     ensures { Gives (λ x. x) result (accepted_config tables.now initiator setting.now) }
 {
     let config = config_of(alloc, tables, initiator, setting)?;
@@ -194,11 +194,11 @@ pub(crate) fn settled(
     modes: Modes,
     tables: &Tables,
     setting: &Setting,
-) -> Result<(Config, Config), LineFault>
+) -> Result<(Config, Config), ScriptLineFault>
     ensures { Gives (λ x. x) result (settled modes tables.now setting.now) }
 {
     if !runs(modes, mode_of(setting)) {
-        return Err(LineFault::Kind(ScriptKind::BadSetup));
+        return Err(ScriptLineFault::Kind(ScriptKind::BadSetup));
     }
     let a = accepted_config(alloc, tables, true, setting)?;
     let b = accepted_config(alloc, tables, false, setting)?;

@@ -10,7 +10,7 @@ use crate::setting::{Modes, Setting, mode_of, names_for, settled};
 use association_ground::is_bare;
 use dialogue::Mode;
 use osi_base::{Copied, NoMemory, Oids, Proposal, Side};
-use script_lines::{EndsBefore, LineFault, ScriptKind, field, number, over, syntaxes};
+use script_lines::{EndsBefore, ScriptKind, ScriptLineFault, field, number, over, syntaxes};
 use std::alloc::Global;
 use stub_tables::Tables;
 
@@ -23,7 +23,7 @@ pub(crate) struct ModeLine {
 }
 
 /// What follows the word `reliable`.
-fn reliable(text: &[u8]) -> Result<ModeLine, LineFault>
+fn reliable(text: &[u8]) -> Result<ModeLine, ScriptLineFault>
     ensures { Gives (λ x. x) result (reliable_at text.now) }
 {
     let (checkpoint, rest) = number(text)?;
@@ -50,7 +50,7 @@ fn plain(mode: Mode) -> ModeLine
 }
 
 /// The mode that a word names, with what follows it.
-fn mode_named(word: &[u8], rest: &[u8]) -> Result<ModeLine, LineFault>
+fn mode_named(word: &[u8], rest: &[u8]) -> Result<ModeLine, ScriptLineFault>
     ensures { Gives (λ x. x) result (mode_named word.now rest.now) }
 {
     if word == b"bare".as_slice() {
@@ -60,12 +60,12 @@ fn mode_named(word: &[u8], rest: &[u8]) -> Result<ModeLine, LineFault>
     } else if word == b"reliable".as_slice() {
         reliable(rest)
     } else {
-        Err(LineFault::Kind(ScriptKind::UnknownWord))
+        Err(ScriptLineFault::Kind(ScriptKind::UnknownWord))
     }
 }
 
 /// What follows the word `mode`.
-fn mode_fields(text: &[u8]) -> Result<ModeLine, LineFault>
+fn mode_fields(text: &[u8]) -> Result<ModeLine, ScriptLineFault>
     ensures { Gives (λ x. x) result (mode_at text.now) }
 {
     let (word, rest) = field(text)?;
@@ -85,7 +85,7 @@ fn kept_settled(
     modes: Modes,
     tables: &Tables,
     setting: Setting,
-) -> Result<Setting, LineFault>
+) -> Result<Setting, ScriptLineFault>
     ensures { Gives (λ x. x) result (kept_settled modes tables.now setting) }
 {
     let _configs = settled(alloc, modes, tables, &setting)?;
@@ -99,15 +99,15 @@ fn mode_line(
     tables: &Tables,
     setting: Setting,
     text: &[u8],
-) -> Result<Setting, LineFault>
+) -> Result<Setting, ScriptLineFault>
     ensures { Gives (λ x. x) result (mode_line modes tables.now setting text.now) }
 {
     if setting.mode.is_some() {
-        return Err(LineFault::Kind(ScriptKind::BadSetup));
+        return Err(ScriptLineFault::Kind(ScriptKind::BadSetup));
     }
     let line = mode_fields(text)?;
     if is_bare(line.mode) && has_lines(&setting) {
-        return Err(LineFault::Kind(ScriptKind::BadSetup));
+        return Err(ScriptLineFault::Kind(ScriptKind::BadSetup));
     }
     let mut setting = setting;
     setting.mode = Some(line.mode);
@@ -150,11 +150,11 @@ fn new_context(
     setting: Setting,
     id: u32,
     rest: &[u8],
-) -> Result<Setting, LineFault>
+) -> Result<Setting, ScriptLineFault>
     ensures { Gives (λ x. x) result (new_context modes tables.now setting id rest.now) }
 {
     if is_named(id, setting.contexts.as_slice()) {
-        return Err(LineFault::Kind(ScriptKind::BadSetup));
+        return Err(ScriptLineFault::Kind(ScriptKind::BadSetup));
     }
     let (transfers, _over) = syntaxes(alloc, EndsBefore::Nothing, rest)?;
     let setting = with_context(alloc, tables, setting, id, transfers)?;
@@ -168,11 +168,11 @@ fn context_line(
     tables: &Tables,
     setting: Setting,
     text: &[u8],
-) -> Result<Setting, LineFault>
+) -> Result<Setting, ScriptLineFault>
     ensures { Gives (λ x. x) result (context_line modes tables.now setting text.now) }
 {
     if is_bare(mode_of(&setting)) {
-        return Err(LineFault::Kind(ScriptKind::BadSetup));
+        return Err(ScriptLineFault::Kind(ScriptKind::BadSetup));
     }
     let (id, rest) = number(text)?;
     new_context(alloc, modes, tables, setting, id, rest)
@@ -198,11 +198,11 @@ fn new_accepted(
     setting: Setting,
     side: Side,
     rest: &[u8],
-) -> Result<Setting, LineFault>
+) -> Result<Setting, ScriptLineFault>
     ensures { Gives (λ x. x) result (new_accepted modes tables.now setting side rest.now) }
 {
     if names_for(&setting, side).is_some() {
-        return Err(LineFault::Kind(ScriptKind::BadSetup));
+        return Err(ScriptLineFault::Kind(ScriptKind::BadSetup));
     }
     let (names, _over) = syntaxes(alloc, EndsBefore::Nothing, rest)?;
     kept_settled(alloc, modes, tables, with_accepted(setting, side, names))
@@ -215,7 +215,7 @@ fn accepts_fields(
     tables: &Tables,
     setting: Setting,
     text: &[u8],
-) -> Result<Setting, LineFault>
+) -> Result<Setting, ScriptLineFault>
     ensures { Gives (λ x. x) result (accepts_fields modes tables.now setting text.now) }
 {
     let (letter, rest) = field(text)?;
@@ -230,11 +230,11 @@ fn accepts_line(
     tables: &Tables,
     setting: Setting,
     text: &[u8],
-) -> Result<Setting, LineFault>
+) -> Result<Setting, ScriptLineFault>
     ensures { Gives (λ x. x) result (accepts_line modes tables.now setting text.now) }
 {
     if is_bare(mode_of(&setting)) {
-        return Err(LineFault::Kind(ScriptKind::BadSetup));
+        return Err(ScriptLineFault::Kind(ScriptKind::BadSetup));
     }
     accepts_fields(alloc, modes, tables, setting, text)
 }
@@ -247,7 +247,7 @@ pub(crate) fn setup_line(
     setting: Setting,
     word: &[u8],
     rest: &[u8],
-) -> Result<Setting, LineFault>
+) -> Result<Setting, ScriptLineFault>
     ensures { Gives (λ x. x) result (setup_line modes tables.now setting word.now rest.now) }
 {
     if word == b"mode".as_slice() {
@@ -257,6 +257,6 @@ pub(crate) fn setup_line(
     } else if word == b"accepts".as_slice() {
         accepts_line(alloc, modes, tables, setting, rest)
     } else {
-        Err(LineFault::Kind(ScriptKind::UnknownWord))
+        Err(ScriptLineFault::Kind(ScriptKind::UnknownWord))
     }
 }

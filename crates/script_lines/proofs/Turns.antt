@@ -2,13 +2,13 @@
 use Rattle.std.proofs.Common.{◌≡◌, ℕ, zero, suc, ◌+◌, ◌-◌, ◌<◌, ◌≤◌, true, false, List, [], ◌∷◌, ◌++◌, refl, arith, Result, Ok, Err, if◌then◌else◌}
 use Rattle.script_lines.specs.declared.fault.ScriptKind.{ScriptKind}
 use Rattle.script_lines.specs.declared.syntax.EndsBefore.{EndsBefore}
-use Rattle.script_lines.specs.declared.line_fault.LineFault.{LineFault}
-use Rattle.script_lines.specs.declared.line_fault.LineFault.TheVariants as faults
+use Rattle.script_lines.specs.declared.line_fault.ScriptLineFault.{ScriptLineFault}
+use Rattle.script_lines.specs.declared.line_fault.ScriptLineFault.TheVariants as faults
 use Rattle.script_lines.specs.Reading.{Reading, FailsWith}
 use Rattle.script_lines.specs.Syntaxes.{are_over, syntax_at, then_syntax, more_syntaxes}
 
 -- a fault of one reading is one of another that fails as it does
-pub fails_so : {X Y : Type 0} (fault : LineFault) (r : Reading X) (s : Reading Y) → ((kind : ScriptKind) → r ≡ Err kind → s ≡ Err kind) → FailsWith fault r → FailsWith fault s
+pub fails_so : {X Y : Type 0} (fault : ScriptLineFault) (r : Reading X) (s : Reading Y) → ((kind : ScriptKind) → r ≡ Err kind → s ≡ Err kind) → FailsWith fault r → FailsWith fault s
 fails_so (faults.Kind kind) r s h e = h kind e
 fails_so faults.NoMemory r s h e = tt
 

@@ -3,8 +3,8 @@ use Rattle.std.specs.Prelude.{ℕ, List, ◌++◌, codes, decimal}
 use Rattle.osi_base.specs.Printed.{no_memory_text}
 use Rattle.script_lines.specs.declared.fault.ScriptKind.{ScriptKind}
 use Rattle.script_lines.specs.declared.fault.ScriptKind.TheVariants as kinds
-use Rattle.script_lines.specs.declared.line_fault.LineFault.{LineFault}
-use Rattle.script_lines.specs.declared.line_fault.LineFault.TheVariants as lines
+use Rattle.script_lines.specs.declared.line_fault.ScriptLineFault.{ScriptLineFault}
+use Rattle.script_lines.specs.declared.line_fault.ScriptLineFault.TheVariants as lines
 use Rattle.script_lines.specs.declared.fault.ScriptFault.{ScriptFault}
 use Rattle.script_lines.specs.declared.fault.ScriptFault.TheVariants as faults
 
@@ -19,7 +19,7 @@ script_kind_word kinds.TooMany = codes "TooMany"
 script_kind_word kinds.OutOfOrder = codes "OutOfOrder"
 script_kind_word kinds.BadSetup = codes "BadSetup"
 
-abbrev pub line_fault_text : LineFault → List ℕ
+abbrev pub line_fault_text : ScriptLineFault → List ℕ
 line_fault_text (lines.Kind kind) = script_kind_word kind
 line_fault_text lines.NoMemory = no_memory_text
 

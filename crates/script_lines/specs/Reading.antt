@@ -1,8 +1,8 @@
 -- Reading a line from the left: a value and what follows it, or how the first faulty field breaks the grammar.
 use Rattle.std.specs.Prelude.{◌≡◌, ℕ, List, Option, None, Some, Result, Ok, Err}
 use Rattle.script_lines.specs.declared.fault.ScriptKind.{ScriptKind}
-use Rattle.script_lines.specs.declared.line_fault.LineFault.{LineFault}
-use Rattle.script_lines.specs.declared.line_fault.LineFault.TheVariants as faults
+use Rattle.script_lines.specs.declared.line_fault.ScriptLineFault.{ScriptLineFault}
+use Rattle.script_lines.specs.declared.line_fault.ScriptLineFault.TheVariants as faults
 
 abbrev pub Reading : Type 0 → Type 0
 Reading A = Result A ScriptKind
@@ -18,10 +18,10 @@ or_kind kind None = Err kind
 or_kind kind (Some x) = Ok x
 
 -- What a function returned, seen by view, is what reading gives, unless memory ran out.
-abbrev pub FailsWith : {Y : Type 0} → LineFault → Reading Y → Type 0
+abbrev pub FailsWith : {Y : Type 0} → ScriptLineFault → Reading Y → Type 0
 FailsWith (faults.Kind kind) read = read ≡ Err kind
 FailsWith faults.NoMemory read = Unit {0}
 
-abbrev pub Gives : {X Y : Type 0} → (X → Y) → Result X LineFault → Reading Y → Type 0
+abbrev pub Gives : {X Y : Type 0} → (X → Y) → Result X ScriptLineFault → Reading Y → Type 0
 Gives view (Ok x) read = read ≡ Ok (view x)
 Gives view (Err e) read = FailsWith e read

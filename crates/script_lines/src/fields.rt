@@ -7,7 +7,7 @@ ghost use Rattle.script_lines.specs.Reading.{Gives, or_kind};
 ghost use Rattle.script_lines.specs.Fields.{is_empty, is_over, up_to_space, from_space, is_next, skip, field_here, field_at, number_at, identifier_at, if_over, is_parted};
 
 use crate::fault::ScriptKind;
-use crate::line_fault::LineFault;
+use crate::line_fault::ScriptLineFault;
 use asn1_types::{TextKind, is_text};
 use value_reading::{after_spaces, len_to};
 
@@ -49,43 +49,43 @@ pub fn skip(text: &[u8]) -> &[u8]
 /// The next field and what follows it: refused as `BadField` where none is left, or one that isn't
 /// UTF-8.
 #[tactic(auto, unfolding(crate::specs::Fields::field_at))]
-pub fn field(text: &[u8]) -> Result<(&[u8], &[u8]), LineFault>
+pub fn field(text: &[u8]) -> Result<(&[u8], &[u8]), ScriptLineFault>
     ensures { Gives (λ x. (x.0.now, x.1.now)) result (field_at text.now) }
 {
     let here = after_spaces(text);
     if here.is_empty() {
-        return Err(LineFault::Kind(ScriptKind::BadField));
+        return Err(ScriptLineFault::Kind(ScriptKind::BadField));
     }
     let field = up_to_space(here);
     if !is_text(TextKind::Utf8, field) {
-        return Err(LineFault::Kind(ScriptKind::BadField));
+        return Err(ScriptLineFault::Kind(ScriptKind::BadField));
     }
     Ok((field, from_space(here)))
 }
 
 /// The number that a field is.
-fn number_of(field: &[u8]) -> Result<u32, LineFault>
+fn number_of(field: &[u8]) -> Result<u32, ScriptLineFault>
     ensures { Gives (λ x. x) result (or_kind ScriptKind.BadNumber (number_of field.now)) }
 {
     match value_text::number(field) {
         Some(number) => Ok(number),
-        None => Err(LineFault::Kind(ScriptKind::BadNumber)),
+        None => Err(ScriptLineFault::Kind(ScriptKind::BadNumber)),
     }
 }
 
 /// The identifier that a field is.
-fn identifier_of(field: &[u8]) -> Result<i64, LineFault>
+fn identifier_of(field: &[u8]) -> Result<i64, ScriptLineFault>
     ensures { Gives (λ x. x) result (or_kind ScriptKind.BadNumber (identifier_of field.now)) }
 {
     match value_text::identifier(field) {
         Some(id) => Ok(id),
-        None => Err(LineFault::Kind(ScriptKind::BadNumber)),
+        None => Err(ScriptLineFault::Kind(ScriptKind::BadNumber)),
     }
 }
 
 /// The number of 32 bits that the next field is, and what follows it.
 #[tactic(auto, unfolding(crate::specs::Fields::number_at))]
-pub fn number(text: &[u8]) -> Result<(u32, &[u8]), LineFault>
+pub fn number(text: &[u8]) -> Result<(u32, &[u8]), ScriptLineFault>
     ensures { Gives (λ x. (x.0, x.1.now)) result (number_at text.now) }
 {
     let (field, rest) = field(text)?;
@@ -95,7 +95,7 @@ pub fn number(text: &[u8]) -> Result<(u32, &[u8]), LineFault>
 
 /// The identifier of an invocation that the next field is, and what follows it.
 #[tactic(auto, unfolding(crate::specs::Fields::identifier_at))]
-pub fn identifier(text: &[u8]) -> Result<(i64, &[u8]), LineFault>
+pub fn identifier(text: &[u8]) -> Result<(i64, &[u8]), ScriptLineFault>
     ensures { Gives (λ x. (x.0, x.1.now)) result (identifier_at text.now) }
 {
     let (field, rest) = field(text)?;
@@ -104,13 +104,13 @@ pub fn identifier(text: &[u8]) -> Result<(i64, &[u8]), LineFault>
 }
 
 /// What was read, where no field is left behind it.
-pub fn over<T: Drop>(value: T, text: &[u8]) -> Result<T, LineFault>
+pub fn over<T: Drop>(value: T, text: &[u8]) -> Result<T, ScriptLineFault>
     ensures { Gives (λ x. x) result (if_over value text.now) }
 {
     if is_over(text) {
         Ok(value)
     } else {
-        Err(LineFault::Kind(ScriptKind::BadField))
+        Err(ScriptLineFault::Kind(ScriptKind::BadField))
     }
 }
 

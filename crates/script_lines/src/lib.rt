@@ -13,7 +13,7 @@ mod value;
 pub use fault::{ScriptFault, ScriptKind};
 pub use fields::{field, identifier, is_next, is_over, number, over, skip};
 pub use invoked::{InvokedOperations, result_type};
-pub use line_fault::LineFault;
+pub use line_fault::ScriptLineFault;
 pub use splitting::Lines;
 pub use syntax::{EndsBefore, object_identifier, syntaxes};
 pub use value::{used_value, value_of_result};

@@ -1,7 +1,7 @@
 //! Why a line isn't read.
 
 ghost use Rattle.std.specs.Prelude.{◌≡◌};
-ghost use Rattle.script_lines.specs.declared.line_fault.LineFault.TheVariants.{NoMemory as no_room, Kind};
+ghost use Rattle.script_lines.specs.declared.line_fault.ScriptLineFault.TheVariants.{NoMemory as no_room, Kind};
 
 use crate::fault::ScriptKind;
 use osi_base::NoMemory;
@@ -11,14 +11,14 @@ use std::fmt;
 
 /// Why a line isn't read.
 #[derive(Clone, Copy, Debug, PartialEq, Eq)]
-pub enum LineFault {
+pub enum ScriptLineFault {
     /// Its first faulty field breaks the grammar in this way.
     Kind(ScriptKind),
     /// An allocation was refused.
     NoMemory,
 }
 
-impl fmt::Display for LineFault {
+impl fmt::Display for ScriptLineFault {
     ghost use Rattle.std.specs.Prelude.{Some};
     ghost use Rattle.script_lines.specs.Printed.{line_fault_text};
 
@@ -26,42 +26,42 @@ impl fmt::Display for LineFault {
 
     fn fmt<W: fmt::Write>(&self, f: &mut fmt::Formatter<W>) -> fmt::Result {
         match self {
-            LineFault::Kind(kind) => f.write_str(kind.word()),
-            LineFault::NoMemory => f.write_str("out of memory"),
+            ScriptLineFault::Kind(kind) => f.write_str(kind.word()),
+            ScriptLineFault::NoMemory => f.write_str("out of memory"),
         }
     }
 }
 
-impl Error for LineFault {}
+impl Error for ScriptLineFault {}
 
-impl From<ScriptKind> for LineFault {
+impl From<ScriptKind> for ScriptLineFault {
     ghost from_gives = { λ kind fault. fault ≡ Kind kind };
 
-    fn from(kind: ScriptKind) -> LineFault {
-        LineFault::Kind(kind)
+    fn from(kind: ScriptKind) -> ScriptLineFault {
+        ScriptLineFault::Kind(kind)
     }
 }
 
-impl From<NoMemory> for LineFault {
+impl From<NoMemory> for ScriptLineFault {
     ghost from_gives = { λ _ fault. fault ≡ no_room };
 
-    fn from(_error: NoMemory) -> LineFault {
-        LineFault::NoMemory
+    fn from(_error: NoMemory) -> ScriptLineFault {
+        ScriptLineFault::NoMemory
     }
 }
 
-impl From<AllocError> for LineFault {
+impl From<AllocError> for ScriptLineFault {
     ghost from_gives = { λ _ fault. fault ≡ no_room };
 
-    fn from(_error: AllocError) -> LineFault {
-        LineFault::NoMemory
+    fn from(_error: AllocError) -> ScriptLineFault {
+        ScriptLineFault::NoMemory
     }
 }
 
-impl<T: Drop> From<AllocFailed<T>> for LineFault {
+impl<T: Drop> From<AllocFailed<T>> for ScriptLineFault {
     ghost from_gives = { λ _ fault. fault ≡ no_room };
 
-    fn from(_error: AllocFailed<T>) -> LineFault {
-        LineFault::NoMemory
+    fn from(_error: AllocFailed<T>) -> ScriptLineFault {
+        ScriptLineFault::NoMemory
     }
 }

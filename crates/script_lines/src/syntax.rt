@@ -9,7 +9,7 @@ ghost use Rattle.script_lines.specs.Syntaxes.{identifier_found, found_or, identi
 
 use crate::fault::ScriptKind;
 use crate::fields::{field, is_next, is_over, is_parted};
-use crate::line_fault::LineFault;
+use crate::line_fault::ScriptLineFault;
 use asn1_types::{Node, TextKind, Val, is_text};
 use osi_base::{ListOf, Oid, Oids, Syntax};
 use std::alloc::Global;
@@ -25,22 +25,26 @@ pub enum EndsBefore {
 }
 
 /// The object identifier that a value is, where it is parted from what follows it.
-fn identifier_found(value: Val, rest: &[u8], kind: ScriptKind) -> Result<(Oid, &[u8]), LineFault>
+fn identifier_found(
+    value: Val,
+    rest: &[u8],
+    kind: ScriptKind,
+) -> Result<(Oid, &[u8]), ScriptLineFault>
     ensures { Gives (λ x. (x.0, x.1.now)) result (identifier_found kind value rest.now) }
 {
     match value.node {
         Node::ObjectId(name) if is_parted(rest) => Ok((name, rest)),
-        _ => Err(LineFault::Kind(kind)),
+        _ => Err(ScriptLineFault::Kind(kind)),
     }
 }
 
 /// The object identifier that a value found is.
-fn found_or(front: Option<Front<'_>>, kind: ScriptKind) -> Result<(Oid, &[u8]), LineFault>
+fn found_or(front: Option<Front<'_>>, kind: ScriptKind) -> Result<(Oid, &[u8]), ScriptLineFault>
     ensures { Gives (λ x. (x.0, x.1.now)) result (found_or kind (found front.entry)) }
 {
     match front {
         Some(Front { value, rest }) => identifier_found(value, rest, kind),
-        None => Err(LineFault::Kind(kind)),
+        None => Err(ScriptLineFault::Kind(kind)),
     }
 }
 
@@ -51,12 +55,12 @@ pub fn object_identifier(
     alloc: Global,
     text: &[u8],
     kind: ScriptKind,
-) -> Result<(Oid, &[u8]), LineFault>
+) -> Result<(Oid, &[u8]), ScriptLineFault>
     ensures { Gives (λ x. (x.0, x.1.now)) result (object_identifier_at kind text.now) }
 {
     let here = after_spaces(text);
     if !is_text(TextKind::Utf8, here) {
-        return Err(LineFault::Kind(ScriptKind::BadField));
+        return Err(ScriptLineFault::Kind(ScriptKind::BadField));
     }
     let front = read_form(alloc, here)?;
     found_or(front, kind)
@@ -87,16 +91,16 @@ fn begins_braced(text: &[u8]) -> bool
 }
 
 /// The name of the syntax that a word names.
-fn word_name(alloc: Global, word: &[u8]) -> Result<Oid, LineFault>
+fn word_name(alloc: Global, word: &[u8]) -> Result<Oid, ScriptLineFault>
     ensures { Gives (λ x. x) result (or_kind ScriptKind.BadName (syntax_named word.now)) }
 {
     match syntax_named(word) {
         Some(syntax) => Ok(syntax.name(alloc)?),
-        None => Err(LineFault::Kind(ScriptKind::BadName)),
+        None => Err(ScriptLineFault::Kind(ScriptKind::BadName)),
     }
 }
 
-fn word_syntax(alloc: Global, text: &[u8]) -> Result<(Oid, &[u8]), LineFault>
+fn word_syntax(alloc: Global, text: &[u8]) -> Result<(Oid, &[u8]), ScriptLineFault>
     ensures { Gives (λ x. (x.0, x.1.now)) result (word_syntax text.now) }
 {
     let (word, rest) = field(text)?;
@@ -106,7 +110,7 @@ fn word_syntax(alloc: Global, text: &[u8]) -> Result<(Oid, &[u8]), LineFault>
 
 /// The transfer syntax that stands next: a word, or an object identifier.
 #[tactic(auto, unfolding(crate::specs::Syntaxes::syntax_at))]
-fn syntax(alloc: Global, text: &[u8]) -> Result<(Oid, &[u8]), LineFault>
+fn syntax(alloc: Global, text: &[u8]) -> Result<(Oid, &[u8]), ScriptLineFault>
     ensures { Gives (λ x. (x.0, x.1.now)) result (syntax_at text.now) }
 {
     if begins_braced(after_spaces(text)) {
@@ -128,7 +132,11 @@ fn are_over(before: EndsBefore, text: &[u8]) -> bool
 
 /// The syntaxes up to the end of their list.
 #[tactic(auto, using(crate::proofs::Turns::syntaxes_end, crate::proofs::Turns::syntaxes_more, crate::proofs::Turns::syntaxes_bad, crate::proofs::Turns::syntaxes_over))]
-fn more_syntaxes(alloc: Global, before: EndsBefore, text: &[u8]) -> Result<(Oids, &[u8]), LineFault>
+fn more_syntaxes(
+    alloc: Global,
+    before: EndsBefore,
+    text: &[u8],
+) -> Result<(Oids, &[u8]), ScriptLineFault>
     ensures { Gives (λ x. (x.0, x.1.now)) result
         (more_syntaxes before (length text.now) [] text.now) }
 {
@@ -149,11 +157,15 @@ fn more_syntaxes(alloc: Global, before: EndsBefore, text: &[u8]) -> Result<(Oids
 /// `packed` or an object identifier. An unknown word or a malformed object identifier is a
 /// `BadName`; none at all is a `BadField`, and so is what isn't UTF-8.
 #[tactic(auto, unfolding(crate::specs::Syntaxes::syntaxes_at))]
-pub fn syntaxes(alloc: Global, before: EndsBefore, text: &[u8]) -> Result<(Oids, &[u8]), LineFault>
+pub fn syntaxes(
+    alloc: Global,
+    before: EndsBefore,
+    text: &[u8],
+) -> Result<(Oids, &[u8]), ScriptLineFault>
     ensures { Gives (λ x. (x.0, x.1.now)) result (syntaxes_at before text.now) }
 {
     if are_over(before, text) {
-        return Err(LineFault::Kind(ScriptKind::BadField));
+        return Err(ScriptLineFault::Kind(ScriptKind::BadField));
     }
     more_syntaxes(alloc, before, text)
 }

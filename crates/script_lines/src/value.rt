@@ -7,7 +7,7 @@ ghost use Rattle.script_lines.specs.Values.{typed_at, bad_value, if_parted, no_v
 
 use crate::fault::ScriptKind;
 use crate::fields::{is_next, is_parted};
-use crate::line_fault::LineFault;
+use crate::line_fault::ScriptLineFault;
 use asn1_types::{TextKind, TypeId, TypeTable, Val, is_text};
 use osi_base::NoMemory;
 use std::alloc::Global;
@@ -41,7 +41,7 @@ fn bad_value(here: &[u8]) -> ScriptKind
 }
 
 /// A value that is parted from what follows it.
-fn if_parted(front: Front<'_>) -> Result<(Option<Val>, &[u8]), LineFault>
+fn if_parted(front: Front<'_>) -> Result<(Option<Val>, &[u8]), ScriptLineFault>
     ensures { Gives (λ x. (x.0, x.1.now)) result
         (if_parted (record { value = front.entry.value; rest = front.entry.rest.now })) }
 {
@@ -49,18 +49,18 @@ fn if_parted(front: Front<'_>) -> Result<(Option<Val>, &[u8]), LineFault>
     if is_parted(rest) {
         Ok((Some(value), rest))
     } else {
-        Err(LineFault::Kind(ScriptKind::BadField))
+        Err(ScriptLineFault::Kind(ScriptKind::BadField))
     }
 }
 
 /// No value, where a use may lack it.
-fn no_value(used: Use, here: &[u8]) -> Result<(Option<Val>, &[u8]), LineFault>
+fn no_value(used: Use, here: &[u8]) -> Result<(Option<Val>, &[u8]), ScriptLineFault>
     ensures { Gives (λ x. (x.0, x.1.now)) result (no_value used here.now) }
 {
     if used.may_lack() {
         Ok((None, here))
     } else {
-        Err(LineFault::Kind(bad_value(here)))
+        Err(ScriptLineFault::Kind(bad_value(here)))
     }
 }
 
@@ -77,7 +77,7 @@ fn used_found<'a>(
     links: bool,
     here: &'a [u8],
     front: Option<Front<'a>>,
-) -> Result<(Option<Val>, &'a [u8]), LineFault>
+) -> Result<(Option<Val>, &'a [u8]), ScriptLineFault>
     ensures { Gives (λ x. (x.0, x.1.now)) result
         (used_found used links here.now (found front.entry)) }
 {
@@ -87,7 +87,7 @@ fn used_found<'a>(
             if value_is_over(links, here) {
                 no_value(used, here)
             } else {
-                Err(LineFault::Kind(bad_value(here)))
+                Err(ScriptLineFault::Kind(bad_value(here)))
             }
         }
     }
@@ -103,7 +103,7 @@ pub fn used_value<'a>(
     used: Use,
     links: bool,
     text: &'a [u8],
-) -> Result<(Option<Val>, &'a [u8]), LineFault>
+) -> Result<(Option<Val>, &'a [u8]), ScriptLineFault>
     ensures { Gives (λ x. (x.0, x.1.now)) result (used_at types.now used links text.now) }
 {
     let here = after_spaces(text);
@@ -112,21 +112,21 @@ pub fn used_value<'a>(
 }
 
 /// The value of a form that was found.
-fn form_found(front: Option<Front<'_>>) -> Result<(Option<Val>, &[u8]), LineFault>
+fn form_found(front: Option<Front<'_>>) -> Result<(Option<Val>, &[u8]), ScriptLineFault>
     ensures { Gives (λ x. (x.0, x.1.now)) result (form_found (found front.entry)) }
 {
     match front {
         Some(front) => if_parted(front),
-        None => Err(LineFault::Kind(ScriptKind::BadValue)),
+        None => Err(ScriptLineFault::Kind(ScriptKind::BadValue)),
     }
 }
 
 /// A value by its form.
-fn by_form(alloc: Global, here: &[u8]) -> Result<(Option<Val>, &[u8]), LineFault>
+fn by_form(alloc: Global, here: &[u8]) -> Result<(Option<Val>, &[u8]), ScriptLineFault>
     ensures { Gives (λ x. (x.0, x.1.now)) result (by_form here.now) }
 {
     if !is_text(TextKind::Utf8, here) {
-        return Err(LineFault::Kind(ScriptKind::BadField));
+        return Err(ScriptLineFault::Kind(ScriptKind::BadField));
     }
     let front = read_form(alloc, here)?;
     form_found(front)
@@ -137,7 +137,7 @@ fn result_found<'a>(
     alloc: Global,
     here: &'a [u8],
     front: Option<Front<'a>>,
-) -> Result<(Option<Val>, &'a [u8]), LineFault>
+) -> Result<(Option<Val>, &'a [u8]), ScriptLineFault>
     ensures { Gives (λ x. (x.0, x.1.now)) result (result_found here.now (found front.entry)) }
 {
     match front {
@@ -160,7 +160,7 @@ pub fn value_of_result<'a>(
     types: &TypeTable,
     of: Option<TypeId>,
     text: &'a [u8],
-) -> Result<(Option<Val>, &'a [u8]), LineFault>
+) -> Result<(Option<Val>, &'a [u8]), ScriptLineFault>
     ensures { Gives (λ x. (x.0, x.1.now)) result (result_at types.now of text.now) }
 {
     let here = after_spaces(text);

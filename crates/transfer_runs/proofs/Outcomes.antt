@@ -50,7 +50,7 @@ use Rattle.outcome_laws.specs.Deals.{Asked, asked_by, Dealings, Deals, dealt_of,
 use Rattle.outcome_laws.proofs.Once.{keeps, still-keeps, once}
 use Rattle.outcome_laws.proofs.Links.{links-are-allowed}
 use Rattle.outcome_laws.proofs.Transferred.{shown_of, shows-so}
-use Rattle.run_laws.specs.Outcomes.{Invocation, Outcome, invoked_by, answered_by, invocation_in, outcome_in, OneOutcome}
+use Rattle.run_laws.specs.Outcomes.{Invocation, ToldOutcome, invoked_by, answered_by, invocation_in, outcome_in, OneOutcome}
 use Rattle.association_worlds.specs.Laws.{IsMeant}
 use Rattle.association_runs.specs.Worlds.{stepping, Runs}
 use Rattle.association_runs.specs.Laws.{AreEvents}
@@ -80,7 +80,7 @@ abbrev pub newest_of : List ℕ → ℕ
 newest_of [] = 0
 newest_of (n ∷ ns) = n
 
-pub record Facts (tables : Tables) (own made : List Invocation) (mine given : List Outcome) (body : Body) (started theirs : List Queued) (asked : List Asked) (shown : List Indication) (arrived : List ℕ) : Type 0 where
+pub record Facts (tables : Tables) (own made : List Invocation) (mine given : List ToldOutcome) (body : Body) (started theirs : List Queued) (asked : List Asked) (shown : List Indication) (arrived : List ℕ) : Type 0 where
   pub queue_so : QueueOurs tables own mine body.sending.queue
   pub started_so : QueueOurs tables own mine started
   pub numbers : IsGood body.calls.made (started_invoke started ++ queue_invokes body.sending.queue)
@@ -102,12 +102,12 @@ pub record OneTold (theirs : List Queued) (arrived later : List ℕ) (now : List
 abbrev pub QueueTook : Body → Body → List Queued → Type 0
 QueueTook body later started = Queues body later ⊎ ((later.sending.queue ≡ []) × (later.calls.made ≡ 0) × (started ≡ []))
 
-module _ (tables : Tables) (own made : List Invocation) (mine given : List Outcome) (body : Body) (started theirs : List Queued) (asked : List Asked) (shown : List Indication) (arrived : List ℕ) (x : Facts tables own made mine given body started theirs asked shown arrived) where
+module _ (tables : Tables) (own made : List Invocation) (mine given : List ToldOutcome) (body : Body) (started theirs : List Queued) (asked : List Asked) (shown : List Indication) (arrived : List ℕ) (x : Facts tables own made mine given body started theirs asked shown arrived) where
   own-called : (base : Base) (call : Call) (answer : Option ℤ) → base.tables ≡ tables → CallQueues base body call answer →
       Facts tables (own ++ invoked_by call (Ok answer)) made (mine ++ answered_by call (Ok answer)) given (after_called Reliable base body call answer) started theirs (asked_by call answer ++ asked) shown arrived
   own-called base call answer t h =
       let inv : List Invocation = invoked_by call (Ok answer) in
-      let ans : List Outcome = answered_by call (Ok answer) in
+      let ans : List ToldOutcome = answered_by call (Ok answer) in
       let count : ℕ = (after_called Reliable base body call answer).calls.made in
       record {
         queue_so =
@@ -124,7 +124,7 @@ module _ (tables : Tables) (own made : List Invocation) (mine given : List Outco
         fresh = x.fresh;
       }
 
-  peer-called : (inv : List Invocation) (ans : List Outcome) → Facts tables own (made ++ inv) mine (given ++ ans) body started theirs asked shown arrived
+  peer-called : (inv : List Invocation) (ans : List ToldOutcome) → Facts tables own (made ++ inv) mine (given ++ ans) body started theirs asked shown arrived
   peer-called inv ans = record { queue_so = x.queue_so; started_so = x.started_so; numbers = x.numbers; asked_so = x.asked_so; noted = noted-peer tables own made inv given ans shown x.noted; come = x.come; fresh = x.fresh }
 
   own-same : (later : Body) → later.sending.queue ≡ body.sending.queue → later.calls.made ≡ body.calls.made → Facts tables own made mine given later started theirs asked shown arrived
@@ -231,15 +231,15 @@ module _ (tables : Tables) (own made : List Invocation) (mine given : List Outco
           (fresh-snoc (invoked_ids (still_after base body message shown)) o.id was-fresh (others-come theirs (newest_of arrived) o.number o.id (invoked_ids (still_after base body message shown)) f was-come o.newer o.is_its))
 
 -- what is made and given is this
-changed : (tables : Tables) (own own_now made made_now : List Invocation) (mine mine_now given given_now : List Outcome) (body : Body) (started theirs : List Queued) (asked : List Asked) (shown : List Indication) (arrived : List ℕ) → own_now ≡ own → made_now ≡ made → mine_now ≡ mine → given_now ≡ given → Facts tables own made mine given body started theirs asked shown arrived → Facts tables own_now made_now mine_now given_now body started theirs asked shown arrived
+changed : (tables : Tables) (own own_now made made_now : List Invocation) (mine mine_now given given_now : List ToldOutcome) (body : Body) (started theirs : List Queued) (asked : List Asked) (shown : List Indication) (arrived : List ℕ) → own_now ≡ own → made_now ≡ made → mine_now ≡ mine → given_now ≡ given → Facts tables own made mine given body started theirs asked shown arrived → Facts tables own_now made_now mine_now given_now body started theirs asked shown arrived
 changed tables own own_now made made_now mine mine_now given given_now body started theirs asked shown arrived e f g h x =
     subst (λ (l : List Invocation). Facts tables l made_now mine_now given_now body started theirs asked shown arrived) (sym e)
     (subst (λ (l : List Invocation). Facts tables own l mine_now given_now body started theirs asked shown arrived) (sym f)
-    (subst (λ (l : List Outcome). Facts tables own made l given_now body started theirs asked shown arrived) (sym g)
-    (subst (λ (l : List Outcome). Facts tables own made mine l body started theirs asked shown arrived) (sym h) x)))
+    (subst (λ (l : List ToldOutcome). Facts tables own made l given_now body started theirs asked shown arrived) (sym g)
+    (subst (λ (l : List ToldOutcome). Facts tables own made mine l body started theirs asked shown arrived) (sym h) x)))
 
 -- what holds of started items and arrivals holds of these
-moved : (tables : Tables) (own made : List Invocation) (mine given : List Outcome) (body : Body) (started started_now theirs theirs_now : List Queued) (asked : List Asked) (shown : List Indication) (arrived : List ℕ) → started_now ≡ started → theirs_now ≡ theirs → Facts tables own made mine given body started theirs asked shown arrived → Facts tables own made mine given body started_now theirs_now asked shown arrived
+moved : (tables : Tables) (own made : List Invocation) (mine given : List ToldOutcome) (body : Body) (started started_now theirs theirs_now : List Queued) (asked : List Asked) (shown : List Indication) (arrived : List ℕ) → started_now ≡ started → theirs_now ≡ theirs → Facts tables own made mine given body started theirs asked shown arrived → Facts tables own made mine given body started_now theirs_now asked shown arrived
 moved tables own made mine given body started started_now theirs theirs_now asked shown arrived e f x =
     subst (λ (l : List Queued). Facts tables own made mine given body l theirs_now asked shown arrived) (sym e) (subst (λ (l : List Queued). Facts tables own made mine given body started l asked shown arrived) (sym f) x)
 
@@ -284,7 +284,7 @@ module _ (free : Free) (tables : Tables) (spellings : Spellings) (a b : Config) 
   abbrev pub made : Role → World → List Invocation
   made role w = calls_at invoked_by (side_of role) w
 
-  abbrev pub given : Role → World → List Outcome
+  abbrev pub given : Role → World → List ToldOutcome
   given role w = calls_at answered_by (side_of role) w
 
   abbrev pub Told : Role → World → Two → Ledger → Dealings → Type 0
@@ -423,7 +423,7 @@ module _ (free : Free) (tables : Tables) (spellings : Spellings) (a b : Config) 
         record { item = w.item; arrived = w.arrived; is_of = p.items two ledger g (other role) _ w.encoded }
 
     -- what is heard is what the other end handed in
-    heard-holds : (role : Role) (two : Two) (ledger : Ledger) (left : List Message) (later : Body) (answers : List Message) (shown : List Indication) (own : List Invocation) (outcomes : List Outcome) → Goes common two ledger → QueueOurs tables own outcomes (deeds_of (other role) ledger.deeds).started → (message : Message) → coming_to role two ≡ message ∷ left → react (base role) (pairs.body_at role two) message ≡ Takes later answers shown
+    heard-holds : (role : Role) (two : Two) (ledger : Ledger) (left : List Message) (later : Body) (answers : List Message) (shown : List Indication) (own : List Invocation) (outcomes : List ToldOutcome) → Goes common two ledger → QueueOurs tables own outcomes (deeds_of (other role) ledger.deeds).started → (message : Message) → coming_to role two ≡ message ∷ left → react (base role) (pairs.body_at role two) message ≡ Takes later answers shown
         → HoldOurs tables own outcomes (heard_values (base role) (pairs.body_at role two) message)
     heard-holds role two ledger left later answers shown own outcomes g q (Session (OfActivities (End number))) e r = go (pairs.body_at role two).receiving.was_handed refl
       where

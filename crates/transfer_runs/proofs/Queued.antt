@@ -37,7 +37,7 @@ use Rattle.end_model.proofs.Ladder.{called, passed}
 use Rattle.end_model.proofs.InvokeRungs.{invokable}
 use Rattle.end_model.proofs.HandingRows.{next-is}
 use Rattle.outcome_laws.specs.Deals.{Asked, asked_by}
-use Rattle.run_laws.specs.Outcomes.{Invocation, Outcome, returned, failed, invoked_by, answered_by}
+use Rattle.run_laws.specs.Outcomes.{Invocation, ToldOutcome, returned, failed, invoked_by, answered_by}
 use Rattle.association_runs.proofs.Noted.{in-behind, IsOurs, ours-on, AreMade, made-on}
 use Rattle.run_lemmas.proofs.Numbers.{apdu_invokes, IsGood, good-next, good-none}
 use Rattle.run_lemmas.proofs.Handing.{result-kind, result-ours, error-kind, error-ours, opened-made, hear-made}
@@ -46,15 +46,15 @@ use Rattle.run_lemmas.proofs.Calling.{asks-none}
 
 -- ---- items that an end handed in, and rejects of its own
 
-abbrev pub QueueOurs : Tables → List Invocation → List Outcome → List Queued → Type 0
+abbrev pub QueueOurs : Tables → List Invocation → List ToldOutcome → List Queued → Type 0
 QueueOurs tables made given [] = Unit {0}
 QueueOurs tables made given (item ∷ items) = IsOurs tables made given item.apdu × QueueOurs tables made given items
 
-pub queue-on : (tables : Tables) (made more : List Invocation) (given later : List Outcome) (items : List Queued) → QueueOurs tables made given items → QueueOurs tables (made ++ more) (given ++ later) items
+pub queue-on : (tables : Tables) (made more : List Invocation) (given later : List ToldOutcome) (items : List Queued) → QueueOurs tables made given items → QueueOurs tables (made ++ more) (given ++ later) items
 queue-on tables made more given later [] h = tt
 queue-on tables made more given later (item ∷ items) h = (ours-on tables made more given later item.apdu h.0, queue-on tables made more given later items h.1)
 
-pub queue-append : (tables : Tables) (made : List Invocation) (given : List Outcome) (xs ys : List Queued) → QueueOurs tables made given xs → QueueOurs tables made given ys → QueueOurs tables made given (xs ++ ys)
+pub queue-append : (tables : Tables) (made : List Invocation) (given : List ToldOutcome) (xs ys : List Queued) → QueueOurs tables made given xs → QueueOurs tables made given ys → QueueOurs tables made given (xs ++ ys)
 queue-append tables made given [] ys h k = k
 queue-append tables made given (x ∷ xs) ys h k = (h.0, queue-append tables made given xs ys h.1 k)
 
@@ -80,7 +80,7 @@ rejects-append : (xs ys : List Queued) → AreRejects xs → AreRejects ys → A
 rejects-append [] ys h k = k
 rejects-append (x ∷ xs) ys h k = (h.0, rejects-append xs ys h.1 k)
 
-pub rejects-ours : (tables : Tables) (made : List Invocation) (given : List Outcome) (items : List Queued) → AreRejects items → QueueOurs tables made given items
+pub rejects-ours : (tables : Tables) (made : List Invocation) (given : List ToldOutcome) (items : List Queued) → AreRejects items → QueueOurs tables made given items
 rejects-ours tables made given [] h = tt
 rejects-ours tables made given (item ∷ items) h = (one item.apdu h.0, rejects-ours tables made given items h.1)
   where
@@ -102,7 +102,7 @@ rejects-invoke (item ∷ items) h = ap (λ (l : List ℤ). l ++ queue_invokes it
 pub record CallQueues (base : Base) (body : Body) (call : Call) (answer : Option ℤ) : Type 0 where
   pub more : List Queued
   pub queue : (after_called Reliable base body call answer).sending.queue ≡ body.sending.queue ++ more
-  pub ours : (made : List Invocation) (given : List Outcome) → QueueOurs base.tables (made ++ invoked_by call (Ok answer)) (given ++ answered_by call (Ok answer)) more
+  pub ours : (made : List Invocation) (given : List ToldOutcome) → QueueOurs base.tables (made ++ invoked_by call (Ok answer)) (given ++ answered_by call (Ok answer)) more
   pub numbers : (xs : List ℤ) → IsGood body.calls.made xs → IsGood (after_called Reliable base body call answer).calls.made (xs ++ queue_invokes more)
   pub asks : (made : List Invocation) (asked : List Asked) → AreMade base.tables made asked → AreMade base.tables (made ++ invoked_by call (Ok answer)) (asked_by call answer ++ asked)
 
@@ -140,7 +140,7 @@ module _ (base : Base) (body : Body) where
   outcome-made id (Some o) None = refl
   outcome-made id (Some o) (Some apdu) = refl
 
-  outcome-ours : (made : List Invocation) (given : List Outcome) (o : Option OpenCall) (x : Option Apdu) → ((apdu : Apdu) → x ≡ Some apdu → IsOurs base.tables made given apdu) → QueueOurs base.tables made given (outcome_items o x)
+  outcome-ours : (made : List Invocation) (given : List ToldOutcome) (o : Option OpenCall) (x : Option Apdu) → ((apdu : Apdu) → x ≡ Some apdu → IsOurs base.tables made given apdu) → QueueOurs base.tables made given (outcome_items o x)
   outcome-ours made given None None f = tt
   outcome-ours made given None (Some apdu) f = tt
   outcome-ours made given (Some o) None f = tt

@@ -11,7 +11,7 @@ use Rattle.end_rules.specs.State.{Queued, Sending}
 use Rattle.end_rules.specs.Requesting.{begun}
 use Rattle.reliable_model.specs.Goes.{first_of}
 use Rattle.reliable_model.specs.Transfers.{item_of, IsOf}
-use Rattle.run_laws.specs.Outcomes.{Invocation, Outcome}
+use Rattle.run_laws.specs.Outcomes.{Invocation, ToldOutcome}
 use Rattle.association_runs.proofs.Noted.{IsOurs}
 use Rattle.association_runs.proofs.Telling.{IsFresh, AreFresh}
 use Rattle.run_lemmas.proofs.Numbers.{apdu_invokes, IsOther, fresh-back, fresh-front}
@@ -31,7 +31,7 @@ begun-invoke sending started = go sending.queue
     go [] = refl
     go (item ∷ items) = append_assoc (started_invoke started) (apdu_invokes item.apdu) (queue_invokes items)
 
-pub begun-ours : (tables : Tables) (made : List Invocation) (given : List Outcome) (sending : Sending) (started : List Queued) → QueueOurs tables made given sending.queue → QueueOurs tables made given started → QueueOurs tables made given (begun sending).queue × QueueOurs tables made given (first_of sending.queue ++ started)
+pub begun-ours : (tables : Tables) (made : List Invocation) (given : List ToldOutcome) (sending : Sending) (started : List Queued) → QueueOurs tables made given sending.queue → QueueOurs tables made given started → QueueOurs tables made given (begun sending).queue × QueueOurs tables made given (first_of sending.queue ++ started)
 begun-ours tables made given sending started q s = go sending.queue q
   where
     go : (queue : List Queued) → QueueOurs tables made given queue → QueueOurs tables made given (begun (record sending { queue = queue })).queue × QueueOurs tables made given (first_of queue ++ started)
@@ -40,11 +40,11 @@ begun-ours tables made given sending started q s = go sending.queue q
 
 -- ---- the item of a number
 
-abbrev IsOursOf : Tables → List Invocation → List Outcome → Option Queued → Type 0
+abbrev IsOursOf : Tables → List Invocation → List ToldOutcome → Option Queued → Type 0
 IsOursOf tables made given None = Unit {0}
 IsOursOf tables made given (Some item) = IsOurs tables made given item.apdu
 
-item-ours : (tables : Tables) (made : List Invocation) (given : List Outcome) (k : ℕ) (items : List Queued) → QueueOurs tables made given items → IsOursOf tables made given (item_of k items)
+item-ours : (tables : Tables) (made : List Invocation) (given : List ToldOutcome) (k : ℕ) (items : List Queued) → QueueOurs tables made given items → IsOursOf tables made given (item_of k items)
 item-ours tables made given k [] h = tt
 item-ours tables made given k (item ∷ items) h = go (item-ours tables made given k items h.1) (nat_eq k (suc (length items)))
   where
@@ -53,7 +53,7 @@ item-ours tables made given k (item ∷ items) h = go (item-ours tables made giv
     go later false = later
 
 -- an APDU that is an item's is one that the end handed in
-pub apdu-ours : (tables : Tables) (made : List Invocation) (given : List Outcome) (k : ℕ) (items : List Queued) (apdu : Apdu) → QueueOurs tables made given items → IsOf apdu (item_of k items) → IsOurs tables made given apdu
+pub apdu-ours : (tables : Tables) (made : List Invocation) (given : List ToldOutcome) (k : ℕ) (items : List Queued) (apdu : Apdu) → QueueOurs tables made given items → IsOf apdu (item_of k items) → IsOurs tables made given apdu
 apdu-ours tables made given k items apdu h i = go (item_of k items) (item-ours tables made given k items h) i
   where
     go : (o : Option Queued) → IsOursOf tables made given o → IsOf apdu o → IsOurs tables made given apdu

@@ -1,7 +1,7 @@
 use Rattle.std.proofs.Common.{List, ℕ, Some, ap}
 use Rattle.association_pieces.specs.Sending.{seen_transfer}
 use Rattle.association_state.specs.Seen.{seen}
-use Rattle.association_end.proofs.pumping.encoded_under.Goals as goal
+use Rattle.association_end.proofs.own_acts.encoded_under.Goals as goal
 
 pub returns-in-Ok : goal.returns-in-Ok
 returns-in-Ok c =

@@ -8,7 +8,7 @@ use Rattle.end_rules.specs.ByItself.{item_on, encoded_as}
 use Rattle.association_pieces.specs.Sending.{seen_queued, seen_transfer}
 use Rattle.association_state.specs.Seen.{base_in, seen}
 use Rattle.std.proofs.Common.{List}
-use Rattle.association_end.proofs.pumping.encoded_on.Goals as goal
+use Rattle.association_end.proofs.own_acts.encoded_on.Goals as goal
 
 pub returns-in-None : goal.returns-in-None
 returns-in-None c =

@@ -19,7 +19,7 @@ use association_line::own_acts_end;
 use association_requests::{Own, after_sent, next_own};
 use association_sends::pair_copied;
 use association_state::{Body, Encoded, Ground, Queued, Transfer};
-use association_words::{Item, Message};
+use association_words::{Message, TransferItem};
 use association_writing::write_item;
 use osi_base::{NoMemory, Pair};
 
@@ -50,10 +50,10 @@ fn encoded_under(
     } = transfer;
     drop(encoded);
     let Queued { context, apdu } = item;
-    let item = Item { id, pair, apdu };
+    let item = TransferItem { id, pair, apdu };
     match write_item(basis.alloc, codecs, basis.tables, &item) {
         Ok(octets) => {
-            let Item { id, pair, apdu } = item;
+            let TransferItem { id, pair, apdu } = item;
             Ok(Transfer {
                 item: Queued { context, apdu },
                 encoded: Some(Encoded {

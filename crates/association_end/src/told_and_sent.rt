@@ -9,7 +9,7 @@ ghost use Rattle.association_end.specs.Progress.{Keeps};
 ghost use Rattle.association_end.specs.Reacted.{AllMayStand, sent_for, IsOverFor, SettlesFor, Settles, sending, with_line, with_came};
 
 use crate::end::End;
-use association_answers::{Messages, Reaction, Taken};
+use association_answers::{Brought, Messages, Reaction};
 use dialogue::Indications;
 use osi_base::NoMemory;
 
@@ -25,7 +25,7 @@ fn show(shown: &mut Indications, told: Indications) -> Result<(), NoMemory>
 
 impl<'t> End<'t> {
     /// Answers a message that is taken.
-    fn answer(&mut self, taken: Taken, size: u32, shown: &mut Indications) -> Result<(), NoMemory>
+    fn answer(&mut self, taken: Brought, size: u32, shown: &mut Indications) -> Result<(), NoMemory>
         requires least { unit_least ≤ size }
         requires most { size ≤ unit_most }
         requires room { AllMayStand (seen_messages taken.answers) }
@@ -34,7 +34,7 @@ impl<'t> End<'t> {
             taken.shown) }
         ensures err { OnErr result (Keeps self.old self.new) }
     {
-        let Taken {
+        let Brought {
             answers,
             shown: told,
         } = taken;

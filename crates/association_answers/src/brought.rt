@@ -12,7 +12,7 @@ pub type Messages = ListOf<Message>;
 
 /// What the taking of a message answers and shows.
 #[derive(Debug, Drop)]
-pub struct Taken {
+pub struct Brought {
     /// The messages that answer it, in the order in which they are sent.
     pub answers: Messages,
     /// The indications shown to the user, in their order.
@@ -25,7 +25,7 @@ pub enum Reaction {
     /// It is passed over.
     Passes,
     /// It is taken.
-    Takes(Taken),
+    Takes(Brought),
     /// It ends the association by an own abort, which is sent, if any is.
     Fails {
         /// Why it ends.

@@ -7,7 +7,7 @@ use Rattle.association_pieces.specs.declared.sending.Transfer.{Transfer}
 use Rattle.association_pieces.specs.Sending.{seen_transfer}
 use Rattle.association_state.specs.Seen.{base_in, seen}
 use Rattle.association_end.proofs.Own.{encoding_none, encoding_some, encoded_by}
-use Rattle.association_end.proofs.pumping.encode.Goals as goal
+use Rattle.association_end.proofs.own_acts.encode.Goals as goal
 
 pub returns-in-None-clause-ok : goal.returns-in-None-clause-ok
 returns-in-None-clause-ok c =
