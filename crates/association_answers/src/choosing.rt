@@ -7,7 +7,7 @@ ghost use Rattle.end_rules.specs.Policy.{answer_to_deletion, policy};
 ghost use Rattle.end_rules.specs.Base.{most_contexts};
 ghost use Rattle.association_state.specs.Seen.{base_in, seen};
 
-use association_calls::used;
+use association_calls::contexts_in_use;
 use association_ground::is_among;
 use association_sets::{Alteration, count_added, is_fixed, pair_of};
 use association_state::{Body, Ground};
@@ -71,7 +71,7 @@ pub fn policy(basis: &Ground<'_>, body: &Body, asked: &Alteration) -> Result<Ans
         count,
         asked.add().as_slice(),
     )?;
-    let in_use = used(basis.alloc, body)?;
+    let in_use = contexts_in_use(basis.alloc, body)?;
     let deleted = answers_to_deletions(
         basis.alloc,
         body,

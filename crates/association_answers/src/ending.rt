@@ -18,7 +18,7 @@ use osi_base::{Layer, ListOf, NoMemory, SetItem};
 use std::alloc::Global;
 
 /// Ends the association: what was open is cut.
-pub fn over(body: &mut Body)
+pub fn end_association(body: &mut Body)
     ensures { seen body.new ≡ over (seen body.old) }
 {
     body.calls.clear();
@@ -85,7 +85,7 @@ pub fn fails(
     } = fault;
     let messages = aborts(basis.alloc, body, accepted, layer, reason)?;
     let shown = shown_at(basis.alloc, body, told, layer, place, reason)?;
-    over(body);
+    end_association(body);
     Ok(Reaction::Fails {
         fault: Fault::at(basis.alloc, layer, place, reason),
         aborts: messages,

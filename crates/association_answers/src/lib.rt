@@ -9,5 +9,7 @@ mod telling;
 
 pub use brought::{Brought, Messages, Reaction, one_message};
 pub use choosing::policy;
-pub use ending::{fails, over};
-pub use telling::{answered, push_cuts, push_losses, quiet, tell, told};
+pub use ending::{end_association, fails};
+pub use telling::{
+    one_indication, push_cuts, push_losses, with_answer, with_indication, with_nothing,
+};

@@ -18,7 +18,7 @@ use osi_base::{ListOf, NoMemory};
 use std::alloc::Global;
 
 /// One indication alone.
-pub fn tell(alloc: Global, indication: Indication) -> Result<Indications, NoMemory>
+pub fn one_indication(alloc: Global, indication: Indication) -> Result<Indications, NoMemory>
     ensures { IfOk result (λ shown. shown ≡ indication ∷ []) }
 {
     let mut shown = ListOf::new(alloc);
@@ -27,7 +27,7 @@ pub fn tell(alloc: Global, indication: Indication) -> Result<Indications, NoMemo
 }
 
 /// One answer, and nothing that is shown.
-pub fn answered(alloc: Global, message: Message) -> Result<Brought, NoMemory>
+pub fn with_answer(alloc: Global, message: Message) -> Result<Brought, NoMemory>
     ensures { IfOk result (TakenAs (seen_message message ∷ []) []) }
 {
     Ok(Brought {
@@ -37,17 +37,17 @@ pub fn answered(alloc: Global, message: Message) -> Result<Brought, NoMemory>
 }
 
 /// One indication, and no answer.
-pub fn told(alloc: Global, indication: Indication) -> Result<Brought, NoMemory>
+pub fn with_indication(alloc: Global, indication: Indication) -> Result<Brought, NoMemory>
     ensures { IfOk result (TakenAs [] (indication ∷ [])) }
 {
     Ok(Brought {
         answers: ListOf::new(alloc),
-        shown: tell(alloc, indication)?,
+        shown: one_indication(alloc, indication)?,
     })
 }
 
 /// No answer, and nothing that is shown.
-pub fn quiet(alloc: Global) -> Brought
+pub fn with_nothing(alloc: Global) -> Brought
     ensures { TakenAs [] [] result }
 {
     Brought {

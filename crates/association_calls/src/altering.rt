@@ -6,7 +6,7 @@ ghost use Rattle.association_state.specs.Seen.{base_in, seen};
 ghost use Rattle.association_calls.specs.Replies.{Replies};
 
 use crate::Reply;
-use crate::in_use::used;
+use crate::in_use::contexts_in_use;
 use crate::transfers::is_ending;
 use association_ground::{is_among, is_reliable};
 use association_sets::{
@@ -100,7 +100,7 @@ fn alteration_refusal(
     if let Some(refusal) = additions_refusal(basis, body, asked.add().as_slice()) {
         return Ok(Some(refusal));
     }
-    let in_use = used(basis.alloc, body)?;
+    let in_use = contexts_in_use(basis.alloc, body)?;
     if let Some(refusal) = deletions_refusal(body, in_use.as_slice(), asked.delete().as_slice()) {
         return Ok(Some(refusal));
     }

@@ -66,7 +66,7 @@ fn push_queue(ids: &mut Ids, queue: &Vec<Queued>) -> Result<(), NoMemory>
 
 /// The contexts in use: the one on which the transfer in progress is encoded, and those of open
 /// invocations and of queued items.
-pub fn used(alloc: Global, body: &Body) -> Result<Ids, NoMemory>
+pub fn contexts_in_use(alloc: Global, body: &Body) -> Result<Ids, NoMemory>
     ensures { IfOk result (λ ids. ids ≡ used (seen body.now)) }
 {
     let mut ids = current_context(alloc, &body.sending)?;

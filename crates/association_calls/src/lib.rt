@@ -12,7 +12,7 @@ mod units;
 
 pub use altering::can_alter;
 use dialogue::CallRefusal;
-pub use in_use::used;
+pub use in_use::contexts_in_use;
 pub use invoking::{Making, check_invoke};
 pub use marks::{can_give, can_mark, can_please, can_restart, has_activity};
 pub use outcomes::{carrier_in, check_answer, check_refuse};

@@ -13,7 +13,7 @@ use crate::associated::{context_named, rtse_in, user_of};
 use crate::connect_faults::{has_acse, lacks_request, session_refuses, transfer_rejection};
 use crate::joining::Terms;
 use association_sends::{
-    Response, accept_message, information, provider_refusal, refuse_message, rtse_context,
+    Response, accept_message, provider_refusal, refuse_message, rtse_context, rtse_information,
 };
 use association_state::{Body, Ground};
 use association_words::{Information, Message, UserInformation, Value};
@@ -58,7 +58,7 @@ fn accepting_information(
         window: agreed.window,
         data: connection,
     };
-    information(basis.alloc, basis.config.mode, accepted, apdu)
+    rtse_information(basis.alloc, basis.config.mode, accepted, apdu)
 }
 
 /// AC.

@@ -15,7 +15,9 @@ use crate::associated::{is_release_request, is_release_response};
 use crate::connect_faults::connect_fault;
 use crate::taking_accept::{accept_fault, take_accept};
 use crate::taking_connect::take_connect;
-use association_answers::{Brought, answered, over, push_cuts, quiet, told};
+use association_answers::{
+    Brought, end_association, push_cuts, with_answer, with_indication, with_nothing,
+};
 use association_sends::disconnect_message;
 use association_sets::copy_set;
 use association_state::{Awaited, Body, Ground};
@@ -127,9 +129,9 @@ fn end_quietly(basis: &Ground<'_>, body: &mut Body, last: Indication) -> Result<
     ensures body { OnOk result (seen body.new ≡ over (seen body.old)) }
     ensures taken { IfOk result (TakenAs [] (cuts (seen body.old) ++ last ∷ [])) }
 {
-    let mut taken = quiet(basis.alloc);
+    let mut taken = with_nothing(basis.alloc);
     taken.shown = shown_end(basis, body, last)?;
-    over(body);
+    end_association(body);
     Ok(taken)
 }
 
@@ -140,9 +142,9 @@ fn take_finish(basis: &Ground<'_>, body: &mut Body) -> Result<Brought, NoMemory>
         body.old) ++ indications.Released ∷ [])) }
 {
     let message = disconnect_message(basis.alloc, body)?;
-    let mut taken = answered(basis.alloc, message)?;
+    let mut taken = with_answer(basis.alloc, message)?;
     taken.shown = shown_end(basis, body, Indication::Released)?;
-    over(body);
+    end_association(body);
     Ok(taken)
 }
 
@@ -200,7 +202,7 @@ pub fn take_association(
             values: _,
         } => {
             body.link.phase = Phase::Over;
-            told(basis.alloc, Indication::AssociationRefused)
+            with_indication(basis.alloc, Indication::AssociationRefused)
         }
         AssociationWord::Finish {
             transport: _,

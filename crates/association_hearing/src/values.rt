@@ -10,7 +10,7 @@ ghost use Rattle.association_hearing.specs.ValuesTaken.{TookAs, Joined};
 
 use crate::apdus::hear_apdu;
 use crate::unread::hear_unread;
-use association_answers::{Brought, one_message, quiet, told};
+use association_answers::{Brought, one_message, with_indication, with_nothing};
 use association_calls::carrier_in;
 use association_ground::is_reliable;
 use association_sends::pair_copied;
@@ -82,12 +82,12 @@ fn send_reject(
     let apdu = Apdu::Reject { id, problem };
     if is_reliable(basis.config.mode) {
         queueing(body, context, apdu)?;
-        return told(basis.alloc, Indication::RejectSent { id, problem });
+        return with_indication(basis.alloc, Indication::RejectSent { id, problem });
     }
     let Some(carrier) = carrier_in(basis, body, context) else {
-        return Ok(quiet(basis.alloc));
+        return Ok(with_nothing(basis.alloc));
     };
-    let mut taken = told(basis.alloc, Indication::RejectSent { id, problem })?;
+    let mut taken = with_indication(basis.alloc, Indication::RejectSent { id, problem })?;
     taken.answers = one_message(basis.alloc, data_on(basis, body, carrier, apdu)?)?;
     Ok(taken)
 }
@@ -108,7 +108,7 @@ fn take_heard(
             operation,
             linked,
             argument,
-        } => told(
+        } => with_indication(
             basis.alloc,
             Indication::Invoked {
                 id,
@@ -117,12 +117,15 @@ fn take_heard(
                 argument,
             },
         ),
-        RoseTaken::Result { id, value } => told(basis.alloc, Indication::Result { id, value }),
+        RoseTaken::Result { id, value } => with_indication(
+            basis.alloc,
+            Indication::Result { id, value },
+        ),
         RoseTaken::Error {
             id,
             error,
             parameter,
-        } => told(
+        } => with_indication(
             basis.alloc,
             Indication::Error {
                 id,
@@ -131,12 +134,12 @@ fn take_heard(
             },
         ),
         RoseTaken::Rejected { id, problem } => {
-            told(basis.alloc, Indication::Rejected { id, problem })
+            with_indication(basis.alloc, Indication::Rejected { id, problem })
         }
         RoseTaken::RejectTaken { id, problem } => {
-            told(basis.alloc, Indication::RejectTaken { id, problem })
+            with_indication(basis.alloc, Indication::RejectTaken { id, problem })
         }
-        RoseTaken::BadReject => told(basis.alloc, Indication::BadReject),
+        RoseTaken::BadReject => with_indication(basis.alloc, Indication::BadReject),
         RoseTaken::Reject { id, problem } => send_reject(basis, body, context, id, problem),
     }
 }
@@ -170,7 +173,7 @@ pub fn take_values(basis: &Ground<'_>, body: &mut Body, values: Values) -> Resul
     ensures { IfOk result (TookAs (take_values (base_in basis.now) (seen body.old)
         (seen_values values)) (seen body.new)) }
 {
-    let mut all = quiet(basis.alloc);
+    let mut all = with_nothing(basis.alloc);
     for value in values.into_vec() {
         let taken = take_value(basis, body, value)?;
         join(&mut all, taken)?;

@@ -14,7 +14,7 @@ use crate::call_outcome::CallOutcome;
 use crate::due::due;
 use crate::operations::{answer, invoke, refuse};
 use crate::sent::after_sent;
-use association_answers::over;
+use association_answers::end_association;
 use association_calls::{Making, check_phase};
 use association_state::{Body, Ground};
 use association_words::Message;
@@ -43,7 +43,7 @@ fn begin(body: &mut Body, call: &Call)
     match call {
         Call::Open => body.link.phase = Phase::Opening,
         Call::Recover => body.link.phase = Phase::Recovering,
-        Call::Abort => over(body),
+        Call::Abort => end_association(body),
         _ => (),
     }
 }

@@ -13,4 +13,4 @@ pub use answers::{
 };
 pub use opening::{connect_message, connection_data, connection_request};
 pub use tokens::{give_message, pair_copied, part_message, please_message};
-pub use values::{acse_context, acse_value, information, rtse_context};
+pub use values::{acse_context, acse_value, rtse_context, rtse_information};

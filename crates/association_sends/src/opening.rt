@@ -8,7 +8,7 @@ ghost use Rattle.end_rules.specs.Writing.{in_reliable, initial_number, requireme
 ghost use Rattle.association_words.specs.Seen.{seen_message, seen_values};
 ghost use Rattle.association_state.specs.Seen.{base_in};
 
-use crate::values::{acse_value, information};
+use crate::values::{acse_value, rtse_information};
 use association_ground::{application_context, proposed_units};
 use association_state::Ground;
 use association_words::{AssociationWord, Message, TransportUnit, Values, Word};
@@ -131,7 +131,7 @@ fn connect_values(basis: &Ground<'_>, recovers: bool) -> Result<Values, NoMemory
 {
     let alloc = basis.alloc;
     let request = open_request(basis, recovers)?;
-    let user = information(alloc, basis.config.mode, &[], request)?;
+    let user = rtse_information(alloc, basis.config.mode, &[], request)?;
     let apdu = Acse::AssociateRequest {
         version: None,
         context: application_context(alloc, basis.config.mode)?,

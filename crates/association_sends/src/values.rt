@@ -54,7 +54,7 @@ pub fn acse_value(
 }
 
 /// User information of reliable mode: one APDU of reliable transfer.
-pub fn information(
+pub fn rtse_information(
     alloc: Global,
     mode: Mode,
     accepted: &[SetItem],

@@ -4,7 +4,7 @@ ghost use Rattle.std.specs.Prelude.{◌≡◌, ◌++◌, IfOk, OnOk, [], ◌∷�
 ghost use Rattle.end_rules.specs.Sets.{proposed_ids, named_ids, accepted_pair, named_syntax, pair_accepted, put_accepted, with_added, with_deleted, altered, accepted_set};
 
 use crate::alteration::Alteration;
-use crate::sets::{put, without_context};
+use crate::sets::{put_context, without_context};
 use association_ground::syntax_named;
 use osi_base::{
     AddAnswer, Answers, Copied, Ids, ListOf, NoMemory, Oid, Pair, Proposal, SetItem, SetList,
@@ -84,7 +84,7 @@ fn put_accepted(
 {
     match pair_accepted(alloc, proposal, answer)? {
         None => Ok(()),
-        Some(pair) => put(set, proposal.id, pair),
+        Some(pair) => put_context(set, proposal.id, pair),
     }
 }
 

@@ -23,7 +23,7 @@ pub fn pair_of(items: &[SetItem], id: u32) -> Option<&Pair>
 }
 
 /// Puts a context into a set, in the place of one with its identifier.
-pub fn put(items: &mut Vec<SetItem>, id: u32, pair: Pair) -> Result<(), NoMemory>
+pub fn put_context(items: &mut Vec<SetItem>, id: u32, pair: Pair) -> Result<(), NoMemory>
     ensures { OnOk result (items.new.items ≡ put id pair items.old.items) }
 {
     let new = SetItem { id, pair };

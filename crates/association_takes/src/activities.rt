@@ -15,7 +15,7 @@ ghost use Rattle.association_state.specs.Seen.{base_in, seen};
 ghost use Rattle.association_answers.specs.Reacted.{TakenAs};
 ghost use Rattle.association_sends.specs.Due.{listed};
 
-use association_answers::{Brought, answered, push_losses, quiet, told};
+use association_answers::{Brought, push_losses, with_answer, with_indication, with_nothing};
 use association_hearing::{set_resumed, suspend, take_value};
 use association_sets::copy_set;
 use association_state::{Awaited, Body, Ground, Receiving};
@@ -51,7 +51,7 @@ fn take_start(basis: &Ground<'_>, body: &mut Body, activity: u32) -> Result<Brou
     let inter = copy_set(basis.alloc, body.sets.held.as_slice())?;
     start_record(&mut body.receiving, activity);
     body.sets.inter = inter;
-    Ok(quiet(basis.alloc))
+    Ok(with_nothing(basis.alloc))
 }
 
 /// The record of a resumed activity goes back to the mark; a resumption of the next activity begins
@@ -85,7 +85,7 @@ fn take_resume(
         mark,
         body.sets.held.as_slice(),
     )?;
-    let taken = told(
+    let taken = with_indication(
         basis.alloc,
         Indication::Resumed {
             number: activity,
@@ -116,7 +116,7 @@ fn take_arrived(
         (listed arrived))) (seen body.new)) }
 {
     match arrived {
-        None => Ok(quiet(basis.alloc)),
+        None => Ok(with_nothing(basis.alloc)),
         Some(value) => take_value(basis, body, value),
     }
 }
@@ -140,7 +140,7 @@ pub fn end_taken(
     let taken = take_arrived(basis, body, arrived)?;
     between(basis.alloc, body)?;
     let Brought { answers: _, shown } = taken;
-    let mut all = answered(basis.alloc, word(ActivityWord::EndAck { number }))?;
+    let mut all = with_answer(basis.alloc, word(ActivityWord::EndAck { number }))?;
     all.shown = shown;
     Ok(all)
 }
@@ -153,7 +153,7 @@ fn take_end_ack(basis: &Ground<'_>, body: &mut Body) -> Result<Brought, NoMemory
 {
     between(basis.alloc, body)?;
     body.sending.current = None;
-    told(
+    with_indication(
         basis.alloc,
         Indication::Transferred {
             number: body.sending.started,
@@ -170,7 +170,7 @@ fn take_interrupt(basis: &Ground<'_>, body: &mut Body) -> Result<Brought, NoMemo
 {
     between(basis.alloc, body)?;
     body.receiving.active = false;
-    let mut taken = told(
+    let mut taken = with_indication(
         basis.alloc,
         Indication::Interrupted {
             number: body.receiving.last,
@@ -192,7 +192,7 @@ fn take_discard(basis: &Ground<'_>, body: &mut Body) -> Result<Brought, NoMemory
     between(basis.alloc, body)?;
     body.receiving.pieces.clear();
     body.receiving.active = false;
-    let mut taken = told(
+    let mut taken = with_indication(
         basis.alloc,
         Indication::Discarded {
             number: body.receiving.last,
@@ -217,7 +217,7 @@ fn take_interrupt_ack(basis: &Ground<'_>, body: &mut Body) -> Result<Brought, No
     ensures taken { IfOk result (TakenAs [] (losses (seen body.old) ++ indications.Interrupted
         (seen body.old).sending.started ∷ [])) }
 {
-    let mut taken = quiet(basis.alloc);
+    let mut taken = with_nothing(basis.alloc);
     push_losses(body, &mut taken.shown)?;
     taken.shown.push(Indication::Interrupted {
         number: body.sending.started,
@@ -281,7 +281,7 @@ fn take_discard_ack(basis: &Ground<'_>, body: &mut Body) -> Result<Brought, NoMe
         (seen body.old).sending.started ∷ [])) }
 {
     let invocation = invocation_in(body);
-    let mut taken = quiet(basis.alloc);
+    let mut taken = with_nothing(basis.alloc);
     push_losses(body, &mut taken.shown)?;
     push_cut(body, invocation, &mut taken.shown)?;
     taken.shown.push(Indication::Discarded {
@@ -310,7 +310,7 @@ pub fn take_activity(
     match word {
         ActivityWord::Start { activity } => take_start(basis, body, activity),
         ActivityWord::Resume { activity, mark } => take_resume(basis, body, activity, mark),
-        ActivityWord::End { number: _ } => Ok(quiet(basis.alloc)),
+        ActivityWord::End { number: _ } => Ok(with_nothing(basis.alloc)),
         ActivityWord::EndAck { number: _ } => take_end_ack(basis, body),
         ActivityWord::Interrupt { reason: _ } => take_interrupt(basis, body),
         ActivityWord::InterruptAck => take_interrupt_ack(basis, body),

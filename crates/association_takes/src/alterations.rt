@@ -10,7 +10,7 @@ ghost use Rattle.association_words.specs.Seen.{seen_fault};
 ghost use Rattle.association_state.specs.Seen.{base_in, seen};
 ghost use Rattle.association_answers.specs.Reacted.{TakenAs};
 
-use association_answers::{Brought, policy, quiet, told};
+use association_answers::{Brought, policy, with_indication, with_nothing};
 use association_ground::is_reliable;
 use association_sets::{Alteration, alter, fit_alteration, proposed_ids};
 use association_state::{Body, Ground, take_oldest};
@@ -119,7 +119,7 @@ fn alter_answered(
     ensures { IfOk result (TakenAs (Session (OfData (AlterContextAck answers)) ∷ [])
         (indications.AlterTaken (proposed_ids asked.now.add) asked.now.delete answers ∷ [])) }
 {
-    let mut taken = told(basis.alloc, alter_taken(basis, asked, &answers)?)?;
+    let mut taken = with_indication(basis.alloc, alter_taken(basis, asked, &answers)?)?;
     let message = Message::Session(Word::OfData(DataWord::AlterContextAck { answers }));
     taken.answers.push(message)?;
     Ok(taken)
@@ -159,10 +159,10 @@ pub fn take_answers(
         (AlterContextAck answers))) }
 {
     let Some(oldest) = take_oldest(&mut body.sets.own) else {
-        return Ok(quiet(basis.alloc));
+        return Ok(with_nothing(basis.alloc));
     };
     let held = altered_set(basis, body, &oldest, &answers)?;
     let indication = altered_told(basis, &oldest, answers)?;
     body.sets.held = held;
-    told(basis.alloc, indication)
+    with_indication(basis.alloc, indication)
 }

@@ -9,7 +9,7 @@ ghost use Rattle.association_answers.specs.Reacted.{TakenAs};
 
 use crate::alterations::{alter_fault, answered_fault, take_alter, take_answers};
 use crate::parts::{take_parts, values_fault};
-use association_answers::{Brought, quiet};
+use association_answers::{Brought, with_nothing};
 use association_ground::is_reliable;
 use association_hearing::take_values;
 use association_state::{Body, Ground};
@@ -38,7 +38,7 @@ fn take_all(basis: &Ground<'_>, body: &mut Body, values: Values) -> Result<Broug
 {
     if is_reliable(basis.config.mode) {
         take_parts(basis.alloc, body, values.as_slice())?;
-        return Ok(quiet(basis.alloc));
+        return Ok(with_nothing(basis.alloc));
     }
     take_values(basis, body, values)
 }

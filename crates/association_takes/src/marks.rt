@@ -12,7 +12,9 @@ ghost use Rattle.association_state.specs.Seen.{base_in, seen};
 ghost use Rattle.association_answers.specs.Reacted.{TakenAs};
 
 use crate::parts::has_associated;
-use association_answers::{Brought, answered, push_cuts, push_losses, quiet, told};
+use association_answers::{
+    Brought, push_cuts, push_losses, with_answer, with_indication, with_nothing,
+};
 use association_sets::{copy_set, listed, same_lists};
 use association_state::{Awaited, Body, Ground};
 use association_words::{Fault, MarkWord, Message, Value, ValueContent, Word};
@@ -44,12 +46,12 @@ fn mark_taken(basis: &Ground<'_>, number: u32) -> Result<Brought, NoMemory>
         basis.now.config.mode number)) }
 {
     match basis.config.mode {
-        Mode::Reliable => answered(
+        Mode::Reliable => with_answer(
             basis.alloc,
             Message::Session(Word::OfMarks(MarkWord::MarkAck { number })),
         ),
-        Mode::Direct => told(basis.alloc, Indication::Marked { n: number }),
-        Mode::Bare => Ok(quiet(basis.alloc)),
+        Mode::Direct => with_indication(basis.alloc, Indication::Marked { n: number }),
+        Mode::Bare => Ok(with_nothing(basis.alloc)),
     }
 }
 
@@ -224,7 +226,7 @@ fn take_restart(basis: &Ground<'_>, body: &mut Body, n: u32) -> Result<Brought, 
     let set = restored_set(basis, body, n)?;
     let message = restart_answer(basis, body, n)?;
     let shown = shown_restarted(basis, body, n)?;
-    let mut taken = answered(basis.alloc, message)?;
+    let mut taken = with_answer(basis.alloc, message)?;
     taken.shown = shown;
     restart(basis, body, n, set);
     Ok(taken)
@@ -236,7 +238,7 @@ fn take_restart_ack(basis: &Ground<'_>, body: &mut Body, n: u32) -> Result<Broug
     ensures taken { IfOk result (TakenAs [] (shown_restarted (seen body.old) n)) }
 {
     let set = restored_set(basis, body, n)?;
-    let mut taken = quiet(basis.alloc);
+    let mut taken = with_nothing(basis.alloc);
     taken.shown = shown_restarted(basis, body, n)?;
     restart(basis, body, n, set);
     Ok(taken)
@@ -258,10 +260,10 @@ fn take_give(basis: &Ground<'_>, body: &mut Body, tokens: Option<u8>) -> Result<
     ensures taken { IfOk result (TakenAs [] (shown_turn tokens)) }
 {
     match tokens {
-        None => Ok(quiet(basis.alloc)),
+        None => Ok(with_nothing(basis.alloc)),
         Some(_) => {
             take_turn(body);
-            told(basis.alloc, Indication::Turn)
+            with_indication(basis.alloc, Indication::Turn)
         }
     }
 }
@@ -275,11 +277,11 @@ fn shown_please(
     ensures { IfOk result (TakenAs [] (shown_please tokens (seen_values values.now))) }
 {
     if tokens.is_none() {
-        return Ok(quiet(basis.alloc));
+        return Ok(with_nothing(basis.alloc));
     }
     match priority_in(values) {
-        None => Ok(quiet(basis.alloc)),
-        Some(priority) => told(basis.alloc, Indication::Asked { priority }),
+        None => Ok(with_nothing(basis.alloc)),
+        Some(priority) => with_indication(basis.alloc, Indication::Asked { priority }),
     }
 }
 
@@ -290,7 +292,7 @@ fn take_give_confirm(basis: &Ground<'_>, body: &mut Body) -> Result<Brought, NoM
     }) }
     ensures taken { IfOk result (TakenAs (Session (OfMarks GiveAck) ∷ []) (indications.Turn ∷ [])) }
 {
-    let mut taken = told(basis.alloc, Indication::Turn)?;
+    let mut taken = with_indication(basis.alloc, Indication::Turn)?;
     taken
         .answers
         .push(Message::Session(Word::OfMarks(MarkWord::GiveAck)))?;
@@ -312,7 +314,7 @@ pub fn take_mark(basis: &Ground<'_>, body: &mut Body, word: MarkWord) -> Result<
         }
         MarkWord::MarkAck { number } => {
             confirm_mark(basis, body, number);
-            Ok(quiet(basis.alloc))
+            Ok(with_nothing(basis.alloc))
         }
         MarkWord::Restart { number, list: _ } => take_restart(basis, body, number),
         MarkWord::RestartAck { number, list: _ } => take_restart_ack(basis, body, number),
@@ -321,7 +323,7 @@ pub fn take_mark(basis: &Ground<'_>, body: &mut Body, word: MarkWord) -> Result<
         MarkWord::GiveConfirm => take_give_confirm(basis, body),
         MarkWord::GiveAck => {
             body.link.gave = false;
-            Ok(quiet(basis.alloc))
+            Ok(with_nothing(basis.alloc))
         }
     }
 }

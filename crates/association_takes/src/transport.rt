@@ -10,7 +10,7 @@ ghost use Rattle.association_pieces.specs.Link.{seen_stage};
 ghost use Rattle.association_state.specs.Seen.{base_in, seen};
 ghost use Rattle.association_answers.specs.Reacted.{TakenAs};
 
-use association_answers::{Brought, answered, quiet, told};
+use association_answers::{Brought, with_answer, with_indication, with_nothing};
 use association_ground::{is_recovering, is_waiting};
 use association_sends::connect_message;
 use association_state::{Body, Ground, Stage};
@@ -154,19 +154,19 @@ pub fn take_transport(
             called: _,
         } => {
             let message = take_request(body, source, size);
-            answered(basis.alloc, message)
+            with_answer(basis.alloc, message)
         }
         TransportUnit::ConnectionConfirm {
             destination: _,
             size: _,
         } => {
             let message = take_confirm(basis, body)?;
-            answered(basis.alloc, message)
+            with_answer(basis.alloc, message)
         }
         TransportUnit::DisconnectRequest { destination: _ } => {
             body.link.phase = Phase::Over;
-            told(basis.alloc, Indication::AssociationRefused)
+            with_indication(basis.alloc, Indication::AssociationRefused)
         }
-        TransportUnit::TransportError => Ok(quiet(basis.alloc)),
+        TransportUnit::TransportError => Ok(with_nothing(basis.alloc)),
     }
 }

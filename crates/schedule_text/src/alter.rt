@@ -7,8 +7,8 @@ ghost use Rattle.schedule_text.specs.Alterations.{abstract_at, addition_at, more
 use dialogue::Call;
 use osi_base::{Copied, Ids, ListOf, Oid, Proposal, Proposals};
 use script_lines::{
-    EndsBefore, ScriptKind, ScriptLineFault, is_next, is_over, number, object_identifier, over,
-    skip, syntaxes,
+    EndsBefore, ScriptKind, ScriptLineFault, after_field, at_line_end, is_next, is_over,
+    number_field, object_identifier, syntaxes,
 };
 use std::alloc::Global;
 use stub_tables::Tables;
@@ -22,7 +22,7 @@ fn abstract_name<'a>(
     ensures { Gives (λ x. (x.0, x.1.now)) result (abstract_at tables.now text.now) }
 {
     if is_next("as", text) {
-        object_identifier(alloc, skip(text), ScriptKind::BadField)
+        object_identifier(alloc, after_field(text), ScriptKind::BadField)
     } else {
         Ok((tables.name_oid.copy(alloc)?, text))
     }
@@ -37,7 +37,7 @@ fn addition<'a>(
 ) -> Result<(Proposal, &'a [u8]), ScriptLineFault>
     ensures { Gives (λ x. (x.0, x.1.now)) result (addition_at tables.now text.now) }
 {
-    let (id, rest) = number(text)?;
+    let (id, rest) = number_field(text)?;
     let (abstract_name, rest) = abstract_name(alloc, tables, rest)?;
     let (transfers, rest) = syntaxes(alloc, EndsBefore::AddOrDelete, rest)?;
     Ok((
@@ -65,7 +65,7 @@ fn additions<'a>(
         if !is_next("add", rest) {
             return Ok((proposals, rest));
         }
-        let (proposal, after) = addition(alloc, tables, skip(rest))?;
+        let (proposal, after) = addition(alloc, tables, after_field(rest))?;
         proposals.push(proposal)?;
         rest = after;
     }
@@ -83,7 +83,7 @@ fn more_numbers(alloc: Global, text: &[u8]) -> Result<(Ids, &[u8]), ScriptLineFa
         if is_over(rest) {
             return Ok((numbers, rest));
         }
-        let (id, after) = number(rest)?;
+        let (id, after) = number_field(rest)?;
         numbers.push(id)?;
         rest = after;
     }
@@ -105,7 +105,7 @@ fn deletions(alloc: Global, text: &[u8]) -> Result<(Ids, &[u8]), ScriptLineFault
     ensures { Gives (λ x. (x.0, x.1.now)) result (deletions_at text.now) }
 {
     if is_next("delete", text) {
-        numbers(alloc, skip(text))
+        numbers(alloc, after_field(text))
     } else {
         Ok((ListOf::new(alloc), text))
     }
@@ -118,5 +118,5 @@ pub(crate) fn alter(alloc: Global, tables: &Tables, text: &[u8]) -> Result<Call,
 {
     let (add, rest) = additions(alloc, tables, text)?;
     let (delete, rest) = deletions(alloc, rest)?;
-    over(Call::Alter { add, delete }, rest)
+    at_line_end(Call::Alter { add, delete }, rest)
 }

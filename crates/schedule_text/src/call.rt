@@ -11,8 +11,8 @@ ghost use Rattle.schedule_text.specs.Calls.{narrowed};
 use crate::alter::alter;
 use dialogue::Call;
 use script_lines::{
-    ScriptKind, ScriptLineFault, field, identifier, is_over, number, over, result_type, used_value,
-    value_of_result,
+    ScriptKind, ScriptLineFault, at_line_end, field, identifier_field, is_over, number_field,
+    result_type, used_value, value_of_result,
 };
 use std::alloc::Global;
 use stub_tables::{ErrorRow, Operation, Tables, Use};
@@ -113,7 +113,7 @@ fn linked(text: &[u8]) -> Result<(Option<i64>, &[u8]), ScriptLineFault>
         return Ok((None, text));
     }
     let rest = linked_word(text)?;
-    let (id, rest) = identifier(rest)?;
+    let (id, rest) = identifier_field(rest)?;
     Ok((Some(id), rest))
 }
 
@@ -122,13 +122,13 @@ fn linked(text: &[u8]) -> Result<(Option<i64>, &[u8]), ScriptLineFault>
 fn invoke(alloc: Global, tables: &Tables, text: &[u8]) -> Result<Call, ScriptLineFault>
     ensures { Gives (λ x. x) result (invoke_at tables.now text.now) }
 {
-    let (context, rest) = number(text)?;
+    let (context, rest) = number_field(text)?;
     let (name, rest) = field(rest)?;
     let operation = operation_named(tables, name)?;
     let used = argument_of(tables, operation);
     let (argument, rest) = used_value(alloc, &tables.types, used, true, rest)?;
     let (linked, rest) = linked(rest)?;
-    over(
+    at_line_end(
         Call::Invoke {
             context,
             operation,
@@ -144,12 +144,12 @@ fn invoke(alloc: Global, tables: &Tables, text: &[u8]) -> Result<Call, ScriptLin
 fn refuse(alloc: Global, tables: &Tables, text: &[u8]) -> Result<Call, ScriptLineFault>
     ensures { Gives (λ x. x) result (refuse_at tables.now text.now) }
 {
-    let (id, rest) = identifier(text)?;
+    let (id, rest) = identifier_field(text)?;
     let (name, rest) = field(rest)?;
     let error = error_named(tables, name)?;
     let used = parameter_of(tables, error);
     let (parameter, rest) = used_value(alloc, &tables.types, used, false, rest)?;
-    over(
+    at_line_end(
         Call::Refuse {
             id,
             error,
@@ -169,10 +169,10 @@ fn answer(
 ) -> Result<Call, ScriptLineFault>
     ensures { Gives (λ x. x) result (answer_at tables.now invoked.now text.now) }
 {
-    let (id, rest) = identifier(text)?;
+    let (id, rest) = identifier_field(text)?;
     let of = result_type(tables, invoked, id);
     let (result_value, rest) = value_of_result(alloc, &tables.types, of, rest)?;
-    over(
+    at_line_end(
         Call::Answer {
             id,
             result: result_value,
@@ -185,16 +185,16 @@ fn answer(
 fn please(text: &[u8]) -> Result<Call, ScriptLineFault>
     ensures { Gives (λ x. x) result (please_at text.now) }
 {
-    let (priority, rest) = number(text)?;
-    over(Call::Please { priority }, rest)
+    let (priority, rest) = number_field(text)?;
+    at_line_end(Call::Please { priority }, rest)
 }
 
 /// What follows the word `resync`.
 fn resync(text: &[u8]) -> Result<Call, ScriptLineFault>
     ensures { Gives (λ x. x) result (resync_at text.now) }
 {
-    let (n, rest) = number(text)?;
-    over(Call::Resync { n }, rest)
+    let (n, rest) = number_field(text)?;
+    at_line_end(Call::Resync { n }, rest)
 }
 
 /// A call that is one word.
@@ -263,7 +263,7 @@ pub(crate) fn call(
     ensures { Gives (λ x. x) result (call_of tables.now invoked.now word.now rest.now) }
 {
     match plain_call(word) {
-        Some(call) => over(call, rest),
+        Some(call) => at_line_end(call, rest),
         None => long_call(alloc, tables, invoked, word, rest),
     }
 }

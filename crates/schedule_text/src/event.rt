@@ -10,7 +10,7 @@ use crate::call::call;
 use crate::draft::{Draft, with_event};
 use dialogue::Event;
 use osi_base::Side;
-use script_lines::{ScriptKind, ScriptLineFault, field, over};
+use script_lines::{ScriptKind, ScriptLineFault, at_line_end, field};
 use std::alloc::Global;
 use stub_tables::Tables;
 
@@ -69,7 +69,7 @@ fn carry(text: &[u8]) -> Result<Event, ScriptLineFault>
     let side = side_or_unknown(letter)?;
     let (amount, rest) = field(rest)?;
     let most = amount_or_bad(amount)?;
-    over(Event::Carry { side, most }, rest)
+    at_line_end(Event::Carry { side, most }, rest)
 }
 
 /// What lines of the other end invoked so far.
@@ -122,7 +122,7 @@ fn event(
         return carry(rest);
     }
     if word == b"break".as_slice() {
-        return over(Event::Break, rest);
+        return at_line_end(Event::Break, rest);
     }
     let side = side_or_unknown(word)?;
     call_event(alloc, tables, draft, side, rest)

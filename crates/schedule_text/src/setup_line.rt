@@ -10,7 +10,9 @@ use crate::setting::{Modes, Setting, mode_of, names_for, settled};
 use association_ground::is_bare;
 use dialogue::Mode;
 use osi_base::{Copied, NoMemory, Oids, Proposal, Side};
-use script_lines::{EndsBefore, ScriptKind, ScriptLineFault, field, number, over, syntaxes};
+use script_lines::{
+    EndsBefore, ScriptKind, ScriptLineFault, at_line_end, field, number_field, syntaxes,
+};
 use std::alloc::Global;
 use stub_tables::Tables;
 
@@ -26,9 +28,9 @@ pub(crate) struct ModeLine {
 fn reliable(text: &[u8]) -> Result<ModeLine, ScriptLineFault>
     ensures { Gives (λ x. x) result (reliable_at text.now) }
 {
-    let (checkpoint, rest) = number(text)?;
-    let (window, rest) = number(rest)?;
-    over(
+    let (checkpoint, rest) = number_field(text)?;
+    let (window, rest) = number_field(rest)?;
+    at_line_end(
         ModeLine {
             mode: Mode::Reliable,
             checkpoint,
@@ -54,9 +56,9 @@ fn mode_named(word: &[u8], rest: &[u8]) -> Result<ModeLine, ScriptLineFault>
     ensures { Gives (λ x. x) result (mode_named word.now rest.now) }
 {
     if word == b"bare".as_slice() {
-        over(plain(Mode::Bare), rest)
+        at_line_end(plain(Mode::Bare), rest)
     } else if word == b"direct".as_slice() {
-        over(plain(Mode::Direct), rest)
+        at_line_end(plain(Mode::Direct), rest)
     } else if word == b"reliable".as_slice() {
         reliable(rest)
     } else {
@@ -174,7 +176,7 @@ fn context_line(
     if is_bare(mode_of(&setting)) {
         return Err(ScriptLineFault::Kind(ScriptKind::BadSetup));
     }
-    let (id, rest) = number(text)?;
+    let (id, rest) = number_field(text)?;
     new_context(alloc, modes, tables, setting, id, rest)
 }
 

@@ -40,7 +40,7 @@ pub fn is_next(word: &str, text: &[u8]) -> bool
 }
 
 /// What follows the next field.
-pub fn skip(text: &[u8]) -> &[u8]
+pub fn after_field(text: &[u8]) -> &[u8]
     ensures { result.now ≡ skip text.now }
 {
     from_space(after_spaces(text))
@@ -85,7 +85,7 @@ fn identifier_of(field: &[u8]) -> Result<i64, ScriptLineFault>
 
 /// The number of 32 bits that the next field is, and what follows it.
 #[tactic(auto, unfolding(crate::specs::Fields::number_at))]
-pub fn number(text: &[u8]) -> Result<(u32, &[u8]), ScriptLineFault>
+pub fn number_field(text: &[u8]) -> Result<(u32, &[u8]), ScriptLineFault>
     ensures { Gives (λ x. (x.0, x.1.now)) result (number_at text.now) }
 {
     let (field, rest) = field(text)?;
@@ -95,7 +95,7 @@ pub fn number(text: &[u8]) -> Result<(u32, &[u8]), ScriptLineFault>
 
 /// The identifier of an invocation that the next field is, and what follows it.
 #[tactic(auto, unfolding(crate::specs::Fields::identifier_at))]
-pub fn identifier(text: &[u8]) -> Result<(i64, &[u8]), ScriptLineFault>
+pub fn identifier_field(text: &[u8]) -> Result<(i64, &[u8]), ScriptLineFault>
     ensures { Gives (λ x. (x.0, x.1.now)) result (identifier_at text.now) }
 {
     let (field, rest) = field(text)?;
@@ -104,7 +104,7 @@ pub fn identifier(text: &[u8]) -> Result<(i64, &[u8]), ScriptLineFault>
 }
 
 /// What was read, where no field is left behind it.
-pub fn over<T: Drop>(value: T, text: &[u8]) -> Result<T, ScriptLineFault>
+pub fn at_line_end<T: Drop>(value: T, text: &[u8]) -> Result<T, ScriptLineFault>
     ensures { Gives (λ x. x) result (if_over value text.now) }
 {
     if is_over(text) {

@@ -11,7 +11,9 @@ mod syntax;
 mod value;
 
 pub use fault::{ScriptFault, ScriptKind};
-pub use fields::{field, identifier, is_next, is_over, number, over, skip};
+pub use fields::{
+    after_field, at_line_end, field, identifier_field, is_next, is_over, number_field,
+};
 pub use invoked::{InvokedOperations, result_type};
 pub use line_fault::ScriptLineFault;
 pub use splitting::Lines;

@@ -13,6 +13,6 @@ returns-in_err-proposal c =
     let rest = c.loop-turn.rest.now in
     let goes : is_next (codes "add") rest ≡ true = sym c.is_next.ensures ∙ c.if-not-is_next.false in
     let p = err_from_is_err_and c.from_residual.result c.from_residual.ensures.1 in
-    rw (p.1, p.2) (fails_so _ (addition_at tables c.skip.result.now) (more_additions tables (length text) [] text)
+    rw (p.1, p.2) (fails_so _ (addition_at tables c.after_field.result.now) (more_additions tables (length text) [] text)
     (λ kind h. c.loop-turn.invariant ∙ additions_bad tables (length text) c.loop-turn._turn c.loop-turn.proposals rest kind c.loop-turn-test.true goes
-    (ap (addition_at tables) (sym c.skip.ensures) ∙ h)) c.in_err-proposal.ensures)
+    (ap (addition_at tables) (sym c.after_field.ensures) ∙ h)) c.in_err-proposal.ensures)

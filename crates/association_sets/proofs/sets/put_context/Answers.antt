@@ -3,7 +3,7 @@ use Rattle.std.proofs.lemmas.Grind.{common_steps}
 use Rattle.end_rules.specs.Sets.{put}
 use Rattle.osi_base.specs.SetPlaces.{place_of}
 use Rattle.association_sets.proofs.Placing.{found_within, put_as}
-use Rattle.association_sets.proofs.sets.put.Goals as goal
+use Rattle.association_sets.proofs.sets.put_context.Goals as goal
 
 pub insert-requires : goal.insert-requires
 insert-requires c = let h = found_within c.args.id c.deref.result.now _ c.in-Err.ensures in omega arith
