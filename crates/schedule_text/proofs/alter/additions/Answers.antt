@@ -1,6 +1,6 @@
 use Rattle.std.proofs.Common.{◌≡◌, true, [], length, sym, ap, ◌∙◌, codes}
 use Rattle.std.proofs.lemmas.Result.{err_from_is_err_and}
-use Rattle.script_lines.specs.Fields.{is_next, skip}
+use Rattle.script_lines.specs.Fields.{is_next}
 use Rattle.script_lines.proofs.Turns.{fails_so}
 use Rattle.schedule_text.specs.Alterations.{addition_at, more_additions}
 use Rattle.schedule_text.proofs.Turns.{additions_bad}
