@@ -3,7 +3,7 @@
 ghost use Rattle.std.specs.Prelude.{◌≡◌, ◌≢◌, ℕ, List, [], ◌∷◌, ◌++◌, length, min, take, drop, IfOk, IfErr, OnOk, false, Some, None};
 ghost use Rattle.end_rules.specs.Base.{is_bare};
 
-use crate::sizes::first_size;
+use crate::dt_sizes::first_size;
 use apdu_codec::Heads;
 use association_codecs::Codecs;
 use association_ground::is_up;

@@ -10,9 +10,9 @@ ghost use Rattle.association_end.specs.Seen.{came_in};
 ghost use Rattle.association_end.specs.Sound.{IsMessage, HasMessages};
 ghost use Rattle.association_line.specs.Line as line;
 
+use crate::dt_sizes::{first_size, size_with};
 use crate::end::End;
 use crate::reading::react_to;
-use crate::sizes::{first_size, size_with};
 use association_answers::Reaction;
 use association_ground::passes_over;
 use association_intake::{Front, Intake};

@@ -15,7 +15,7 @@ use Rattle.apdu_codec.specs.declared.fault.HeadFault.{HeadFault}
 use Rattle.apdu_codec.specs.declared.fault.HeadFault.TheVariants as fault
 use Rattle.apdu_codec.specs.Refusals.{refusal_of}
 use Rattle.apdu_codec.specs.HeadsRead.{HasFields, HasNone, IsRefused}
-use Rattle.rose_roles.specs.declared.taken.RoseTaken.{RoseTaken}
+use Rattle.rose_roles.specs.declared.apdu_taken.RoseTaken.{RoseTaken}
 use Rattle.rose_roles.specs.Heads.{room_in, said_by}
 use Rattle.rose_roles.specs.Hearing.{heard_with, refused_as, Hears}
 use Rattle.rose_roles.specs.Laws.{carried_by}

@@ -5,8 +5,8 @@ use Rattle.end_rules.specs.Base.{Base, Head}
 use Rattle.end_rules.specs.State.{Body, Calls}
 use Rattle.end_rules.specs.Messages.{DataValue}
 use Rattle.end_rules.specs.Hearing.{Taken, hear, on_heard, head_of, take_head, take_values, then_taken}
-use Rattle.rose_roles.specs.declared.taken.RoseTaken as roses
-use Rattle.rose_roles.specs.declared.taken.RoseTaken.TheVariants as rose
+use Rattle.rose_roles.specs.declared.apdu_taken.RoseTaken as roses
+use Rattle.rose_roles.specs.declared.apdu_taken.RoseTaken.TheVariants as rose
 use Rattle.rose_roles.specs.Hearing.{heard_with}
 use Rattle.association_answers.specs.declared.brought.Brought as broughts
 use Rattle.association_answers.specs.Reacted.{seen_messages}

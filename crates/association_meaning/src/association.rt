@@ -14,9 +14,9 @@ ghost use Rattle.association_meaning.specs.Steps as steps;
 
 use crate::basis::{Halt, ReadingGround};
 use crate::contexts::{Carrier, Wrong, check, form_wrong, pdv_wrong};
-use crate::informed::{AcseKind, and_informed};
-use crate::layers::{acse_content, associated};
+use crate::layer_apdus::{acse_content, associated};
 use crate::names::{acse_name, rtse_name};
+use crate::user_information::{AcseKind, and_informed};
 use crate::values::{value_in, values_under};
 use acse::AcseFault;
 use association_ground::{is_reliable, same_name};

@@ -5,12 +5,12 @@
 mod association;
 mod basis;
 mod contexts;
-mod informed;
-mod layers;
+mod layer_apdus;
 mod names;
-mod parts;
 mod transfers;
+mod unit_meanings;
 mod units;
+mod user_information;
 mod values;
 
 pub use basis::{Halt, ReadingGround};

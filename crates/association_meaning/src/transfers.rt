@@ -12,7 +12,7 @@ ghost use Rattle.association_meaning.specs.Steps as steps;
 
 use crate::basis::{Halt, ReadingGround, fault_at};
 use crate::contexts::pdv_wrong;
-use crate::layers::content_under;
+use crate::layer_apdus::content_under;
 use association_reading::Carriage;
 use association_sets::pair_of;
 use association_words::{Arrived, TransferItem, ValueContent};

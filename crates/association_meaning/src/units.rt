@@ -10,7 +10,7 @@ ghost use Rattle.association_meaning.specs.Words as words;
 ghost use Rattle.association_intake.specs.Seen.{HasPlaces};
 
 use crate::basis::{Halt, ReadingGround};
-use crate::parts::{
+use crate::unit_meanings::{
     aborted_with, accept_meaning, connect_meaning, data_meaning, disconnect_meaning,
     finish_meaning, pleaded_with, refused_with, restart_acked_with, restarted_with, typed_meaning,
 };

@@ -9,7 +9,7 @@ ghost use Rattle.association_meaning.specs.Grounds.{GivesAs};
 
 use crate::basis::{Halt, ReadingGround};
 use crate::contexts::{Carrier, check, first_wrong};
-use crate::layers::content_by;
+use crate::layer_apdus::content_by;
 use crate::names::name_carried;
 use association_reading::Carriage;
 use association_sets::pair_of;

@@ -16,7 +16,7 @@ use Rattle.osi_base.specs.PdvContent.{octets_of}
 use Rattle.osi_base.specs.declared.syntax.Pair.{Pair}
 use Rattle.osi_base.specs.declared.syntax.Syntax.{Syntax}
 use Rattle.osi_base.specs.declared.syntax.Syntax.TheVariants.{Ber, Der, Packed}
-use Rattle.osi_base.specs.declared.words.SetItem.{SetItem}
+use Rattle.osi_base.specs.declared.layer_words.SetItem.{SetItem}
 use Rattle.osi_base.specs.declared.presentation_word.Pdv.{Pdv}
 use Rattle.osi_base.specs.declared.presentation_word.PresentationWord.{PresentationWord}
 use Rattle.osi_base.specs.declared.presentation_word.PresentationWord.TheVariants as ppdus
@@ -37,8 +37,8 @@ use Rattle.end_rules.specs.Faults.{or_fault}
 use Rattle.end_rules.specs.State.{Body}
 use Rattle.end_wire.specs.Values.{content_of}
 use Rattle.end_wire.proofs.ContentLaws.{said_is, spelled_said}
-use Rattle.association_reading.specs.declared.carried.Carriage.{Carriage}
-use Rattle.association_reading.specs.declared.carried.Carriage.TheVariants as carriage
+use Rattle.association_reading.specs.declared.layer_of_values.Carriage.{Carriage}
+use Rattle.association_reading.specs.declared.layer_of_values.Carriage.TheVariants as carriage
 use Rattle.association_reading.specs.Places.{PdvPlaces, pdv_places}
 use Rattle.association_reading.specs.Contexts.{is_form, name_carried, pdv_fault, first_place, other_places, first_fault}
 use Rattle.association_reading.specs.Meaning.{on_ppdu, with_values, data_meaning, carried_by_data, typed_meaning, restart_meaning, restart_ack_meaning}

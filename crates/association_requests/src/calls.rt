@@ -11,7 +11,7 @@ ghost use Rattle.association_state.specs.Seen.{base_in, seen};
 ghost use Rattle.association_requests.specs.Called.{CalledAs, Makes};
 
 use crate::call_outcome::CallOutcome;
-use crate::due::due;
+use crate::messages_due::due;
 use crate::operations::{answer, invoke, refuse};
 use crate::sent::after_sent;
 use association_answers::end_association;

@@ -6,9 +6,9 @@ ghost use Rattle.association_words.specs.Seen.{seen_word, seen_message};
 ghost use Rattle.association_wire.specs.Written.{tsdu_of, written};
 ghost use Rattle.association_writing.specs.Room.{MayStand};
 
+use crate::presentation_units::user_octets;
 use crate::session::session_units;
 use crate::transport::written_unit;
-use crate::units::user_octets;
 use association_codecs::Codecs;
 use association_words::{Message, Word};
 use osi_base::{NoMemory, Octets};

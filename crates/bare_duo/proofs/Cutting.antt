@@ -2,7 +2,7 @@
 use Rattle.std.proofs.Common.{◌≡◌, ℕ, ◌≤◌, Bool, true, false, List, [], ◌∷◌, ◌++◌, map, length, take, Ok, refl, sym, ap, subst, ◌∙◌, arith, append_assoc}
 use Rattle.std.specs.Prelude.{Option, Some, None, if◌then◌else◌}
 use Rattle.std.proofs.lemmas.List.{append-nil, take-append-le, drop-append-le}
-use Rattle.osi_base.specs.declared.words.Layer.TheVariants.{Rose}
+use Rattle.osi_base.specs.declared.layer_words.Layer.TheVariants.{Rose}
 use Rattle.asn1_types.specs.Value.{Value}
 use Rattle.ber_spelling.specs.Fields.{identifier_at}
 use Rattle.ber_spelling.specs.Reading.{Reading}

@@ -1,7 +1,7 @@
 -- The first fault of values, row by row (X.690 8 and 10): the fields before it are right, and this field breaks its rule.
 use Rattle.std.specs.Prelude.{◌≡◌, ℕ, zero, suc, ◌+◌, ◌^◌, ◌<◌, ◌⊎◌, ℤ, Bool, true, false, Option, Some, None, List, [], ◌∷◌, ◌++◌, length, nat_lt, slice_get}
-use Rattle.osi_base.specs.declared.words.Kind.{Kind}
-use Rattle.osi_base.specs.declared.words.Kind.TheVariants.{Tag, Missing, Extra, Content, Form}
+use Rattle.osi_base.specs.declared.layer_words.Kind.{Kind}
+use Rattle.osi_base.specs.declared.layer_words.Kind.TheVariants.{Tag, Missing, Extra, Content, Form}
 use Rattle.asn1_types.specs.declared.row.Class.{Class}
 use Rattle.asn1_types.specs.declared.row.Class.TheVariants.{Universal}
 use Rattle.asn1_types.specs.declared.row.Item.{Item}

@@ -7,7 +7,7 @@ mod fields;
 mod laws;
 mod octets;
 mod order;
-mod plain;
+mod plain_values;
 mod primitives;
 mod spot;
 mod strings;
@@ -25,7 +25,7 @@ pub use laws::{
 };
 pub use octets::{are_octets, hold_octets};
 pub use order::{RANKS, rank, rank_of};
-pub use plain::{boolean, enumerated, integer, is_other_number, null, object_id};
+pub use plain_values::{boolean, enumerated, integer, is_other_number, null, object_id};
 pub use primitives::{integer_of, is_padded, ones_above};
 pub use spot::{Ahead, Gathered, Opened, Scope, Spot, StringKind, StringRule};
 pub use strings::{bit_string, octet_string, text};

@@ -2,7 +2,7 @@
 use Rattle.std.proofs.Common.{◌≡◌, ℕ, ◌<◌, ◌≤◌, Bool, true, false, nat_eq, nat_lt, [], ◌∷◌, Some, None, refl, sym, ap, ◌∙◌, arith, ap₂, le_of_lt, le_of_eq, eqb-true, nat_cmp, Ordering, Less, Equal, Greater}
 use Rattle.std.proofs.lemmas.Bool.{eqb-false}
 use Rattle.std.proofs.lemmas.Bool.Decides.{nat_tests}
-use Rattle.osi_base.specs.declared.words.SetItem.{SetItem}
+use Rattle.osi_base.specs.declared.layer_words.SetItem.{SetItem}
 use Rattle.context_sets.specs.Sets.{ContextSet, pair_of, put, remove, IsRising, AllAbove}
 use Rattle.context_sets.proofs.Rising.{rising-put, rising-remove}
 

@@ -1,6 +1,6 @@
 -- A context is put at its place.
 use Rattle.std.proofs.Common.{◌≡◌, ℕ, ◌+◌, ◌<◌, ◌≤◌, Bool, true, false, not, nat_eq, nat_lt, List, [], ◌∷◌, length, Result, Ok, Err, insert, slice_set, filter, refl, ap, ◌∙◌, sym, arith, subst, add-one}
-use Rattle.osi_base.specs.declared.words.SetItem.{SetItem}
+use Rattle.osi_base.specs.declared.layer_words.SetItem.{SetItem}
 use Rattle.context_sets.specs.Sets.{ContextSet, put, remove}
 use Rattle.osi_base.specs.SetPlaces.{place_of, moved_by, put_at}
 

@@ -1,7 +1,7 @@
 -- What one end holds: its set, its own alterations that aren't answered, and the room for them.
 use Rattle.std.specs.Prelude.{ℕ, ◌+◌, ◌≤◌, Bool, ◌&&◌, not, if◌then◌else◌, List, [], ◌∷◌, length, find, Option, Some, None, is_some}
 use Rattle.std.specs.Option.{option_map}
-use Rattle.osi_base.specs.declared.words.SetItem.{SetItem}
+use Rattle.osi_base.specs.declared.layer_words.SetItem.{SetItem}
 use Rattle.context_sets.specs.declared.alteration.Alteration.{Alteration}
 use Rattle.context_sets.specs.Sets.{ContextSet, IsRising, pair_of}
 use Rattle.context_sets.specs.Syntaxes.{is_same}

@@ -5,9 +5,9 @@ use Rattle.osi_base.specs.Syntax.{name_of}
 use Rattle.osi_base.specs.declared.syntax.Pair.{Pair}
 use Rattle.osi_base.specs.declared.syntax.Syntax.{Syntax}
 use Rattle.osi_base.specs.declared.syntax.Syntax.TheVariants.{Ber}
-use Rattle.osi_base.specs.declared.words.Proposal.{Proposal}
-use Rattle.osi_base.specs.declared.words.AddAnswer.{AddAnswer}
-use Rattle.osi_base.specs.declared.words.Answers.{Answers}
+use Rattle.osi_base.specs.declared.layer_words.Proposal.{Proposal}
+use Rattle.osi_base.specs.declared.layer_words.AddAnswer.{AddAnswer}
+use Rattle.osi_base.specs.declared.layer_words.Answers.{Answers}
 use Rattle.context_sets.specs.declared.alteration.Alteration.{Alteration}
 use Rattle.context_sets.specs.declared.fault.SetFault.{SetFault}
 use Rattle.context_sets.specs.declared.fault.SetFault.TheVariants.{PeerPresent, PeerParity, NoMemory}

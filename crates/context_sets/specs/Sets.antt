@@ -1,7 +1,7 @@
 -- Defined context sets, by rising identifier (X.216 3.4, X.226 6.2, 6.3).
 use Rattle.std.specs.Prelude.{ℕ, ◌<◌, nat_eq, nat_lt, if◌then◌else◌, List, [], ◌∷◌, Option, Some, None}
 use Rattle.osi_base.specs.declared.syntax.Pair.{Pair}
-use Rattle.osi_base.specs.declared.words.SetItem.{SetItem}
+use Rattle.osi_base.specs.declared.layer_words.SetItem.{SetItem}
 
 abbrev pub ContextSet : Type 0
 ContextSet = List SetItem

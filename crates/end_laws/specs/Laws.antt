@@ -1,7 +1,7 @@
 -- The laws of two ends where APDUs are spelled by the codecs: of the tables it is asked that they are readable, as those of
 -- a module are, and of the initiator's configuration that no end refuses it.
 use Rattle.std.specs.Prelude.{◌≡◌, List, [], ◌∷◌, true}
-use Rattle.osi_base.specs.declared.words.SetItem.{SetItem}
+use Rattle.osi_base.specs.declared.layer_words.SetItem.{SetItem}
 use Rattle.dialogue.specs.declared.config.Config.{Config}
 use Rattle.dialogue.specs.declared.indication.Indication.{Indication}
 use Rattle.stub_tables.specs.declared.tables.Tables.{Tables}

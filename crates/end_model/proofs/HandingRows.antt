@@ -4,7 +4,7 @@ use Rattle.std.proofs.Common.{[], ◌∷◌, ◌++◌, map}
 use Rattle.std.specs.Prelude.{ℤ, pos, negsuc, Bool, Option, Some, is_some, option_map, unwrap_or}
 use Rattle.std.specs.Prelude.{Ok, if◌then◌else◌, nat_le}
 use Rattle.osi_base.specs.declared.syntax.Syntax.TheVariants.{Der}
-use Rattle.osi_base.specs.declared.words.Proposal.{Proposal}
+use Rattle.osi_base.specs.declared.layer_words.Proposal.{Proposal}
 use Rattle.osi_base.specs.Limits.{last_invocation}
 use Rattle.asn1_types.specs.declared.value.Val.{Val}
 use Rattle.stub_tables.specs.declared.operation.Operation.{Operation}

@@ -2,8 +2,8 @@
 -- 7.1 to 7.3, X.226 6.1, X.227 7.1, X.228 7.1; recoveries as in this project's profile).
 use Rattle.std.specs.Prelude.{ℕ, ◌/◌, ◌%◌, min, pos, List, [], ◌∷◌, ◌++◌, Bool, true, false, not, ◌&&◌, ◌||◌, nat_eq, if◌then◌else◌, Option, Some, None, is_some}
 use Rattle.std.specs.Ordering.{int_eq}
-use Rattle.osi_base.specs.declared.words.SetItem.{SetItem}
-use Rattle.osi_base.specs.declared.words.AddAnswer.{AddAnswer}
+use Rattle.osi_base.specs.declared.layer_words.SetItem.{SetItem}
+use Rattle.osi_base.specs.declared.layer_words.AddAnswer.{AddAnswer}
 use Rattle.osi_base.specs.declared.session_word.SessionConnect.{SessionConnect}
 use Rattle.osi_base.specs.declared.presentation_word.PresentationConnect.{PresentationConnect}
 use Rattle.osi_base.specs.declared.presentation_word.PresentationAccept.{PresentationAccept}

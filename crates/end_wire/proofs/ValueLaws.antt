@@ -5,7 +5,7 @@ use Rattle.std.proofs.lemmas.Bool.{eqb-true}
 use Rattle.std.proofs.Math.Seq.{take-length}
 use Rattle.osi_base.specs.declared.syntax.Syntax.{Syntax}
 use Rattle.osi_base.specs.declared.syntax.Syntax.TheVariants.{Ber, Der, Packed}
-use Rattle.osi_base.specs.declared.words.Problem.{Problem}
+use Rattle.osi_base.specs.declared.layer_words.Problem.{Problem}
 use Rattle.asn1_types.specs.Value.{Value}
 use Rattle.asn1_types.specs.Table.{AreSoundRows}
 use Rattle.asn1_types.specs.declared.value.Val.{Val}

@@ -3,10 +3,10 @@ use Rattle.std.specs.Prelude.{◌≡◌, ℕ, suc, ◌+◌, ◌<◌, ◌≤◌, 
 use Rattle.std.specs.List.{list_all}
 use Rattle.operation_notation.specs.Tree.{TypeTree}
 use Rattle.operation_notation.specs.declared.module.Assignment.{Assignment}
-use Rattle.module_faults.specs.declared.facts.DefaultKind.{DefaultKind as DefaultKindGiven}
-use Rattle.module_faults.specs.declared.facts.DefaultKind.TheVariants as given
-use Rattle.module_faults.specs.declared.facts.Facts.{Facts as FactsGiven}
-use Rattle.module_faults.specs.declared.facts.Facing.{Facing}
+use Rattle.module_faults.specs.declared.type_facts.DefaultKind.{DefaultKind as DefaultKindGiven}
+use Rattle.module_faults.specs.declared.type_facts.DefaultKind.TheVariants as given
+use Rattle.module_faults.specs.declared.type_facts.Facts.{Facts as FactsGiven}
+use Rattle.module_faults.specs.declared.type_facts.Facing.{Facing}
 use Rattle.module_faults.specs.declared.reach_search.Standing.{Standing}
 use Rattle.module_faults.specs.Names.{type_at, type_place}
 use Rattle.module_faults.specs.Recursion.{type_uses}

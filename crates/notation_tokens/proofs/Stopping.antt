@@ -4,9 +4,9 @@ use Rattle.std.specs.Prelude.{IfErr, nat_lt, if◌then◌else◌, slice_range, I
 use Rattle.std.proofs.lemmas.Bool.{ltb-true, ltb-false}
 use Rattle.std.proofs.lemmas.List.{length-drop}
 use Rattle.notation_tokens.specs.declared.token.Place.{Place}
-use Rattle.notation_tokens.specs.declared.lexer.Lexed.{Lexed}
-use Rattle.notation_tokens.specs.declared.lexer.Piece.{Piece}
-use Rattle.notation_tokens.specs.declared.lexer.Piece.TheVariants.{Passed, Cut, Bad}
+use Rattle.notation_tokens.specs.declared.token_cutting.Lexed.{Lexed}
+use Rattle.notation_tokens.specs.declared.token_cutting.Piece.{Piece}
+use Rattle.notation_tokens.specs.declared.token_cutting.Piece.TheVariants.{Passed, Cut, Bad}
 use Rattle.notation_tokens.specs.declared.token.Token.{Token}
 use Rattle.notation_tokens.specs.declared.token.TokenKind.{TokenKind}
 use Rattle.notation_tokens.specs.declared.token.TokenKind.TheVariants.{Word, Number, Sign}

@@ -6,8 +6,8 @@ ghost use Rattle.notation_tokens.specs.Tokens.{AreTokens};
 ghost use Rattle.notation_tokens.specs.Stops.{IsCuttingFault};
 
 use crate::faults::{NotationFault, NotationKind};
-use crate::lexer::{MOST_MODULE_OCTETS, cut_text};
 use crate::token::{Place, Tokens};
+use crate::token_cutting::{MOST_MODULE_OCTETS, cut_text};
 use std::alloc::Global;
 
 /// The fault of this kind at a place.

@@ -5,7 +5,7 @@ use Rattle.std.specs.Prelude.{IfOk, OnOk, OnErr}
 use Rattle.osi_base.specs.declared.fault.NoMemory.{NoMemory}
 use Rattle.std.specs.Ordering.{int_eq}
 use Rattle.osi_base.specs.declared.syntax.Syntax.{Syntax}
-use Rattle.osi_base.specs.declared.words.Problem.{Problem}
+use Rattle.osi_base.specs.declared.layer_words.Problem.{Problem}
 use Rattle.stub_tables.specs.declared.tables.Tables.{Tables}
 use Rattle.stub_tables.specs.declared.operation.Code.{Code}
 use Rattle.dialogue.specs.declared.config.Mode.TheVariants.{Bare}
@@ -21,8 +21,8 @@ use Rattle.end_rules.specs.State.{Calls, OpenCall, opened_with}
 use Rattle.end_rules.specs.Hearing as rules
 use Rattle.end_wire.specs.Bare.{bare_base}
 use Rattle.rose_roles.specs.declared.invoked_with.InvokedWith.{InvokedWith}
-use Rattle.rose_roles.specs.declared.taken.RoseTaken as takens
-use Rattle.rose_roles.specs.declared.taken.RoseTaken.TheVariants as taken
+use Rattle.rose_roles.specs.declared.apdu_taken.RoseTaken as takens
+use Rattle.rose_roles.specs.declared.apdu_taken.RoseTaken.TheVariants as taken
 use Rattle.rose_roles.specs.Calls.{Kept, Invoking, Performing, called, side, key_of, operation_or_none, context_or_none, open_call, AreOpen, opens_in, calls_of}
 use Rattle.rose_roles.specs.Heads.{said_by}
 use Rattle.rose_roles.specs.Hearing.{Hears, heard_with}

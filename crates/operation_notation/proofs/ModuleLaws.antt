@@ -15,7 +15,7 @@ use Rattle.operation_notation.specs.ReadingModules.{flag_at, flag_2_at, flag_or_
 use Rattle.notation_tokens.specs.Texts.{Answers, unless_stopped, too_long}
 use Rattle.operation_notation.specs.Modules.{ReadsAsModule, module_of, verdict, refused}
 use Rattle.notation_tokens.specs.Lexing.{most_module_octets, lexed_of}
-use Rattle.notation_tokens.specs.declared.lexer.Lexed.{Lexed}
+use Rattle.notation_tokens.specs.declared.token_cutting.Lexed.{Lexed}
 use Rattle.notation_tokens.specs.declared.faults.NotationFault.{NotationFault}
 use Rattle.notation_tokens.specs.declared.faults.NotationKind.{NotationKind}
 use Rattle.operation_notation.specs.Grammar.{One, Then, Nothing, Either, Where, Maybe, Many, The, Behind, Listed}

@@ -4,7 +4,7 @@ use Rattle.std.specs.Prelude.{◌⊎◌, ◌&&◌, codes, nat_lt, if◌then◌el
 use Rattle.notation_tokens.specs.Lexeme.{Lexeme, lexemes, same}
 use Rattle.notation_tokens.specs.Lexing.{most_module_octets, lexed_of}
 use Rattle.notation_tokens.specs.Texts.{unless_stopped, too_long}
-use Rattle.notation_tokens.specs.declared.lexer.Lexed.{Lexed}
+use Rattle.notation_tokens.specs.declared.token_cutting.Lexed.{Lexed}
 use Rattle.notation_tokens.specs.declared.token.Place.{Place}
 use Rattle.operation_notation.specs.Reading.{Read}
 use Rattle.operation_notation.specs.GrammarTypes.{narrow, marked}

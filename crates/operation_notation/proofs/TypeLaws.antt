@@ -16,7 +16,7 @@ use Rattle.operation_notation.specs.TreeView.{parts_of}
 use Rattle.notation_tokens.specs.declared.faults.NotationKind.TheVariants.{Unsupported}
 use Rattle.notation_tokens.specs.declared.token.Place.{Place}
 use Rattle.notation_tokens.specs.declared.token.Located.{Located}
-use Rattle.operation_notation.specs.declared.structure.Absence.{Absence}
+use Rattle.operation_notation.specs.declared.structured_types.Absence.{Absence}
 use Rattle.operation_notation.proofs.Means.{Front, Law, never, law_one, law_word, law_nothing, law_choice}
 use Rattle.operation_notation.proofs.Starts.{Headed, Starts, starts_then, starts_one, starts_either, among, Excludes, excludes_among, excludes_type_name, excludes_value_name, type_named, value_named, begins_any, headed_not, fewer, fewer_one, starts_the, starts_word}
 use Rattle.operation_notation.proofs.Chains.{map_law, closes, closes_under, closed_by, excludes_text, MayStart, Picked, picks, weaker_headed, word_or_named, more_or_named, starts_maybe, or_left, or_right, or_named, excludes_or_named, next, law_any, law_behind, starts_behind, may_starts, may_then, may_nothing, may_either, behind_may, behind_starts, behind_word, same_excludes, law_placed, pick, pick_may, maybe_word, law_listed}

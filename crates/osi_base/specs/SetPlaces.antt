@@ -1,6 +1,6 @@
 -- Where a context stands in a set.
 use Rattle.std.specs.Prelude.{ℕ, ◌+◌, nat_eq, nat_lt, if◌then◌else◌, List, [], ◌∷◌, Result, Ok, Err, insert, slice_set}
-use Rattle.osi_base.specs.declared.words.SetItem.{SetItem}
+use Rattle.osi_base.specs.declared.layer_words.SetItem.{SetItem}
 
 -- so many places on
 abbrev pub moved_by : ℕ → Result ℕ ℕ → Result ℕ ℕ

@@ -3,7 +3,7 @@
 ghost use Rattle.std.specs.Prelude.{◌≡◌};
 ghost use Rattle.osi_base.specs.SetPlaces.{place_of};
 
-use crate::words::SetItem;
+use crate::layer_words::SetItem;
 
 /// The place of the context with this identifier in a set by rising identifier, or else the place
 /// where one would go.

@@ -3,7 +3,7 @@ use Rattle.std.proofs.Common.{inl, inr, ◌≡◌, refl, true, false, ◌∙◌,
 use Rattle.std.proofs.lemmas.List.{append_assoc}
 use Rattle.std.specs.Prelude.{ℤ, Bool, not, ◌||◌, Option, Some, None, Ok, if◌then◌else◌, ◌⊎◌}
 use Rattle.asn1_types.specs.declared.value.Val.{Val}
-use Rattle.osi_base.specs.declared.words.Answers.{Answers}
+use Rattle.osi_base.specs.declared.layer_words.Answers.{Answers}
 use Rattle.osi_base.specs.declared.session_word.SessionConnect.{SessionConnect}
 use Rattle.osi_base.specs.declared.presentation_word.PresentationConnect.{PresentationConnect}
 use Rattle.stub_tables.specs.declared.apdu.Apdu.{Apdu}
@@ -34,7 +34,7 @@ use Rattle.end_rules.specs.Requesting.{queueing, handed_in, invoking, after_invo
 use Rattle.end_rules.specs.ByItself.{OwnAct, SendsNow, EncodesOn}
 use Rattle.end_rules.specs.Reacting.{Reaction, Passes, Takes, Fails, fails, after_word, shown_of_word, fault_above, word_fault, on_word, react_to_word, on_transport, react_to_transport, react_to_session, react_alive, react}
 use Rattle.end_rules.specs.History.{after_step, step_of, after_broke, off_line}
-use Rattle.osi_base.specs.declared.words.SetItem.{SetItem}
+use Rattle.osi_base.specs.declared.layer_words.SetItem.{SetItem}
 use Rattle.agreement.specs.Sets.{Role}
 use Rattle.agreement.specs.Sets.Role.{Initiator, Responder}
 use Rattle.end_model.specs.Rows.{at}

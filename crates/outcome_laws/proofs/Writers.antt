@@ -3,8 +3,8 @@ use Rattle.std.proofs.Common.{◌≡◌, refl, true, false, inl, inr, ◌∙◌,
 use Rattle.std.proofs.lemmas.List.{append_assoc}
 use Rattle.std.specs.Prelude.{ℤ, Bool, ◌&&◌, Option, Some, None, is_some, if◌then◌else◌, ◌⊎◌}
 use Rattle.asn1_types.specs.declared.value.Val.{Val}
-use Rattle.osi_base.specs.declared.words.Problem.{Problem}
-use Rattle.osi_base.specs.declared.words.ProblemKind.TheVariants as problems
+use Rattle.osi_base.specs.declared.layer_words.Problem.{Problem}
+use Rattle.osi_base.specs.declared.layer_words.ProblemKind.TheVariants as problems
 use Rattle.stub_tables.specs.declared.tables.Tables.{Tables}
 use Rattle.stub_tables.specs.declared.operation.Code.{Code}
 use Rattle.stub_tables.specs.declared.apdu.Apdu.{Apdu}

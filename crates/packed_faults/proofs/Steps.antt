@@ -8,7 +8,7 @@ use Rattle.packed_codec.specs.Reading.{Spot, Reading, ◌>>=◌, refuse}
 use Rattle.packed_codec.specs.Rules.{Reader}
 use Rattle.packed_codec.proofs.Taking.{done}
 use Rattle.packed_faults.specs.Values.{Wrong, IsAt}
-use Rattle.osi_base.specs.declared.words.Kind.TheVariants.{Content}
+use Rattle.osi_base.specs.declared.layer_words.Kind.TheVariants.{Content}
 
 abbrev pub failed : {A : Type 0} → PackedFault → Reading A
 failed f = Err f

@@ -1,7 +1,7 @@
 -- The worked first faults: reading gives them.
 use Rattle.std.proofs.Common.{ℕ, zero, suc, ◌<◌, List, [], ◌∷◌, refl, arith}
 use Rattle.std.specs.Prelude.{slice_index}
-use Rattle.osi_base.specs.declared.words.Kind.TheVariants.{Content}
+use Rattle.osi_base.specs.declared.layer_words.Kind.TheVariants.{Content}
 use Rattle.asn1_types.specs.Writing.{integer_octets as der_octets, writes, written}
 use Rattle.packed_codec.specs.declared.fault.PackedFault.TheVariants.{NotSpelled}
 use Rattle.packed_codec.specs.Fields.{announced_at, field_at, octet_at, count_at}

@@ -1,6 +1,6 @@
 -- Fields read from the left.
 use Rattle.std.specs.Prelude.{ℕ, ◌-◌, Option, Some, None, List, [], ◌∷◌, ◌++◌, length, drop, Ok, if◌then◌else◌}
-use Rattle.osi_base.specs.declared.words.Kind.TheVariants.{Missing, Extra}
+use Rattle.osi_base.specs.declared.layer_words.Kind.TheVariants.{Missing, Extra}
 use Rattle.asn1_types.specs.declared.row.Class.{Class}
 use Rattle.asn1_types.specs.declared.row.TypeRow.{TypeRow}
 use Rattle.asn1_types.specs.Limits.{most_levels}

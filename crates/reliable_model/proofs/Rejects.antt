@@ -1,8 +1,8 @@
 -- A reject that an APDU brings has a problem of X.880; what an end transfers stays transferable.
 use Rattle.std.proofs.Common.{◌≡◌, refl, true, false, ◌∙◌, sym, ap, subst, arith, ℕ, ◌≤◌, List, [], ◌∷◌}
 use Rattle.std.specs.Prelude.{Bool, not, ◌&&◌, Option, Some, None, length, nat_le, if◌then◌else◌}
-use Rattle.osi_base.specs.declared.words.ProblemKind.{ProblemKind}
-use Rattle.osi_base.specs.declared.words.ProblemKind.TheVariants as problems
+use Rattle.osi_base.specs.declared.layer_words.ProblemKind.{ProblemKind}
+use Rattle.osi_base.specs.declared.layer_words.ProblemKind.TheVariants as problems
 use Rattle.osi_base.specs.declared.syntax.Syntax.TheVariants.{Der}
 use Rattle.dialogue.specs.declared.config.Mode.{Mode}
 use Rattle.dialogue.specs.declared.config.Mode.TheVariants.{Reliable}

@@ -3,7 +3,7 @@ use Rattle.std.specs.Prelude.{ℕ, min, ℤ, Bool, true, false, List, Option, So
 use Rattle.std.specs.Option.{option_map}
 use Rattle.osi_base.specs.declared.syntax.Syntax.{Syntax}
 use Rattle.osi_base.specs.declared.syntax.Syntax.TheVariants.{Ber, Der, Packed}
-use Rattle.osi_base.specs.declared.words.Problem.{Problem}
+use Rattle.osi_base.specs.declared.layer_words.Problem.{Problem}
 use Rattle.asn1_types.specs.declared.value.Val.{Val}
 use Rattle.asn1_types.specs.declared.table.TypeTable.{TypeTable}
 use Rattle.asn1_types.specs.Limits.{most_octets}

@@ -2,7 +2,7 @@
 use Rattle.std.specs.Prelude.{◌≡◌, ℕ, ℤ, [], Option, Some, None, Result, Ok, Err}
 use Rattle.osi_base.specs.declared.syntax.Syntax.{Syntax}
 use Rattle.osi_base.specs.declared.fault.NoMemory.{NoMemory}
-use Rattle.osi_base.specs.declared.words.ProblemKind.TheVariants as kinds
+use Rattle.osi_base.specs.declared.layer_words.ProblemKind.TheVariants as kinds
 use Rattle.stub_tables.specs.declared.tables.Tables.{Tables}
 use Rattle.asn1_types.specs.declared.value.Val.{Val}
 use Rattle.apdu_spelling.specs.declared.head.ApduHead.{ApduHead}
@@ -12,8 +12,8 @@ use Rattle.dialogue.specs.declared.indication.Indication.TheVariants as indicati
 use Rattle.end_rules.specs.Base.{Base, Carried, Head}
 use Rattle.end_rules.specs.State as ends
 use Rattle.end_rules.specs.Hearing.{Heard, told, hear, problem_with}
-use Rattle.rose_roles.specs.declared.taken.RoseTaken as takens
-use Rattle.rose_roles.specs.declared.taken.RoseTaken.TheVariants as taken
+use Rattle.rose_roles.specs.declared.apdu_taken.RoseTaken as takens
+use Rattle.rose_roles.specs.declared.apdu_taken.RoseTaken.TheVariants as taken
 use Rattle.rose_roles.specs.declared.apdu_problems.Judged as judgeds
 use Rattle.rose_roles.specs.declared.apdu_problems.Judged.TheVariants as judged
 use Rattle.rose_roles.specs.Heads.{HeadCarries, said_by}

@@ -15,11 +15,11 @@ ghost use Rattle.rose_roles.specs.Hearing.{Hears, HearsHead, heard_with};
 ghost use Rattle.rose_roles.specs.Calls.{Kept, Invoking, called, key_of, AreOpen, calls_of, open_call, opens_in, KeepsOpen};
 
 use crate::apdu_problems::{judge_error, judge_result};
-use crate::invoked_with::InvokedWith;
-use crate::opening::{called, enter, key_of, leave, own_key};
-use crate::taken::{
+use crate::apdu_taken::{
     RoseTaken, error_taken, is_of_invocation, own_rejected, rejected, result_taken,
 };
+use crate::invoked_with::InvokedWith;
+use crate::opening::{called, enter, key_of, leave, own_key};
 use apdu_spelling::{ApduHead, ApduKind};
 use linked_ops::Forest;
 use osi_base::{NoMemory, Problem, ProblemKind, Syntax};

@@ -15,10 +15,10 @@ ghost use Rattle.rose_roles.specs.ApduProblems.{silent, known_problem, early_pro
 ghost use Rattle.rose_roles.specs.Hearing.{Hears, heard_with};
 
 use crate::apdu_problems::{Judged, is_silent_at, judge_argument, link_problem};
+use crate::apdu_taken::{RoseTaken, invoke_rejected, invoked};
 use crate::invoked_with::InvokedWith;
 use crate::invoker::Invoker;
 use crate::opening::{called, enter, key_of, leave};
-use crate::taken::{RoseTaken, invoke_rejected, invoked};
 use apdu_spelling::ApduHead;
 use asn1_types::Val;
 use linked_ops::Forest;

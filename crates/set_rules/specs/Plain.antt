@@ -1,6 +1,6 @@
 -- A base whose spellings nothing asks for.
 use Rattle.std.specs.Prelude.{ℕ, List, [], Bool, not, ◌||◌, is_some, Err}
-use Rattle.osi_base.specs.declared.words.SetItem.{SetItem}
+use Rattle.osi_base.specs.declared.layer_words.SetItem.{SetItem}
 use Rattle.stub_tables.specs.declared.tables.Tables.{Tables}
 use Rattle.dialogue.specs.declared.config.Config.{Config}
 use Rattle.end_rules.specs.Base.{Base, Spellings, BadReject, base_of}

@@ -1,7 +1,7 @@
 //! Laws of streams: each is the contract of a function that does nothing.
 
 ghost use Rattle.std.specs.Prelude.{◌≡◌, ℕ, ◌<◌, ◌≤◌, ◌++◌, ◌∷◌, List, [], length, take, Option, Some, None, Err, Ok};
-ghost use Rattle.osi_base.specs.declared.words.Kind.{Kind};
+ghost use Rattle.osi_base.specs.declared.layer_words.Kind.{Kind};
 ghost use Rattle.osi_base.specs.Limits.{tsdu_limit};
 ghost use Rattle.tpkt.specs.declared.reader_state.Held.{Held};
 ghost use Rattle.tpkt.specs.declared.packet.TFault.{TFault};

@@ -5,7 +5,7 @@ use Rattle.osi_base.specs.PdvContent.{octets_of}
 use Rattle.osi_base.specs.declared.syntax.Pair.{Pair}
 use Rattle.osi_base.specs.declared.syntax.Syntax.{Syntax}
 use Rattle.osi_base.specs.declared.syntax.Syntax.TheVariants.{Ber, Der, Packed}
-use Rattle.osi_base.specs.declared.words.SetItem.{SetItem}
+use Rattle.osi_base.specs.declared.layer_words.SetItem.{SetItem}
 use Rattle.osi_base.specs.declared.presentation_word.Pdv.{Pdv}
 use Rattle.osi_base.specs.declared.presentation_word.PdvContent.{PdvContent}
 use Rattle.fixed_tables.specs.declared.pdu.PduFault.{PduFault}
@@ -31,7 +31,7 @@ use Rattle.end_model.specs.Opens.{IsProper}
 use Rattle.end_model.specs.Acting.{ReadsBack, IsSaidBack}
 use Rattle.end_model.proofs.Fitting.{same-itself}
 use Rattle.association_wire.specs.Values.{in_form}
-use Rattle.association_reading.specs.declared.carried.Carriage.TheVariants as carriage
+use Rattle.association_reading.specs.declared.layer_of_values.Carriage.TheVariants as carriage
 use Rattle.association_reading.specs.Places.{PdvPlaces, places_of, spot_at}
 use Rattle.association_reading.specs.Contexts.{is_form, is_carried, pdv_fault, invalid_at}
 use Rattle.association_reading.specs.Values.{content_under}

@@ -1,6 +1,6 @@
 use Rattle.std.proofs.Common.{not, nat_eq, rules, tests, ◌∙◌}
 use Rattle.std.proofs.lemmas.Fn.{filter_same}
-use Rattle.osi_base.specs.declared.words.SetItem.{SetItem}
+use Rattle.osi_base.specs.declared.layer_words.SetItem.{SetItem}
 use Rattle.association_sets.proofs.Placing.{without-filter}
 use Rattle.association_sets.proofs.sets.without_context.Goals as goal
 

@@ -3,7 +3,7 @@ use Rattle.std.specs.Prelude.{List, Option, slice_set}
 use Rattle.std.proofs.lemmas.Option.{slice_get_within}
 use Rattle.std.proofs.lemmas.List.{take_rest, length-drop, drop-drop}
 use Rattle.asn1_types.specs.Value.{Value}
-use Rattle.osi_base.specs.declared.words.Kind.TheVariants.{Extra}
+use Rattle.osi_base.specs.declared.layer_words.Kind.TheVariants.{Extra}
 use Rattle.asn1_types.specs.declared.row.TypeRow.TheVariants.{Sequence, SequenceOf, SetOf, Set, Choice, Tagged}
 use Rattle.asn1_types.specs.declared.row.Part.{Part}
 use Rattle.asn1_types.specs.Rows.{begins}

@@ -3,8 +3,8 @@ use Rattle.end_rules.specs.Hearing as rules
 use Rattle.rose_roles.specs.Calls.{calls_of}
 use Rattle.rose_roles.specs.Hearing.{heard_with}
 use Rattle.apdu_spelling.specs.declared.head.ApduKind.TheVariants as kinds
-use Rattle.osi_base.specs.declared.words.ProblemKind.TheVariants as problems
-use Rattle.rose_roles.specs.declared.taken.RoseTaken.TheVariants as taken
+use Rattle.osi_base.specs.declared.layer_words.ProblemKind.TheVariants as problems
+use Rattle.rose_roles.specs.declared.apdu_taken.RoseTaken.TheVariants as taken
 use Rattle.rose_roles.proofs.Outcomes.{said_result, shut_result, carries_of}
 use Rattle.rose_roles.proofs.invoker.Invoker.take_result.Goals as goal
 
