@@ -9,7 +9,7 @@ ghost use Rattle.acse.specs.Rows.{acse_rows};
 ghost use Rattle.acse.specs.Fields.{request_fields, request_passed, response_fields, response_passed, release_fields, release_passed, abort_fields, abort_passed, apdu_at, of_number, any_apdu_at};
 
 use asn1_types::{Class, TypeTable, Val, same_class};
-use ber_spelling::{Opened, ReadFault, Scope, Spot, Tag, identifier, refusal};
+use ber_spelling::{Opened, ReadFault, Scope, Spot, Tag, identifier_octets, refusal};
 use fixed_tables::chosen;
 use osi_base::Kind;
 use passed_fields::{Field, Fields, Passed, fields};
@@ -203,7 +203,7 @@ pub(crate) fn front(
         place: 0,
         rest: bytes,
     };
-    let (opened, spot) = identifier(&scope, start)?;
+    let (opened, spot) = identifier_octets(&scope, start)?;
     let (value, after) = any_apdu(alloc, table, &scope, &opened, spot)?;
     Ok((value, after.place))
 }

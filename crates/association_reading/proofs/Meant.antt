@@ -29,7 +29,7 @@ use Rattle.presentation_pdus.specs.declared.place.PpduFault.{PpduFault}
 use Rattle.presentation_pdus.specs.Words.{written_ppdu}
 use Rattle.ppdu_laws.proofs.UnitsBack.{written_ppdu_is_read}
 use Rattle.presentation_pdus.specs.Units.{ppdu_at}
-use Rattle.end_rules.specs.Base.{Base, Fault, Head}
+use Rattle.end_rules.specs.Base.{Base, Fault, HeardHead}
 use Rattle.end_rules.specs.Hearing.{syntax_of}
 use Rattle.end_wire.specs.Heads.{apdu_of}
 use Rattle.end_rules.specs.Sets.{pair_of}
@@ -168,7 +168,7 @@ pub remote_content : RemoteIsReadBack
 remote_content tables pair apdu readable writable of_module =
     let octets : List ℕ = written_apdu tables pair.transfer apdu in
     let s = written_spelled tables readable pair.transfer apdu writable in
-    let found = ap (λ (h : Head). content_of octets (apdu_of tables h)) (spelled_said tables pair.transfer readable apdu octets s) ∙ ap (content_of octets) (said_is tables pair.transfer readable apdu s.head s.says) in
+    let found = ap (λ (h : HeardHead). content_of octets (apdu_of tables h)) (spelled_said tables pair.transfer readable apdu octets s) ∙ ap (content_of octets) (said_is tables pair.transfer readable apdu s.head s.says) in
     rw of_module (ap (λ (c : ValueContent). let x : Result ValueContent Fault = Ok c in x) found)
 
 without_none : (apdu : Acse) → user_put [] (without_user apdu) ≡ without_user apdu

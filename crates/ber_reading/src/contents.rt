@@ -6,7 +6,8 @@ ghost use Rattle.ber_spelling.specs.Rules.{open_at, close_at, any_at, explicit_a
 
 use asn1_types::{Node, Val};
 use ber_spelling::{
-    Ahead, Opened, ReadFault, Scope, Spot, Tag, expect, extent, look, refusal, whole_value,
+    Ahead, Opened, ReadFault, Scope, Spot, Tag, expect_tag, extent, look_ahead, refusal,
+    whole_value,
 };
 use osi_base::{Kind, Octets};
 use std::alloc::Global;
@@ -25,9 +26,9 @@ pub(crate) fn open<'a>(
     ensures stops { IfOk result (λ x. GoesOn x.1.start.place (length x.1.start.rest.now) x.2) }
     ensures onward { IfOk result (λ x. GoesOn spot.entry.place (length spot.entry.rest.now) x.2) }
 {
-    expect(tag, true, opened)?;
+    expect_tag(tag, true, opened)?;
     let (inside, spot) = extent(scope, spot)?;
-    match look(&inside, spot)? {
+    match look_ahead(&inside, spot)? {
         Ahead::Ended { place, .. } => Err(refusal(place, Kind::Missing)),
         Ahead::Begun(first, after) => Ok((inside, first, after)),
     }
@@ -57,7 +58,7 @@ pub(crate) fn close_behind<'a>(scope: &Scope, spot: Spot<'a>) -> Result<Spot<'a>
     ensures gives { Gives (λ x. spot_of x) result (close_at scope.now (spot_of spot.entry)) }
     ensures stops { IfOk result (λ x. GoesOn spot.entry.place (length spot.entry.rest.now) x) }
 {
-    match look(scope, spot)? {
+    match look_ahead(scope, spot)? {
         Ahead::Ended { after, .. } => Ok(after),
         Ahead::Begun(opened, _) => Err(refusal(opened.start.place, Kind::Extra)),
     }

@@ -21,8 +21,8 @@ use asn1_types::{
     Class, MaybeVals, Node, Part, Parts, TypeId, TypeRow, TypeTable, Val, Vals, begins, text_number,
 };
 use ber_spelling::{
-    Ahead, Opened, ReadFault, Scope, Spot, Tag, bit_string, boolean, enumerated, expect, extent,
-    integer, look, null, object_id, octet_string, rank, refusal, tag_or, text,
+    Ahead, Opened, ReadFault, Scope, Spot, Tag, bit_string, boolean, enumerated, expect_tag,
+    extent, integer, look_ahead, null, object_id, octet_string, refusal, tag_or, tag_rank, text,
 };
 use ber_writing::{follows_last, in_order};
 use osi_base::Kind;
@@ -186,7 +186,7 @@ fn list<'a>(
         (spot_of spot.entry)) }
     ensures stops { IfOk result (λ x. GoesOn spot.entry.place (length spot.entry.rest.now) x.1) }
 {
-    expect(tag, true, opened)?;
+    expect_tag(tag, true, opened)?;
     let (inside, spot) = extent(scope, spot)?;
     let (found, after) = items(alloc, table, of, inner, &inside, spot)?;
     Ok((
@@ -226,7 +226,7 @@ fn items<'a>(
                 continue;
             }
         }
-        match look(scope, spot)? {
+        match look_ahead(scope, spot)? {
             Ahead::Ended { after, .. } => return Ok((found, after)),
             Ahead::Begun(opened, after) => {
                 let (value, next) = value(alloc, table, inner, None, None, scope, &opened, after)?;
@@ -257,7 +257,7 @@ fn set_of<'a>(
         (opened_of opened.now) (spot_of spot.entry)) }
     ensures stops { IfOk result (λ x. GoesOn spot.entry.place (length spot.entry.rest.now) x.1) }
 {
-    expect(tag, true, opened)?;
+    expect_tag(tag, true, opened)?;
     let (inside, spot) = extent(scope, spot)?;
     let (found, after) = set_items(alloc, table, of, inner, &inside, spot)?;
     let sorted = in_order(alloc, table, inner, found)?;
@@ -293,7 +293,7 @@ fn set_items<'a>(
     let mut found = Vec::new(alloc);
     let mut spot = spot;
     for _turn in 0..spot.rest.len() + 1 {
-        match look(scope, spot)? {
+        match look_ahead(scope, spot)? {
             Ahead::Ended { after, .. } => return Ok((found, after)),
             Ahead::Begun(opened, after) => {
                 let item = set_item(alloc, table, of, inner, &found, scope, &opened, after)?;
@@ -445,7 +445,7 @@ pub(crate) fn sequence<'a>(
         (opened_of opened.now) (spot_of spot.entry)) }
     ensures stops { IfOk result (λ x. GoesOn spot.entry.place (length spot.entry.rest.now) x.1) }
 {
-    expect(tag, true, opened)?;
+    expect_tag(tag, true, opened)?;
     let (inside, spot) = extent(scope, spot)?;
     let (found, after) = parts_of(alloc, table, of, parts.as_slice(), &inside, spot)?;
     Ok((
@@ -504,7 +504,7 @@ fn part_of<'a>(
         (spot_of spot.entry)) }
     ensures stops { IfOk result (λ x. GoesOn spot.entry.place (length spot.entry.rest.now) x.1) }
 {
-    match look(scope, spot)? {
+    match look_ahead(scope, spot)? {
         Ahead::Ended { place, .. } => absent(part, place, spot),
         Ahead::Begun(opened, after) => {
             part_begun(alloc, table, of, part, scope, spot, &opened, after)
@@ -563,7 +563,7 @@ fn set<'a>(
         (spot_of spot.entry)) }
     ensures stops { IfOk result (λ x. GoesOn spot.entry.place (length spot.entry.rest.now) x.1) }
 {
-    expect(tag, true, opened)?;
+    expect_tag(tag, true, opened)?;
     let (inside, spot) = extent(scope, spot)?;
     let found = none_of(alloc, parts.as_slice())?;
     let (found, after) = slots(alloc, table, of, parts.as_slice(), found, &inside, spot)?;
@@ -598,7 +598,7 @@ fn slots<'a>(
     let mut least: u64 = 0;
     let mut spot = spot;
     for _turn in 0..spot.rest.len() + 1 {
-        match look(scope, spot)? {
+        match look_ahead(scope, spot)? {
             Ahead::Ended { place, after } => {
                 if is_filled(parts, &found) {
                     settle(parts, &mut found);
@@ -612,7 +612,7 @@ fn slots<'a>(
                 )?;
                 let (which, value, next) = slot;
                 found[which] = Some(value);
-                least = rank(opened.class, opened.number) + 1;
+                least = tag_rank(opened.class, opened.number) + 1;
                 spot = next;
             }
         }
@@ -684,7 +684,7 @@ fn ordered<'a>(
         (opened_of opened.now) (spot_of spot.entry)) }
     ensures stops { IfOk result (λ x. GoesOn spot.entry.place (length spot.entry.rest.now) x.1) }
 {
-    if scope.strict && rank(opened.class, opened.number) < least {
+    if scope.strict && tag_rank(opened.class, opened.number) < least {
         return Err(late(alloc, table, of, part, Kind::Form, scope, opened, spot));
     }
     let default = part.default;

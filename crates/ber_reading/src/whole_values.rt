@@ -13,7 +13,7 @@ ghost use Rattle.ber_reading.specs.Calls.{IsRead, GivesRead};
 use crate::read::{sequence, value};
 use crate::short_parts::first_identifier;
 use asn1_types::{Class, Parts, TypeId, TypeRow, TypeTable, Val};
-use ber_spelling::{Opened, ReadFault, Scope, Spot, Tag, identifier};
+use ber_spelling::{Opened, ReadFault, Scope, Spot, Tag, identifier_octets};
 use std::alloc::Global;
 
 /// How many octets a value may have.
@@ -143,7 +143,7 @@ fn read_from(
         place: 0,
         rest: bytes,
     };
-    let (opened, spot) = identifier(&scope, start)?;
+    let (opened, spot) = identifier_octets(&scope, start)?;
     read_behind(alloc, table, of, &scope, &opened, spot)
 }
 

@@ -141,7 +141,10 @@ fn high<'a>(
 /// The identifier at this spot (X.690 8.1.2), and where reading goes on; or the first fault in it.
 #[tactic(auto, unfolding(crate::specs::Fields::identifier_at))]
 #[inline(always)]
-pub fn identifier<'a>(scope: &Scope, start: Spot<'a>) -> Result<(Opened<'a>, Spot<'a>), ReadFault>
+pub fn identifier_octets<'a>(
+    scope: &Scope,
+    start: Spot<'a>,
+) -> Result<(Opened<'a>, Spot<'a>), ReadFault>
     requires { start.place + length start.rest.now < 2 ^ 63 }
     ensures gives { Gives (λ x. (opened_of x.0, spot_of x.1)) result
         (identifier_at scope.now start.entry.place start.entry.rest.now) }
@@ -420,7 +423,7 @@ fn begin<'a>(scope: &Scope, spot: Spot<'a>) -> Result<Ahead<'a>, ReadFault>
     ensures no_memory { IfErr result (λ e. e ≢ ReadFault.NoMemory) }
     ensures stops { IfOk result (LiesIn spot.entry.place (length spot.entry.rest.now)) }
 {
-    let (opened, after) = identifier(scope, spot)?;
+    let (opened, after) = identifier_octets(scope, spot)?;
     Ok(Ahead::Begun(opened, after))
 }
 
@@ -463,7 +466,7 @@ fn mark<'a>(scope: &Scope, spot: Spot<'a>) -> Result<Ahead<'a>, ReadFault>
 /// Whether contents end here (X.690 8.1.5), or what begins here; or the first fault in it.
 #[tactic(auto, unfolding(crate::specs::Fields::look_at))]
 #[inline(always)]
-pub fn look<'a>(scope: &Scope, spot: Spot<'a>) -> Result<Ahead<'a>, ReadFault>
+pub fn look_ahead<'a>(scope: &Scope, spot: Spot<'a>) -> Result<Ahead<'a>, ReadFault>
     requires { spot.place + length spot.rest.now < 2 ^ 63 }
     ensures gives { Gives (λ x. ahead_of x) result
         (look_at scope.now spot.entry.place spot.entry.rest.now) }

@@ -9,7 +9,7 @@ use crate::fault::ReadFault;
 use crate::fields::{contents, refusal};
 use crate::primitives::{arcs_of, integer_of};
 use crate::spot::{Opened, Scope, Spot};
-use crate::tag::expect;
+use crate::tag::expect_tag;
 use asn1_types::{Item, Node, Tag, Val, is_item};
 use osi_base::Kind;
 use std::alloc::Global;
@@ -54,7 +54,7 @@ pub fn boolean<'a>(
     ensures no_memory { IfErr result (λ e. e ≢ ReadFault.NoMemory) }
     ensures stops { IfOk result (λ x. GoesOn spot.entry.place (length spot.entry.rest.now) x.1) }
 {
-    expect(tag, false, opened)?;
+    expect_tag(tag, false, opened)?;
     let (place, octets, after) = contents(scope, spot)?;
     match octets {
         [octet] => {
@@ -92,7 +92,7 @@ pub fn enumerated<'a>(
     ensures no_memory { IfErr result (λ e. e ≢ ReadFault.NoMemory) }
     ensures stops { IfOk result (λ x. GoesOn spot.entry.place (length spot.entry.rest.now) x.1) }
 {
-    expect(tag, false, opened)?;
+    expect_tag(tag, false, opened)?;
     let (place, octets, after) = contents(scope, spot)?;
     match integer_of(octets) {
         Some(number) if is_item(items, number) => {
@@ -126,7 +126,7 @@ pub fn integer<'a>(
     ensures no_memory { IfErr result (λ e. e ≢ ReadFault.NoMemory) }
     ensures stops { IfOk result (λ x. GoesOn spot.entry.place (length spot.entry.rest.now) x.1) }
 {
-    expect(tag, false, opened)?;
+    expect_tag(tag, false, opened)?;
     let (place, octets, after) = contents(scope, spot)?;
     match integer_of(octets) {
         Some(number) if low <= number && number <= high => {
@@ -155,7 +155,7 @@ pub fn null<'a>(
     ensures no_memory { IfErr result (λ e. e ≢ ReadFault.NoMemory) }
     ensures stops { IfOk result (λ x. GoesOn spot.entry.place (length spot.entry.rest.now) x.1) }
 {
-    expect(tag, false, opened)?;
+    expect_tag(tag, false, opened)?;
     let (place, octets, after) = contents(scope, spot)?;
     match octets {
         [] => Ok((Val { node: Node::Null }, after)),
@@ -180,7 +180,7 @@ pub fn object_id<'a>(
         (spot_of spot.entry)) }
     ensures stops { IfOk result (λ x. GoesOn spot.entry.place (length spot.entry.rest.now) x.1) }
 {
-    expect(tag, false, opened)?;
+    expect_tag(tag, false, opened)?;
     let (place, octets, after) = contents(scope, spot)?;
     match arcs_of(alloc, octets)? {
         Some(oid) => Ok((

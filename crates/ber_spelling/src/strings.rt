@@ -6,9 +6,9 @@ ghost use Rattle.ber_spelling.specs.Reading.{Gives, spot_of, opened_of, GoesOn};
 ghost use Rattle.ber_spelling.specs.Rules.{always, primitive_at, constructed_at, segment_tag, is_segment, nothing, gathered, segment_rule, segment_at, all_items_at, segmented_at, string_rule, string_at, cleared, kind_of, whole_by, canonical_by, whole_octets, whole_text, whole_bits, has_zero_bits};
 
 use crate::fault::ReadFault;
-use crate::fields::{contents, extent, look, refusal};
+use crate::fields::{contents, extent, look_ahead, refusal};
 use crate::spot::{Ahead, Gathered, Opened, Scope, Spot, StringKind, StringRule};
-use crate::tag::expect;
+use crate::tag::expect_tag;
 use asn1_types::{Class, Node, Tag, TextKind, Val, are_bits, is_text};
 use osi_base::{Kind, NoMemory, Octets, power_of_2};
 use std::alloc::Global;
@@ -92,7 +92,7 @@ fn segments<'a>(
     let mut spot = spot;
     let mut gathered = before;
     for _turn in 0..spot.rest.len() + 1 {
-        match look(scope, spot)? {
+        match look_ahead(scope, spot)? {
             Ahead::Ended { after, .. } => return Ok((gathered, after)),
             Ahead::Begun(opened, after) => {
                 let (more, next) = segment(kind, depth, scope, &opened, after, gathered)?;
@@ -145,7 +145,7 @@ fn nested<'a>(
         (segment_tag kind) scope.now (opened_of opened.now) (spot_of spot.entry)) }
     ensures stops { IfOk result (λ x. GoesOn spot.entry.place (length spot.entry.rest.now) x.1) }
 {
-    expect(segment_tag(kind), true, opened)?;
+    expect_tag(segment_tag(kind), true, opened)?;
     let (inside, spot) = extent(scope, spot)?;
     segments(kind, depth, &inside, spot, before)
 }
@@ -165,7 +165,7 @@ fn single<'a>(
         (opened_of opened.now) (spot_of spot.entry)) }
     ensures stops { IfOk result (λ x. GoesOn spot.entry.place (length spot.entry.rest.now) x.1) }
 {
-    expect(segment_tag(kind), false, opened)?;
+    expect_tag(segment_tag(kind), false, opened)?;
     let (place, octets, after) = contents(scope, spot)?;
     if !is_segment(kind, octets) {
         return Err(refusal(place, Kind::Content));
@@ -273,7 +273,7 @@ fn segmented<'a>(
         (spot_of spot.entry)) }
     ensures stops { IfOk result (λ x. GoesOn spot.entry.place (length spot.entry.rest.now) x.1) }
 {
-    expect(tag, true, opened)?;
+    expect_tag(tag, true, opened)?;
     if scope.strict {
         return Err(refusal(opened.start.place, Kind::Form));
     }
@@ -301,7 +301,7 @@ fn primitive<'a>(
         (opened_of opened.now) (spot_of spot.entry)) }
     ensures stops { IfOk result (λ x. GoesOn spot.entry.place (length spot.entry.rest.now) x.1) }
 {
-    expect(tag, false, opened)?;
+    expect_tag(tag, false, opened)?;
     let (place, octets, after) = contents(scope, spot)?;
     match ruled(alloc, rule, octets)? {
         Some(value) => {

@@ -5,7 +5,7 @@ ghost use Rattle.ber_spelling.specs.Reading.{Gives, spot_of, opened_of, behind_o
 ghost use Rattle.ber_spelling.specs.Rules.{all_items_at, sized_at, marked_at, whole_at};
 
 use crate::fault::ReadFault;
-use crate::fields::{contents, extent, look, refusal};
+use crate::fields::{contents, extent, look_ahead, refusal};
 use crate::spot::{Ahead, Opened, Scope, Spot};
 use asn1_types::{is_marked, is_no_tag};
 use osi_base::Kind;
@@ -32,7 +32,7 @@ fn whole_values<'a>(levels: u32, scope: &Scope, spot: Spot<'a>) -> Result<Spot<'
 {
     let mut spot = spot;
     for _turn in 0..spot.rest.len() + 1 {
-        match look(scope, spot)? {
+        match look_ahead(scope, spot)? {
             Ahead::Ended { after, .. } => return Ok(after),
             Ahead::Begun(opened, after) => spot = whole_value(levels, scope, &opened, after)?,
         }

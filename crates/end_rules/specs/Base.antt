@@ -23,13 +23,13 @@ pub data Carried : Type 0 where
 
 -- what the octets of an APDU say down to its value (X.882 9); General: what no head is read from, with
 -- the number of the general problem; BadReject: a reject that can't be read
-pub data Head : Type 0 where
-  General : ℕ → Head
-  BadReject : Head
-  InvokeHead : (id : ℤ) → (linked : Option ℤ) → (code : Code) → (argument : Carried) → Head
-  ResultHead : (id : ℤ) → (code : Option Code) → (value : Carried) → Head
-  ErrorHead : (id : ℤ) → (code : Code) → (parameter : Carried) → Head
-  RejectHead : (id : Option ℤ) → (problem : Problem) → Head
+pub data HeardHead : Type 0 where
+  General : ℕ → HeardHead
+  BadReject : HeardHead
+  InvokeHead : (id : ℤ) → (linked : Option ℤ) → (code : Code) → (argument : Carried) → HeardHead
+  ResultHead : (id : ℤ) → (code : Option Code) → (value : Carried) → HeardHead
+  ErrorHead : (id : ℤ) → (code : Code) → (parameter : Carried) → HeardHead
+  RejectHead : (id : Option ℤ) → (problem : Problem) → HeardHead
 
 -- an APDU on a context, with the pair under which it is written or was read
 pub record Item : Type 0 where
@@ -55,7 +55,7 @@ pub record Spellings : Type 0 where
   -- the one spelling of an APDU in a syntax
   pub apdu : Syntax → Apdu → List ℕ
   -- what octets say of an APDU in a syntax
-  pub head : Syntax → List ℕ → Head
+  pub head : Syntax → List ℕ → HeardHead
   -- the octets of a transfer, one PDV-list
   pub transfer : Item → List ℕ
   -- what the octets of a transfer are under a set, or their fault

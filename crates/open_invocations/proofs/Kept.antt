@@ -15,7 +15,7 @@ use Rattle.apdu_spelling.specs.declared.head.ApduHead.{ApduHead}
 use Rattle.linked_ops.specs.declared.key.Key.{Key}
 use Rattle.linked_ops.specs.Keys.{same_bool, same_key}
 use Rattle.linked_ops.specs.Entries.{Entry, is_open, is_open_or_none}
-use Rattle.end_rules.specs.Base.{Base, Carried, Head, General, BadReject, InvokeHead, ResultHead, ErrorHead, RejectHead}
+use Rattle.end_rules.specs.Base.{Base, Carried, HeardHead, General, BadReject, InvokeHead, ResultHead, ErrorHead, RejectHead}
 use Rattle.end_rules.specs.State as ends
 use Rattle.end_rules.specs.State.{Calls, OpenCall, opened_with}
 use Rattle.end_rules.specs.Hearing as rules
@@ -215,7 +215,7 @@ module _ (base : Base) (c : Calls) (at : ℕ) where
       by true = quiet_closed true id c
       by false = quiet c
 
-  pub hearing_is_quiet : (h : Head) → Q (rules.hear base c at h)
+  pub hearing_is_quiet : (h : HeardHead) → Q (rules.hear base c at h)
   hearing_is_quiet (General number) = quiet c
   hearing_is_quiet BadReject = quiet c
   hearing_is_quiet (InvokeHead id linked code argument) = unless _ _ _ (λ n. quiet c) (of_invoke id linked _ argument)

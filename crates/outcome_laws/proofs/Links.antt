@@ -9,7 +9,7 @@ use Rattle.stub_tables.specs.Lookup.{operation_at, operation_with, error_with}
 use Rattle.dialogue.specs.declared.call.Call.{Call}
 use Rattle.dialogue.specs.declared.indication.Indication.{Indication}
 use Rattle.dialogue.specs.declared.indication.Indication.TheVariants as indications
-use Rattle.end_rules.specs.Base.{Base, Carried, Head, General, BadReject, InvokeHead, ResultHead, ErrorHead, RejectHead, is_reliable, most_open}
+use Rattle.end_rules.specs.Base.{Base, Carried, HeardHead, General, BadReject, InvokeHead, ResultHead, ErrorHead, RejectHead, is_reliable, most_open}
 use Rattle.end_rules.specs.Messages.{DataValue, Message, Transport, Session, OfAssociation, OfData, OfMarks, OfActivities, DataWord, Values, AlterContext, AlterContextAck}
 use Rattle.end_rules.specs.Messages.{ActivityWord, Start, Resume, End, EndAck, Interrupt, InterruptAck, Discard, DiscardAck}
 use Rattle.end_rules.specs.State.{Body, OpenCall, Calls, opens_of, opened_with, close}
@@ -119,7 +119,7 @@ reject-links base asked calls (Some id) problem = go (is_of_invocation problem.k
     go true = tt
     go false = tt
 
-heard-links : (base : Base) (asked : List Asked) (calls : Calls) (shown : List Indication) (context : ℕ) (head : Head) → Once base.tables asked calls shown → Links base asked (hear base calls context head)
+heard-links : (base : Base) (asked : List Asked) (calls : Calls) (shown : List Indication) (context : ℕ) (head : HeardHead) → Once base.tables asked calls shown → Links base asked (hear base calls context head)
 heard-links base asked calls shown context (General number) h = tt
 heard-links base asked calls shown context BadReject h = tt
 heard-links base asked calls shown context (InvokeHead id linked code argument) h =

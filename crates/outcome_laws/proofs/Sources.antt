@@ -14,7 +14,7 @@ use Rattle.dialogue.specs.declared.config.Mode.TheVariants.{Bare, Direct, Reliab
 use Rattle.dialogue.specs.declared.call.Call.{Call}
 use Rattle.dialogue.specs.declared.call.Call.TheVariants as the_calls
 use Rattle.dialogue.specs.declared.indication.Indication.{Indication}
-use Rattle.end_rules.specs.Base.{Base, Fault, Head, is_bare, is_reliable}
+use Rattle.end_rules.specs.Base.{Base, Fault, HeardHead, is_bare, is_reliable}
 use Rattle.end_rules.specs.Sets.{Alteration}
 use Rattle.end_rules.specs.Messages.{DataValue, Message, Transport, Session, Word, OfAssociation, OfData, OfMarks, OfActivities, TransportUnit, ConnectionRequest, ConnectionConfirm, DisconnectRequest, TransportError, unit_of}
 use Rattle.end_rules.specs.Messages.{AssociationWord, Connect, Accept, Refuse, Finish, Disconnect, Abort, AbortAccept, DataWord, Values, AlterContext, AlterContextAck}
@@ -244,7 +244,7 @@ reject-so base body context (Some r) wrote h = go (is_reliable base.mode) (carri
     go false None = h
     go false (Some id) = sourced-more (_ ∷ []) wrote body.sending h
 
-head-so : (base : Base) (body : Body) (context : ℕ) (head : Head) (wrote : List Apdu) → Sourced wrote body.sending → Sourced (rejects_in (take_head base body context head).shown ++ wrote) (take_head base body context head).body.sending
+head-so : (base : Base) (body : Body) (context : ℕ) (head : HeardHead) (wrote : List Apdu) → Sourced wrote body.sending → Sourced (rejects_in (take_head base body context head).shown ++ wrote) (take_head base body context head).body.sending
 head-so base body context head wrote h =
     let heard = hear base body.calls context head in
     let with_it = with_reject base (record body { calls = heard.calls }) context heard.reject in

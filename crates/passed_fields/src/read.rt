@@ -14,7 +14,8 @@ use crate::field::{Field, Fields, Holds, Passed};
 use asn1_types::{Class, MaybeVals, Node, TypeId, TypeTable, Val, Vals, same_class};
 use ber_reading::{any_value, value};
 use ber_spelling::{
-    Ahead, Opened, ReadFault, Scope, Spot, Tag, expect, extent, look, refusal, whole_value,
+    Ahead, Opened, ReadFault, Scope, Spot, Tag, expect_tag, extent, look_ahead, refusal,
+    whole_value,
 };
 use osi_base::{Kind, NoMemory};
 use std::alloc::Global;
@@ -35,7 +36,7 @@ pub fn some_values<'a>(
         (some_at (reads table.now of.0) tag scope.now (opened_of opened.now) (spot_of spot.entry)) }
     ensures stops { IfOk result (λ x. GoesOn spot.entry.place (length spot.entry.rest.now) x.1) }
 {
-    expect(tag, true, opened)?;
+    expect_tag(tag, true, opened)?;
     let (inside, spot) = extent(scope, spot)?;
     some_items(alloc, table, of, &inside, spot)
 }
@@ -57,7 +58,7 @@ fn some_items<'a>(
     let mut found = Vec::new(alloc);
     let mut spot = spot;
     for _turn in 0..spot.rest.len() + 1 {
-        match look(scope, spot)? {
+        match look_ahead(scope, spot)? {
             Ahead::Ended { place, after } => {
                 let Some(value) = some_list(found) else {
                     return Err(refusal(place, Kind::Missing));
@@ -302,7 +303,7 @@ fn all_fields<'a>(
     let mut found = Vec::new(alloc);
     let mut spot = spot;
     for _turn in 0..spot.rest.len() + 1 {
-        match look(scope, spot)? {
+        match look_ahead(scope, spot)? {
             Ahead::Ended { place, after } => {
                 let Some(value) = ended(fields.known, found)? else {
                     return Err(refusal(place, Kind::Missing));
@@ -337,7 +338,7 @@ pub fn fields<'a>(
         (opened_of opened.now) (spot_of spot.entry)) }
     ensures stops { IfOk result (λ x. GoesOn spot.entry.place (length spot.entry.rest.now) x.1) }
 {
-    expect(tag, true, opened)?;
+    expect_tag(tag, true, opened)?;
     let (inside, spot) = extent(scope, spot)?;
     all_fields(alloc, table, fields, &inside, spot)
 }

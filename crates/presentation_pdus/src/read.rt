@@ -20,7 +20,8 @@ use crate::place::PpduPlace;
 use asn1_types::{Class, TypeId, TypeTable, Val, same_class};
 use ber_reading::value;
 use ber_spelling::{
-    Ahead, Opened, ReadFault, Scope, Spot, Tag, expect, extent, identifier, look, refusal,
+    Ahead, Opened, ReadFault, Scope, Spot, Tag, expect_tag, extent, identifier_octets, look_ahead,
+    refusal,
 };
 use fixed_tables::{chosen, sequence};
 use osi_base::{Kind, NoMemory};
@@ -160,7 +161,7 @@ fn all_halves<'a>(
     let mut halves: Halves = (None, None);
     let mut spot = spot;
     for _turn in 0..spot.rest.len() + 1 {
-        match look(scope, spot)? {
+        match look_ahead(scope, spot)? {
             Ahead::Ended { place, after } => {
                 let Some(value) = both(alloc, halves)? else {
                     return Err(refusal(place, Kind::Missing));
@@ -199,7 +200,7 @@ fn selected<'a>(
         class: Class::Universal,
         number: 17,
     };
-    expect(set_tag, true, opened)?;
+    expect_tag(set_tag, true, opened)?;
     let (inside, spot) = extent(scope, spot)?;
     all_halves(alloc, table, shape, &inside, spot)
 }
@@ -465,7 +466,7 @@ pub(crate) fn front(
         place: 0,
         rest: bytes,
     };
-    let (opened, spot) = identifier(&scope, start)?;
+    let (opened, spot) = identifier_octets(&scope, start)?;
     let (value, after) = unit(alloc, table, place, &scope, &opened, spot)?;
     Ok((value, after.place))
 }

@@ -10,7 +10,7 @@ use Rattle.dialogue.specs.declared.indication.Indication.{Indication}
 use Rattle.stub_tables.specs.declared.apdu.Apdu.{Apdu}
 use Rattle.stub_tables.specs.declared.apdu.Apdu.TheVariants as apdus
 use Rattle.stub_tables.specs.Lookup.{operation_at}
-use Rattle.end_rules.specs.Base.{Base, Head, General, BadReject, InvokeHead, ResultHead, ErrorHead, RejectHead, most_open}
+use Rattle.end_rules.specs.Base.{Base, HeardHead, General, BadReject, InvokeHead, ResultHead, ErrorHead, RejectHead, most_open}
 use Rattle.end_rules.specs.State.{Body, Calls, Transfer}
 use Rattle.end_rules.specs.Hearing.{Heard, Rejecting, is_silent_at, has_links, on_heard}
 use Rattle.agreement.specs.Messages as model
@@ -54,7 +54,7 @@ first-code : List Handed → ℕ
 first-code [] = 0
 first-code (item ∷ items) = code-in item.apdu
 
-outcome-small : (head : Head) → code-of (outcome_due head) ≤ last_problem
+outcome-small : (head : HeardHead) → code-of (outcome_due head) ≤ last_problem
 unfolding code-of
 outcome-small (General n) = omega arith
 outcome-small BadReject = omega arith

@@ -9,7 +9,7 @@ use Rattle.apdu_spelling.specs.declared.head.ApduHead.{ApduHead}
 use Rattle.apdu_codec.specs.declared.fault.HeadFault as faults
 use Rattle.apdu_codec.specs.declared.fault.HeadFault.TheVariants as fault
 use Rattle.dialogue.specs.declared.indication.Indication.TheVariants as indications
-use Rattle.end_rules.specs.Base.{Base, Carried, Head}
+use Rattle.end_rules.specs.Base.{Base, Carried, HeardHead}
 use Rattle.end_rules.specs.State as ends
 use Rattle.end_rules.specs.Hearing.{Heard, told, hear, problem_with}
 use Rattle.rose_roles.specs.declared.apdu_taken.RoseTaken as takens
@@ -29,7 +29,7 @@ heard_with calls taken.BadReject = told calls indications.BadReject
 heard_with calls (taken.Reject id problem) = record { calls = calls; shown = []; reject = Some (record { id = id; problem = problem }) }
 
 -- The answer, with the open invocations afterwards, is what an end with these tables hears in a head that carries this.
-abbrev pub HearsHead : Tables → ℕ → (Carried → Head) → (Carried → Type 0) → ends.Calls → ends.Calls → takens.RoseTaken → Type 0
+abbrev pub HearsHead : Tables → ℕ → (Carried → HeardHead) → (Carried → Type 0) → ends.Calls → ends.Calls → takens.RoseTaken → Type 0
 HearsHead tables context head Carrying before after answer =
     (base : Base) (carried : Carried) → base.tables ≡ tables → Carrying carried → heard_with after answer ≡ hear base before context (head carried)
 

@@ -18,7 +18,7 @@ use Rattle.apdu_spelling.specs.Writing.{written_apdu, IsWritable}
 use Rattle.apdu_spelling.proofs.Written.{written_spelled}
 use Rattle.dialogue.specs.declared.config.Config.{Config}
 use Rattle.dialogue.specs.declared.config.Mode.{Mode}
-use Rattle.end_rules.specs.Base.{Base, Head, Item, Fault, Whole, acse_name}
+use Rattle.end_rules.specs.Base.{Base, HeardHead, Item, Fault, Whole, acse_name}
 use Rattle.end_rules.specs.Sets.{same_name, pair_of}
 use Rattle.end_rules.specs.Faults.{fault_if, or_fault}
 use Rattle.end_rules.specs.Messages.{ValueContent, Remote}
@@ -90,7 +90,7 @@ module _ (tables : Tables) (config : Config) (initiator : Bool) (mode : Mode) (m
   remote-content : (item : Item) → IsTransferable base item.apdu → IsPlaced base item → content_under tables carriage.Module item.pair (text item) ≡ Ok (Remote item.apdu)
   remote-content item t p =
       let s = written_spelled tables module_s.readable item.pair.transfer item.apdu (writable-so item t) in
-      let found = ap (λ (h : Head). content_of (text item) (apdu_of tables h)) (spelled_said tables item.pair.transfer module_s.readable item.apdu (text item) s) ∙ ap (content_of (text item)) (said_is tables item.pair.transfer module_s.readable item.apdu s.head s.says) in
+      let found = ap (λ (h : HeardHead). content_of (text item) (apdu_of tables h)) (spelled_said tables item.pair.transfer module_s.readable item.apdu (text item) s) ∙ ap (content_of (text item)) (said_is tables item.pair.transfer module_s.readable item.apdu s.head s.says) in
       rw (of-module item p) (ap (λ (c : ValueContent). let x : Result ValueContent Fault = Ok c in x) found)
 
   arrives-under : (item : Item) (at : PdvPlaces) → IsTransferable base item.apdu → IsPlaced base item → arrived_under tables at (pdv item) (Some item.pair) ≡ Ok (Whole item)

@@ -41,14 +41,14 @@ pub fn natural(text: &[u8]) -> Option<u64>
 }
 
 /// The number of a text, of 32 bits.
-pub fn number(text: &[u8]) -> Option<u32>
+pub fn decimal_number(text: &[u8]) -> Option<u32>
     ensures { result ≡ number_of text.now }
 {
     u32::try_from(natural(text)?).ok()
 }
 
 /// The identifier of an invocation: digits alone.
-pub fn identifier(text: &[u8]) -> Option<i64>
+pub fn invocation_identifier(text: &[u8]) -> Option<i64>
     ensures { result ≡ identifier_of text.now }
 {
     i64::try_from(natural(text)?).ok()
@@ -68,6 +68,6 @@ pub fn integer(text: &[u8]) -> Option<i64>
 {
     match text {
         [b'-', digits @ ..] => negative(natural(digits)?),
-        _ => identifier(text),
+        _ => invocation_identifier(text),
     }
 }

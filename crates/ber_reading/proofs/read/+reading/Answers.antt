@@ -41,12 +41,12 @@ choice-value-requires t c =
 
 pub sequence-returns-in_err-found-clause-gives : goal.sequence-returns-in_err-found-clause-gives
 sequence-returns-in_err-found-clause-gives t c =
-    let h = sequence_fails (begins c.args.table.now) (reads c.args.table.now) c.args.parts.now c.args.tag c.args.scope.now c.in_ok-inside.inside (opened_of c.args.opened.now) (spot_of c.args.spot) (spot_of c.in_ok-inside.spot) _ c.in_ok-expect.ensures.gives c.in_ok-inside.ensures.gives c.in_err-found.field-0.0 (rw c.as_slice.ensures at c.in_err-found.ensures.gives) in
+    let h = sequence_fails (begins c.args.table.now) (reads c.args.table.now) c.args.parts.now c.args.tag c.args.scope.now c.in_ok-inside.inside (opened_of c.args.opened.now) (spot_of c.args.spot) (spot_of c.in_ok-inside.spot) _ c.in_ok-expect_tag.ensures.gives c.in_ok-inside.ensures.gives c.in_err-found.field-0.0 (rw c.as_slice.ensures at c.in_err-found.ensures.gives) in
     search rules
 
 pub sequence-returns-clause-gives : goal.sequence-returns-clause-gives
 sequence-returns-clause-gives t c =
-    sequence_gives (begins c.args.table.now) (reads c.args.table.now) c.args.parts.now c.args.tag c.args.scope.now c.in_ok-inside.inside (opened_of c.args.opened.now) (spot_of c.args.spot) (spot_of c.in_ok-inside.spot) _ c.in_ok-expect.ensures.gives c.in_ok-inside.ensures.gives c.in_ok-found.found.items (spot_of c.in_ok-found.after) (rw c.as_slice.ensures at c.in_ok-found.ensures.gives)
+    sequence_gives (begins c.args.table.now) (reads c.args.table.now) c.args.parts.now c.args.tag c.args.scope.now c.in_ok-inside.inside (opened_of c.args.opened.now) (spot_of c.args.spot) (spot_of c.in_ok-inside.spot) _ c.in_ok-expect_tag.ensures.gives c.in_ok-inside.ensures.gives c.in_ok-found.found.items (spot_of c.in_ok-found.after) (rw c.as_slice.ensures at c.in_ok-found.ensures.gives)
 
 pub tagged_choice-choice-requires : goal.tagged_choice-choice-requires
 tagged_choice-choice-requires t c =
@@ -262,7 +262,7 @@ slots-loop-turn-preserved t c =
     record {
       onward = goes_then c.loop-turn.invariant.onward (goes_then opens.behind c.in_ok-slot-in-Begun.ensures.stops);
       slots = set_length c.loop-turn.found.items c.in_ok-slot-in-Begun.slot.0 (Some c.in_ok-slot-in-Begun.slot.1) ∙ c.loop-turn.invariant.slots;
-      so_far = ap (λ r. items_at (slot_at (begins c.args.table.now) (reads c.args.table.now) 0 c.args.parts.now) (set_done c.args.parts.now) (length c.args.spot.rest.now + 1 - (c.loop-turn._turn + 1)) (record { found = filled; least = r + 1 }) c.args.scope.now (spot_of c.in_ok-slot-in-Begun.slot.2)) c.rank-least.ensures.value
+      so_far = ap (λ r. items_at (slot_at (begins c.args.table.now) (reads c.args.table.now) 0 c.args.parts.now) (set_done c.args.parts.now) (length c.args.spot.rest.now + 1 - (c.loop-turn._turn + 1)) (record { found = filled; least = r + 1 }) c.args.scope.now (spot_of c.in_ok-slot-in-Begun.slot.2)) c.tag_rank-least.ensures.value
           ∙ ap (λ k. items_at (slot_at (begins c.args.table.now) (reads c.args.table.now) 0 c.args.parts.now) (set_done c.args.parts.now) k (record { found = filled; least = rank c.in-Begun.opened.class c.in-Begun.opened.number + 1 }) c.args.scope.now (spot_of c.in_ok-slot-in-Begun.slot.2)) (sym less) ∙ goes;
     }
 
