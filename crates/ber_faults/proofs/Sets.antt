@@ -26,7 +26,7 @@ use Rattle.ber_faults.proofs.Steps.{bind_err, bind_fails, cond_err, cond_yes, co
 use Rattle.ber_faults.proofs.Readers.{Finds, Tells, BodyFinds, BodyTells, step_finds, step_tells, refused, refusal_is}
 use Rattle.ber_faults.proofs.Alone.{TellsAlone, no_octets}
 use Rattle.ber_faults.proofs.Items.{all_finds, all_tells}
-use Rattle.ber_faults.proofs.SetSteps.{slot_found, slot_only}
+use Rattle.ber_spelling.proofs.Sets.{slot_found, slot_only}
 
 -- ---- a part that may not stand here
 

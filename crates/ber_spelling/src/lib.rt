@@ -26,7 +26,7 @@ pub use laws::{
 pub use octets::{are_octets, hold_octets};
 pub use order::{RANKS, rank_of, tag_rank};
 pub use plain_values::{boolean, enumerated, integer, is_other_number, null, object_id};
-pub use primitives::{integer_of, is_padded, ones_above};
+pub use primitives::{integer_of, is_padded};
 pub use spot::{Ahead, Gathered, Opened, Scope, Spot, StringKind, StringRule};
 pub use strings::{bit_string, octet_string, text};
 pub use tag::{expect_tag, tag_or};

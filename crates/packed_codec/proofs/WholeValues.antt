@@ -6,7 +6,7 @@ use Rattle.asn1_types.specs.Value.{Value}
 use Rattle.packed_codec.specs.declared.fault.PackedFault.{PackedFault}
 use Rattle.packed_codec.specs.declared.fault.PackedFault.TheVariants as faults
 use Rattle.packed_codec.specs.declared.whole_values.Read.{Read}
-use Rattle.packed_codec.specs.Octets.{AreOctets}
+use Rattle.ber_spelling.specs.Octets.{AreOctets}
 use Rattle.packed_codec.specs.Reading.{Spot, Reading, ◌>>=◌, Gives}
 use Rattle.asn1_types.specs.Limits.{most_items}
 use Rattle.packed_codec.specs.Rules.{reads, start, read_at}

@@ -10,9 +10,10 @@ use Rattle.asn1_types.specs.Defaults.{is_item, may_be_absent, is_default}
 use Rattle.asn1_types.specs.Fits.{are_bits, is_text}
 use Rattle.asn1_types.specs.Value.{Value, boolean, integer, null, octets, bits, object_id, text, parts, list, chosen}
 use Rattle.asn1_types.specs.ValueView.{parts_of, values_of}
+use Rattle.ber_spelling.specs.Primitives.{integer_of}
 use Rattle.packed_codec.specs.Reading.{Spot, Reading, ◌>>=◌, refuse}
 use Rattle.packed_codec.specs.Fields.{announced_at, octet_at, count_at}
-use Rattle.packed_codec.specs.Numbers.{is_size, integer_of, integer_octets}
+use Rattle.packed_codec.specs.Numbers.{is_size, integer_octets}
 use Rattle.packed_codec.specs.ObjectIds.{arcs_of}
 use Rattle.asn1_types.specs.Writing.{written}
 use Rattle.asn1_types.specs.Rising.{behind_last}

@@ -7,7 +7,6 @@ mod field_writing;
 mod fields;
 mod laws;
 mod measure;
-mod numbers;
 mod object_ids;
 mod octets;
 mod read;

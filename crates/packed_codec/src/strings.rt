@@ -2,17 +2,25 @@
 
 ghost use Rattle.std.specs.Prelude.{◌≡◌, ◌+◌, ◌≤◌, ◌<◌, ◌^◌, length, IfOk};
 ghost use Rattle.asn1_types.specs.Defaults.{is_item};
+ghost use Rattle.packed_codec.specs.Numbers.{is_size};
 ghost use Rattle.packed_codec.specs.Reading.{Gives, spot_of, GoesOn};
 ghost use Rattle.packed_codec.specs.Rules.{boolean_at, null_at, number_at, string_at, number_rule, in_range, any_size, at_most, octets_rule, text_rule, object_id_rule, bits_at, bits_size, bits_rule};
 
 use crate::fault::PackedFault;
 use crate::fields::{announced, count, octet, refusal};
-use crate::numbers::{integer_of, is_size};
 use crate::object_ids::arcs_of;
 use crate::spot::Spot;
 use asn1_types::{Item, Node, TextKind, Val, are_bits, is_item, is_text};
+use ber_spelling::integer_of;
 use osi_base::Octets;
 use std::alloc::Global;
+
+/// Whether so many octets may be a number.
+fn is_size(size: u8) -> bool
+    ensures { result ≡ is_size size }
+{
+    1 <= size && size <= 8
+}
 
 /// A BOOLEAN: 0 or 1.
 #[tactic(auto, unfolding(crate::specs::Rules::boolean_at))]
