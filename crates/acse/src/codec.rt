@@ -8,7 +8,7 @@ ghost use Rattle.acse.specs.Rows.{acse_rows};
 ghost use Rattle.acse.specs.Fields.{any_apdu_at, acse_at};
 ghost use Rattle.acse.specs.Written.{written_acse};
 
-use crate::read::front;
+use crate::reading::front;
 use crate::table::{APDU, AcseTable};
 use crate::words::{said, value_of};
 use asn1_types::{TypeTable, Val};

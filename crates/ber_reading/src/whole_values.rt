@@ -10,7 +10,7 @@ ghost use Rattle.ber_spelling.specs.Rules.{plain, outermost, reads, sequence_at,
 ghost use Rattle.ber_spelling.specs.Spelling.{Spells};
 ghost use Rattle.ber_reading.specs.Calls.{IsRead, GivesRead};
 
-use crate::read::{sequence, value};
+use crate::reading::{sequence, value};
 use crate::short_parts::first_identifier;
 use asn1_types::{Class, Parts, TypeId, TypeRow, TypeTable, Val};
 use ber_spelling::{Opened, ReadFault, Scope, Spot, Tag, identifier_octets};

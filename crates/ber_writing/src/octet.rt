@@ -13,7 +13,7 @@ use crate::length::{
     alternative_len, arcs_len, base_128_len, identifier_len, integer_len, length_len, part_len,
     parts_len, value_len, values_len,
 };
-use crate::write::next_rank;
+use crate::writing::next_rank;
 use asn1_types::{Class, Node, Part, Parts, TypeId, TypeRow, TypeTable, Val, text_number};
 use ber_spelling::{RANKS, Tag, rank_of, tag_or};
 

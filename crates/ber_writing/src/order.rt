@@ -12,7 +12,7 @@ use crate::compare::values_compared;
 use crate::length::ber_len;
 use crate::octet::octet_at;
 use crate::pieces::{Compared, octets_compared};
-use crate::write::ber_octets;
+use crate::writing::ber_octets;
 use asn1_types::{Node, TypeId, TypeTable, Val};
 use osi_base::NoMemory;
 use std::alloc::Global;

@@ -8,7 +8,7 @@ ghost use Rattle.packed_codec.specs.Rules.{read_at};
 ghost use Rattle.packed_codec.specs.Laws.{Packed, IsRead};
 
 use crate::fault::PackedFault;
-use crate::read::value;
+use crate::reading::value;
 use crate::spot::Spot;
 use asn1_types::{TypeId, TypeTable, Val};
 use std::alloc::Global;

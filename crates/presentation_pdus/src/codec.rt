@@ -9,7 +9,7 @@ ghost use Rattle.presentation_pdus.specs.Units.{ppdu_run, reason_of, of_fault, p
 ghost use Rattle.presentation_pdus.specs.Words.{written_ppdu};
 
 use crate::place::{PpduFault, PpduPlace};
-use crate::read::front;
+use crate::reading::front;
 use crate::table::PpduTable;
 use crate::words::{row_of, said, value_of};
 use asn1_types::{TypeTable, Val};
