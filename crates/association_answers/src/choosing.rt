@@ -9,9 +9,9 @@ ghost use Rattle.association_state.specs.Seen.{base_in, seen};
 
 use association_calls::contexts_in_use;
 use association_ground::is_among;
-use association_sets::{Alteration, count_added, is_fixed, pair_of};
+use association_sets::{Alteration, count_added, is_fixed};
 use association_state::{Body, Ground};
-use osi_base::{Answers, NoMemory, Octets};
+use osi_base::{Answers, NoMemory, Octets, pair_of};
 use set_rules::answers_to_additions;
 use std::alloc::Global;
 

@@ -9,12 +9,10 @@ use crate::Reply;
 use crate::in_use::contexts_in_use;
 use crate::transfers::is_ending;
 use association_ground::{is_among, is_reliable};
-use association_sets::{
-    Alteration, count_added, has_parity, is_bad, is_fixed, is_named_in, pair_of,
-};
+use association_sets::{Alteration, count_added, has_parity, is_bad, is_fixed, is_named_in};
 use association_state::{Body, Ground};
 use dialogue::CallRefusal;
-use osi_base::{NoMemory, Proposal};
+use osi_base::{NoMemory, Proposal, pair_of};
 
 /// Why one addition is refused.
 fn addition_refusal(basis: &Ground<'_>, body: &Body, id: u32) -> Option<CallRefusal>

@@ -13,9 +13,10 @@ ghost use Rattle.association_calls.specs.Rooms.{HasRoom, IsRoomy};
 use apdu_codec::is_too_long_with;
 use asn1_types::Val;
 use association_ground::{is_direct, is_reliable};
-use association_sets::{has_abstract, is_deleted_in, pair_of};
+use association_sets::{has_abstract, is_deleted_in};
 use association_state::{Body, Ground};
 use dialogue::CallRefusal;
+use osi_base::pair_of;
 use rose_roles::{invoke_apdu, is_linked_to};
 use stub_tables::{Apdu, Operation};
 

@@ -3,7 +3,7 @@
 ghost use Rattle.std.specs.Prelude.{◌≡◌, [], ◌∷◌, Some, false, IfOk, OnOk, OnErr, MatchResult, option_map};
 ghost use Rattle.end_rules.specs.ByItself.{encoding, item_on, encoded_as, next_own as rule_next};
 ghost use Rattle.end_rules.specs.State.{passes_over};
-ghost use Rattle.end_rules.specs.Sets.{pair_of};
+ghost use Rattle.osi_base.specs.SetPlaces.{pair_of};
 ghost use Rattle.end_rules.specs.History.{encoded as rule_encoded, sent, step_of};
 ghost use Rattle.association_words.specs.Seen.{seen_message};
 ghost use Rattle.association_writing.specs.Room.{MayStand};

@@ -21,7 +21,7 @@ use Rattle.rose_roles.specs.Hearing.{heard_with, refused_as, Hears}
 use Rattle.rose_roles.specs.Laws.{carried_by}
 use Rattle.rose_roles.proofs.Carrying.{always_carries}
 use Rattle.open_invocations.specs.Invocations.{SomeCarried}
-use Rattle.end_rules.specs.Base.{Base, HeardHead, InvokeHead, ResultHead, ErrorHead}
+use Rattle.end_rules.specs.Base.{Base, InvokeHead, ResultHead, ErrorHead}
 use Rattle.end_rules.specs.State.{Calls}
 use Rattle.end_rules.specs.Hearing.{hear}
 use Rattle.end_wire.specs.Heads.{carried_at, said, refused, said_or_refused, head_at}

@@ -8,7 +8,8 @@ use Rattle.osi_base.specs.Limits.{last_activity}
 use Rattle.dialogue.specs.declared.config.Mode.{Mode}
 use Rattle.dialogue.specs.declared.config.Mode.TheVariants.{Bare, Direct, Reliable}
 use Rattle.end_rules.specs.Base.{Base, is_reliable}
-use Rattle.end_rules.specs.Sets.{Alteration, Saved, pair_of, same_name, is_deleted_in, may_send, lowest_with, carrier}
+use Rattle.end_rules.specs.Sets.{Alteration, Saved, same_name, is_deleted_in, may_send, lowest_with, carrier}
+use Rattle.osi_base.specs.SetPlaces.{pair_of}
 use Rattle.end_rules.specs.Messages.{Message, Session, OfMarks, OfActivities, Mark, Start, End}
 use Rattle.end_rules.specs.State.{Body, Link, Sets, Calls, Receiving, Transfer, Encoded, Queued, Piece, Progress, Running, Ending, Suspended, is_empty, joined, highest}
 use Rattle.end_rules.specs.Invoking.{carrier_in}

@@ -21,11 +21,11 @@ use crate::values::{value_in, values_under};
 use acse::AcseFault;
 use association_ground::{is_reliable, same_name};
 use association_reading::Carriage;
-use association_sets::{fit_proposals, pair_of};
+use association_sets::fit_proposals;
 use association_words::{Value, ValueContent, Values};
 use osi_base::{
     Acse, ListOf, NoMemory, Octets, Oid, Pair, Pdv, PresentationAccept, PresentationConnect,
-    PresentationReject, Proposal, SetItem, SetList, Syntax,
+    PresentationReject, Proposal, SetItem, SetList, Syntax, pair_of,
 };
 use set_rules::{
     accepted_for, has_context_of, is_faulty_proposal, proposals, set_accepted, set_for,

@@ -10,8 +10,7 @@ ghost use Rattle.association_meaning.specs.Steps as steps;
 use crate::basis::{Halt, ReadingGround, fault_at};
 use crate::names::acse_name;
 use association_ground::same_name;
-use association_sets::pair_of;
-use osi_base::{Layer, Oid, Pair, Pdv, PdvContent, SetItem, Syntax};
+use osi_base::{Layer, Oid, Pair, Pdv, PdvContent, SetItem, Syntax, pair_of};
 use pdv_places::{PdvField, field_place};
 use presentation_pdus::PpduPlace;
 

@@ -14,10 +14,10 @@ ghost use Rattle.association_meaning.specs.Informing.{transferring, other_read, 
 use crate::basis::{Halt, ReadingGround, fault_at};
 use crate::names::rtse_name;
 use association_ground::is_reliable;
-use association_sets::{has_abstract, pair_of};
+use association_sets::has_abstract;
 use association_words::{Information, UserInformation, Value, ValueContent, Values};
 use fixed_tables::PduFault;
-use osi_base::{Acse, Layer, ListOf, Octets, Pair, SetItem};
+use osi_base::{Acse, Layer, ListOf, Octets, Pair, SetItem, pair_of};
 
 /// The APDU of association control that a message carries.
 #[derive(Clone, Copy, Debug, PartialEq, Eq)]

@@ -12,9 +12,8 @@ use crate::contexts::{Carrier, check, first_wrong};
 use crate::layer_apdus::content_by;
 use crate::names::name_carried;
 use association_reading::Carriage;
-use association_sets::pair_of;
 use association_words::{Value, Values};
-use osi_base::{Copied, ListOf, NoMemory, Pair, Pdv, SetItem};
+use osi_base::{Copied, ListOf, NoMemory, Pair, Pdv, SetItem, pair_of};
 use std::alloc::Global;
 
 /// A pair, where there is one.

@@ -25,7 +25,7 @@ use Rattle.presentation_pdus.specs.Words.{written_ppdu}
 use Rattle.presentation_pdus.specs.Units.{ppdu_at}
 use Rattle.stub_tables.specs.declared.tables.Tables.{Tables}
 use Rattle.end_rules.specs.Base.{Base, Fault, acse_name, is_reliable}
-use Rattle.end_rules.specs.Sets.{pair_of}
+use Rattle.osi_base.specs.SetPlaces.{pair_of}
 use Rattle.end_rules.specs.State.{Body}
 use Rattle.end_rules.specs.Faults.{or_fault}
 use Rattle.end_rules.specs.Messages.{Information, Transferring, Other, ValueContent, Association, DataValue, Accepting, UserValues, ProviderReason, Word, OfAssociation, Connect, Accept, Refuse, Abort}

@@ -32,7 +32,7 @@ use Rattle.presentation_pdus.specs.Units.{ppdu_at}
 use Rattle.end_rules.specs.Base.{Base, Fault, HeardHead}
 use Rattle.end_rules.specs.Hearing.{syntax_of}
 use Rattle.end_wire.specs.Heads.{apdu_of}
-use Rattle.end_rules.specs.Sets.{pair_of}
+use Rattle.osi_base.specs.SetPlaces.{pair_of}
 use Rattle.end_rules.specs.Faults.{or_fault}
 use Rattle.end_rules.specs.State.{Body}
 use Rattle.end_wire.specs.Values.{content_of}

@@ -12,7 +12,7 @@ use Rattle.acse.specs.Written.{IsWritable as IsWritableAcse}
 use Rattle.rtse_apdus.specs.Written.{IsWritable as IsWritableRtse}
 use Rattle.presentation_pdus.specs.declared.place.PpduPlace.TheVariants as place
 use Rattle.end_rules.specs.Base.{Base, is_reliable}
-use Rattle.end_rules.specs.Sets.{pair_of}
+use Rattle.osi_base.specs.SetPlaces.{pair_of}
 use Rattle.end_rules.specs.State.{Body}
 use Rattle.end_rules.specs.Messages.{Information, Transferring, Other, Association, DataValue, Accepting, ProviderReason, UserValues, Word, OfAssociation, Connect, Accept, Refuse, Abort, unit_of}
 use Rattle.end_rules.specs.Policy.{is_faulty_proposal}

@@ -14,7 +14,8 @@ use Rattle.osi_base.specs.declared.presentation_word.PresentationReject.{Present
 use Rattle.fixed_tables.specs.declared.pdu.PduFault.{PduFault}
 use Rattle.acse.specs.Fields.{acse_at}
 use Rattle.end_rules.specs.Base.{Base, Fault, acse_name, is_reliable}
-use Rattle.end_rules.specs.Sets.{same_name, pair_of, accepted_set, fit_proposals}
+use Rattle.end_rules.specs.Sets.{same_name, accepted_set, fit_proposals}
+use Rattle.osi_base.specs.SetPlaces.{pair_of}
 use Rattle.end_rules.specs.Messages.{ValueContent, Unread, DataValue}
 use Rattle.end_rules.specs.Policy.{is_faulty_proposal}
 use Rattle.end_rules.specs.Writing.{proposals, acse_pair}

@@ -29,7 +29,8 @@ use Rattle.presentation_pdus.specs.declared.place.PpduPlace.{PpduPlace}
 use Rattle.presentation_pdus.specs.declared.place.PpduPlace.TheVariants as place
 use Rattle.ppdu_laws.specs.Written.{IsWritable as IsWritablePpdu}
 use Rattle.end_rules.specs.Base.{Base, rtse_name}
-use Rattle.end_rules.specs.Sets.{same_name, pair_of}
+use Rattle.end_rules.specs.Sets.{same_name}
+use Rattle.osi_base.specs.SetPlaces.{pair_of}
 use Rattle.end_rules.specs.State.{Body}
 use Rattle.association_wire.specs.Values.{content_octets, pdvs_of}
 use Rattle.association_wire.specs.Units.{user_octets}

@@ -9,7 +9,7 @@ use Rattle.fixed_tables.specs.declared.pdu.PduFault.{PduFault}
 use Rattle.rtse_apdus.specs.Transfer.{transfer_at, written_transfer}
 use Rattle.stub_tables.specs.declared.tables.Tables.{Tables}
 use Rattle.end_rules.specs.Base.{Item, Fault, Arrived, Whole, Raw, Spellings}
-use Rattle.end_rules.specs.Sets.{pair_of}
+use Rattle.osi_base.specs.SetPlaces.{pair_of}
 use Rattle.end_rules.specs.Messages.{ValueContent, Remote, Unread, Association, Plea, Part, DataValue}
 use Rattle.end_rules.specs.Faults.{acse_fault, rtse_fault}
 use Rattle.end_wire.specs.Values.{spellings_with}

@@ -16,7 +16,8 @@ use Rattle.acse.specs.Fields.{acse_at}
 use Rattle.rtse_apdus.specs.Reading.{rtse_at}
 use Rattle.stub_tables.specs.declared.tables.Tables.{Tables}
 use Rattle.end_rules.specs.Base.{Base, Fault, rtse_name, is_reliable}
-use Rattle.end_rules.specs.Sets.{same_name, pair_of}
+use Rattle.end_rules.specs.Sets.{same_name}
+use Rattle.osi_base.specs.SetPlaces.{pair_of}
 use Rattle.end_rules.specs.Messages.{Information, Transferring, Other, ValueContent, Unread, Association, Plea, Part, DataValue}
 use Rattle.end_rules.specs.Connecting.{is_on_rtse}
 use Rattle.end_rules.specs.Faults.{fault_at, acse_fault, rtse_fault}

@@ -15,7 +15,8 @@ use Rattle.dialogue.specs.declared.call.Call.TheVariants as the_calls
 use Rattle.dialogue.specs.declared.call.CallRefusal.{CallRefusal}
 use Rattle.dialogue.specs.declared.call.CallRefusal.TheVariants as refusals
 use Rattle.end_rules.specs.Base.{Base, is_bare, is_direct, is_reliable, most_open, most_alterations}
-use Rattle.end_rules.specs.Sets.{Alteration, next_number, is_deleted_in, is_named_in, has_parity, pair_of, is_fixed, is_among}
+use Rattle.end_rules.specs.Sets.{Alteration, next_number, is_deleted_in, is_named_in, has_parity, is_fixed, is_among}
+use Rattle.osi_base.specs.SetPlaces.{pair_of}
 use Rattle.end_rules.specs.State.{Body, OpenCall, is_free, is_none, is_empty, is_current, is_ending, is_suspended, opened_with, opens_of}
 use Rattle.end_rules.specs.Units.{has_marks, has_restarts, has_token}
 use Rattle.end_rules.specs.Invoking.{Reply, invoke_apdu, result_apdu, error_apdu, is_stopped, is_queue_full, is_on_module, is_too_long, next_id, is_linked_to, link_refusal, linking_refusal, can_send_invoke, unless_refused, can_invoke_operation, lacks_carrier, can_send_outcome, can_answer_open, operation_of, can_refuse_open}

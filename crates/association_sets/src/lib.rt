@@ -16,6 +16,5 @@ pub use asking::{
 pub use fitting::{fit_alteration, fit_proposals, is_listed};
 pub use restored::{listed, same_lists};
 pub use sets::{
-    carrier, copy_set, has_abstract, has_name, is_fixed, lowest_with, may_send, pair_of,
-    put_context, without_context,
+    carrier, copy_set, has_abstract, has_name, is_fixed, lowest_with, may_send, put_context,
 };

@@ -21,7 +21,7 @@ use Rattle.end_rules.specs.Messages.{Message, ValueContent, DataValue}
 use Rattle.end_rules.specs.State.{Body, Link, passes_over}
 use Rattle.end_rules.specs.Invoking.{carrier_in}
 use Rattle.end_rules.specs.Hearing.{Rejecting, Heard, hear, head_of, with_reject, sent_on, syntax_of}
-use Rattle.end_rules.specs.Sets.{pair_of}
+use Rattle.osi_base.specs.SetPlaces.{pair_of}
 use Rattle.end_rules.specs.History.{Step, fed, took, answered, fault, feed_end, after_taken}
 use Rattle.end_wire.specs.Values.{IsContent}
 use Rattle.end_wire.specs.Bare.{Whole, first_of, first_at, front, behind, bare_base, bare_value, bare_message}

@@ -22,7 +22,8 @@ use Rattle.dialogue.specs.declared.call.Call.TheVariants as the_calls
 use Rattle.dialogue.specs.declared.call.CallRefusal.{CallRefusal}
 use Rattle.dialogue.specs.declared.call.CallRefusal.TheVariants as refusals
 use Rattle.end_rules.specs.Base.{Base, is_bare, most_open}
-use Rattle.end_rules.specs.Sets.{pair_of, is_deleted_in}
+use Rattle.end_rules.specs.Sets.{is_deleted_in}
+use Rattle.osi_base.specs.SetPlaces.{pair_of}
 use Rattle.end_rules.specs.Messages.{Message, DataValue, Session, OfData, Values, Remote}
 use Rattle.end_rules.specs.State.{Body, OpenCall, bare_set, opened_with, opens_of}
 use Rattle.end_rules.specs.Invoking.{Reply, is_too_long, invoke_apdu, result_apdu, error_apdu, is_stopped, is_on_module, linking_refusal, link_refusal, is_linked_to, can_send_invoke, can_invoke_operation, unless_refused, carrier_in, can_send_outcome, lacks_carrier, is_queue_full, can_answer_open, can_refuse_open, operation_of, next_id}

@@ -18,7 +18,7 @@ use Rattle.dialogue.specs.declared.call.Call.{Call}
 use Rattle.dialogue.specs.declared.call.CallRefusal.{CallRefusal}
 use Rattle.dialogue.specs.declared.indication.Indication.{Indication}
 use Rattle.end_rules.specs.Base.{Base, is_bare}
-use Rattle.end_rules.specs.Sets.{pair_of}
+use Rattle.osi_base.specs.SetPlaces.{pair_of}
 use Rattle.end_rules.specs.Messages.{Message, Word, OfData, Values, ValueContent, Remote}
 use Rattle.end_rules.specs.State.{Body, bare_set, passes_over}
 use Rattle.dialogue.specs.declared.call.Call.TheVariants as the_calls

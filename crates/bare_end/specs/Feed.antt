@@ -6,7 +6,7 @@ use Rattle.dialogue.specs.declared.indication.Indication.{Indication}
 use Rattle.osi_base.specs.declared.syntax.Syntax.TheVariants.{Ber}
 use Rattle.end_rules.specs.Base.{Base}
 use Rattle.end_rules.specs.State.{Body, bare_set, passes_over}
-use Rattle.end_rules.specs.Sets.{pair_of}
+use Rattle.osi_base.specs.SetPlaces.{pair_of}
 use Rattle.end_rules.specs.Hearing.{syntax_of}
 use Rattle.end_rules.specs.Messages.{Message, ValueContent}
 use Rattle.end_rules.specs.Reacting.{react, Takes}

@@ -8,7 +8,8 @@ use Rattle.osi_base.specs.Limits.{highest_context}
 use Rattle.context_sets.specs.declared.alteration.Alteration.{Alteration}
 use Rattle.context_sets.specs.declared.fault.SetRefusal.{SetRefusal}
 use Rattle.context_sets.specs.declared.fault.SetRefusal.TheVariants.{AlterPending, BadProposal, WrongParity, Named, Present, Absent, Fixed, InUse, SetFull, NoMemory}
-use Rattle.context_sets.specs.Sets.{ContextSet, pair_of}
+use Rattle.context_sets.specs.Sets.{ContextSet}
+use Rattle.osi_base.specs.SetPlaces.{pair_of}
 use Rattle.context_sets.specs.Syntaxes.{is_fixed}
 use Rattle.context_sets.specs.Alterations.{additions, named_by, is_among, is_named}
 

@@ -3,7 +3,8 @@ use Rattle.std.specs.Prelude.{ℕ, ◌+◌, ◌≤◌, Bool, ◌&&◌, not, if�
 use Rattle.std.specs.Option.{option_map}
 use Rattle.osi_base.specs.declared.layer_words.SetItem.{SetItem}
 use Rattle.context_sets.specs.declared.alteration.Alteration.{Alteration}
-use Rattle.context_sets.specs.Sets.{ContextSet, IsRising, pair_of}
+use Rattle.context_sets.specs.Sets.{ContextSet, IsRising}
+use Rattle.osi_base.specs.SetPlaces.{pair_of}
 use Rattle.context_sets.specs.Syntaxes.{is_same}
 use Rattle.context_sets.specs.Alterations.{additions, is_deleted}
 

@@ -14,7 +14,8 @@ use Rattle.context_sets.specs.declared.fault.SetFault.TheVariants.{PeerPresent, 
 use Rattle.context_sets.specs.declared.rules.Rules.{Rules}
 use Rattle.context_sets.specs.declared.rules.Rejection.{Rejection}
 use Rattle.context_sets.specs.declared.rules.Rejection.TheVariants.{AbstractSyntax, TransferSyntaxes, LocalLimit}
-use Rattle.context_sets.specs.Sets.{ContextSet, pair_of}
+use Rattle.context_sets.specs.Sets.{ContextSet}
+use Rattle.osi_base.specs.SetPlaces.{pair_of}
 use Rattle.context_sets.specs.Syntaxes.{is_same, is_listed, syntax_named, acse_name, rtse_name, is_fixed}
 use Rattle.context_sets.specs.Alterations.{additions, is_among}
 use Rattle.context_sets.specs.Asking.{is_of}

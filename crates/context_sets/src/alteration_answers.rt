@@ -9,10 +9,9 @@ ghost use Rattle.context_sets.specs.Policy.{is_service, accepts, acceptable, cho
 use crate::asking::{is_among, is_of, meets_again};
 use crate::fault::SetFault;
 use crate::rules::{Rejection, Rules};
-use crate::sets::pair_of;
 use crate::syntaxes::{is_acse, is_fixed, is_listed, is_rtse, is_same, syntax_named};
 use osi_base::{
-    AddAnswer, AddAnswers, ListOf, NoMemory, Octets, Oid, Pair, Proposal, SetItem, Syntax,
+    AddAnswer, AddAnswers, ListOf, NoMemory, Octets, Oid, Pair, Proposal, SetItem, Syntax, pair_of,
 };
 use std::alloc::Global;
 use std::collections::BTreeSet;

@@ -11,9 +11,8 @@ ghost use Rattle.context_sets.specs.Asking.{is_of, is_no_identifier, are_bad, is
 
 use crate::alteration::Alteration;
 use crate::fault::SetRefusal;
-use crate::sets::pair_of;
 use crate::syntaxes::is_fixed;
-use osi_base::{NoMemory, Pair, Proposal, SetItem};
+use osi_base::{NoMemory, Pair, Proposal, SetItem, pair_of};
 use std::alloc::Global;
 use std::collections::BTreeSet;
 

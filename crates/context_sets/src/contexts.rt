@@ -2,7 +2,8 @@
 
 ghost use Rattle.std.specs.Prelude.{◌≡◌, ◌+◌, ◌≤◌, not, [], ◌∷◌, ◌++◌, length, None, Err, IsOk, IfOk, OnOk, OnErr, MatchOption, MatchResult};
 ghost use Rattle.std.specs.Option.{option_copied};
-ghost use Rattle.context_sets.specs.Sets.{IsRising, pair_of};
+ghost use Rattle.context_sets.specs.Sets.{IsRising};
+ghost use Rattle.osi_base.specs.SetPlaces.{pair_of};
 ghost use Rattle.context_sets.specs.Alterations.{additions, altered, is_deleted};
 ghost use Rattle.context_sets.specs.Held.{HasRoom, oldest, later, may_send, serves, lowest, carrier};
 ghost use Rattle.context_sets.specs.Asking.{refusal, IsRefused};
@@ -15,10 +16,11 @@ use crate::asking::{Ground, additions, is_deleted, refusal};
 use crate::fault::{SetFault, SetRefusal};
 use crate::results::mismatch;
 use crate::rules::Rules;
-use crate::sets::pair_of;
 use crate::settling::{acceptances, settle};
 use crate::syntaxes::is_same;
-use osi_base::{Answers, Copied, Ids, ListOf, NoMemory, Oid, Pair, Proposals, SetItem, SetList};
+use osi_base::{
+    Answers, Copied, Ids, ListOf, NoMemory, Oid, Pair, Proposals, SetItem, SetList, pair_of,
+};
 use std::alloc::Global;
 use std::marker::Model;
 

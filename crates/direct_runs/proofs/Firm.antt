@@ -19,7 +19,8 @@ use Rattle.dialogue.specs.declared.config.Phase.TheVariants as phases
 use Rattle.dialogue.specs.declared.call.Call.{Call}
 use Rattle.dialogue.specs.declared.call.Call.TheVariants as the_calls
 use Rattle.end_rules.specs.Base.{Base, Spellings, Item}
-use Rattle.end_rules.specs.Sets.{Alteration, Saved, is_among, named_ids, proposed_ids, pair_of, is_fixed, altered, listed, below, newest, next_number}
+use Rattle.end_rules.specs.Sets.{Alteration, Saved, is_among, named_ids, proposed_ids, is_fixed, altered, listed, below, newest, next_number}
+use Rattle.osi_base.specs.SetPlaces.{pair_of}
 use Rattle.end_rules.specs.Policy.{policy, is_faulty_proposal}
 use Rattle.end_rules.specs.Messages.{Message, Transport, Session, TransportUnit, ConnectionRequest, ConnectionConfirm, DisconnectRequest, TransportError, DataValue, Accepting}
 use Rattle.end_rules.specs.Messages.{Word, OfAssociation, OfData, OfMarks, OfActivities, Connect, Accept, Refuse, Finish, Disconnect, Abort, AbortAccept, Values, AlterContext, AlterContextAck, Mark, MarkAck, Restart, RestartAck, Give, Please, GiveConfirm, GiveAck, unit_of}

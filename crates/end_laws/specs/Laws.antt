@@ -9,7 +9,7 @@ use Rattle.stub_tables.specs.Readable.{IsReadable}
 use Rattle.end_rules.specs.Base.{Fault}
 use Rattle.end_rules.specs.Messages.{Message, Session, OfData, Values, DataValue}
 use Rattle.end_rules.specs.State.{Body, holds_turn}
-use Rattle.end_rules.specs.Sets.{pair_of}
+use Rattle.osi_base.specs.SetPlaces.{pair_of}
 use Rattle.end_rules.specs.Reacting.{Takes, Fails, react}
 use Rattle.end_rules.specs.World.{Shared}
 use Rattle.agreement.specs.Sets.{Role}

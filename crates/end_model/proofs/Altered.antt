@@ -6,7 +6,8 @@ use Rattle.osi_base.specs.declared.layer_words.SetItem.{SetItem}
 use Rattle.osi_base.specs.declared.layer_words.Proposal.{Proposal}
 use Rattle.osi_base.specs.declared.layer_words.AddAnswer.{AddAnswer}
 use Rattle.osi_base.specs.declared.layer_words.Answers.{Answers}
-use Rattle.end_rules.specs.Sets.{Alteration, put, without_context, pair_accepted, put_accepted}
+use Rattle.end_rules.specs.Sets.{Alteration, put, pair_accepted, put_accepted}
+use Rattle.osi_base.specs.SetPlaces.{without_context}
 use Rattle.end_rules.specs.Sets.{with_added, with_deleted, altered, fits_proposal, fit_proposals}
 use Rattle.agreement.specs.Sets.{Item, Result, ContextSet, put as model_put, remove, changed}
 use Rattle.agreement.specs.Sets.{altered as model_altered}

@@ -16,7 +16,8 @@ use Rattle.end_rules.specs.Base.{Base, is_reliable, most_alterations}
 use Rattle.end_rules.specs.State.{Body, OpenCall, Queued, Transfer, Encoded, Progress, Running}
 use Rattle.end_rules.specs.State.{Ending, Suspended, is_free, is_empty, is_current, is_ending}
 use Rattle.end_rules.specs.State.{is_suspended}
-use Rattle.end_rules.specs.Sets.{Alteration, pair_of, is_among, named_ids, proposed_ids}
+use Rattle.end_rules.specs.Sets.{Alteration, is_among, named_ids, proposed_ids}
+use Rattle.osi_base.specs.SetPlaces.{pair_of}
 use Rattle.end_rules.specs.Sets.{is_named_in, is_fixed, has_parity}
 use Rattle.end_rules.specs.Altering.{can_alter, used, context_of_encoding, context_of_current}
 use Rattle.end_rules.specs.Altering.{has_double, is_bad, is_no_context, has_bad_transfers}

@@ -20,7 +20,8 @@ use Rattle.end_rules.specs.Base.{Base, Fault}
 use Rattle.end_rules.specs.State.{Body, Awaited, NoAnswer, RestartOf, InterruptOf, DiscardOf}
 use Rattle.end_rules.specs.State.{ReleaseOf, Transfer, Progress, Running, Ending, Suspended, is_up}
 use Rattle.end_rules.specs.State.{highest, joined, is_suspended}
-use Rattle.end_rules.specs.Sets.{Alteration, pair_of, is_among, same_name, same_lists, listed}
+use Rattle.end_rules.specs.Sets.{Alteration, is_among, same_name, same_lists, listed}
+use Rattle.osi_base.specs.SetPlaces.{pair_of}
 use Rattle.end_rules.specs.Sets.{has_parity, proposed_ids, next_number, fit_alteration}
 use Rattle.end_rules.specs.Altering.{has_double}
 use Rattle.end_rules.specs.Policy.{is_faulty_proposal}

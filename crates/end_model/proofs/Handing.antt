@@ -14,7 +14,8 @@ use Rattle.stub_tables.specs.Lookup.{operation_at}
 use Rattle.dialogue.specs.declared.call.CallRefusal.{CallRefusal}
 use Rattle.dialogue.specs.declared.call.CallRefusal.TheVariants as refusals
 use Rattle.end_rules.specs.Base.{Base, most_open}
-use Rattle.end_rules.specs.Sets.{pair_of, has_abstract, may_send, carrier, lowest_with, same_name}
+use Rattle.end_rules.specs.Sets.{has_abstract, may_send, carrier, lowest_with, same_name}
+use Rattle.osi_base.specs.SetPlaces.{pair_of}
 use Rattle.end_rules.specs.Sets.{is_deleted_in, Alteration}
 use Rattle.end_rules.specs.State.{Body, OpenCall, Calls, is_whose, is_key, opened_with, opens_of}
 use Rattle.end_rules.specs.State.{closed, close}

@@ -16,7 +16,8 @@ use Rattle.dialogue.specs.declared.config.Mode.TheVariants.{Bare, Direct, Reliab
 use Rattle.dialogue.specs.declared.call.Call.TheVariants as the_calls
 use Rattle.dialogue.specs.declared.call.CallRefusal.TheVariants as refusals
 use Rattle.end_rules.specs.Base.{Base, Item}
-use Rattle.end_rules.specs.Sets.{pair_of, is_deleted_in}
+use Rattle.end_rules.specs.Sets.{is_deleted_in}
+use Rattle.osi_base.specs.SetPlaces.{pair_of}
 use Rattle.end_rules.specs.State.{Body, Sets, OpenCall, is_up, is_free, opened_with}
 use Rattle.end_rules.specs.Messages.{Session, OfData, Values, Remote}
 use Rattle.end_rules.specs.Invoking.{invoke_apdu, is_stopped, next_id, can_invoke_operation}

@@ -6,7 +6,8 @@ use Rattle.osi_base.specs.Limits.{highest_context}
 use Rattle.dialogue.specs.declared.call.CallRefusal.{CallRefusal}
 use Rattle.dialogue.specs.declared.call.CallRefusal.TheVariants as refusals
 use Rattle.end_rules.specs.Base.{Base, is_reliable, most_contexts, most_alterations, most_transfers}
-use Rattle.end_rules.specs.Sets.{Alteration, named_ids, is_among, is_named_in, count_added, pair_of, is_fixed, has_parity}
+use Rattle.end_rules.specs.Sets.{Alteration, named_ids, is_among, is_named_in, count_added, is_fixed, has_parity}
+use Rattle.osi_base.specs.SetPlaces.{pair_of}
 use Rattle.end_rules.specs.State.{Body, OpenCall, Queued, Encoded, Transfer, is_free, is_empty, is_current, is_ending, is_suspended}
 use Rattle.end_rules.specs.Invoking.{Reply, unless_refused}
 

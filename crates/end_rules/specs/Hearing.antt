@@ -21,7 +21,7 @@ use Rattle.stub_tables.specs.Uses.{is_carried}
 use Rattle.dialogue.specs.declared.indication.Indication.{Indication}
 use Rattle.dialogue.specs.declared.indication.Indication.TheVariants as indications
 use Rattle.end_rules.specs.Base.{Base, Carried, Absent, Spelled, Unspelled, HeardHead, General, BadReject, InvokeHead, ResultHead, ErrorHead, RejectHead, is_reliable, most_open}
-use Rattle.end_rules.specs.Sets.{pair_of}
+use Rattle.osi_base.specs.SetPlaces.{pair_of}
 use Rattle.end_rules.specs.Messages.{ValueContent, Remote, Unread, DataValue, Values, OfData, Message, Session}
 use Rattle.end_rules.specs.State.{Body, Calls, OpenCall, is_empty, opened_with, opens_of, close}
 use Rattle.end_rules.specs.Invoking.{is_linked_to, operation_of, carrier_in}

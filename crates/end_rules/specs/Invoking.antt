@@ -18,7 +18,8 @@ use Rattle.stub_tables.specs.Uses.{is_carried}
 use Rattle.dialogue.specs.declared.call.CallRefusal.{CallRefusal}
 use Rattle.dialogue.specs.declared.call.CallRefusal.TheVariants as refusals
 use Rattle.end_rules.specs.Base.{Base, is_direct, is_reliable, most_open, most_queued}
-use Rattle.end_rules.specs.Sets.{is_deleted_in, is_among, pair_of, has_abstract, carrier}
+use Rattle.end_rules.specs.Sets.{is_deleted_in, is_among, has_abstract, carrier}
+use Rattle.osi_base.specs.SetPlaces.{pair_of}
 use Rattle.end_rules.specs.State.{Body, OpenCall, is_free, is_none, opened_with, opens_of}
 
 abbrev pub Reply : Type 0

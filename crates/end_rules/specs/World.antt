@@ -9,7 +9,8 @@ use Rattle.osi_base.specs.declared.presentation_word.PresentationAccept.{Present
 use Rattle.dialogue.specs.declared.config.Mode.{Mode}
 use Rattle.dialogue.specs.declared.config.Mode.TheVariants.{Bare, Direct, Reliable}
 use Rattle.end_rules.specs.Base.{Base}
-use Rattle.end_rules.specs.Sets.{Saved, pair_of, altered, accepted_set, below, newest}
+use Rattle.end_rules.specs.Sets.{Saved, altered, accepted_set, below, newest}
+use Rattle.osi_base.specs.SetPlaces.{pair_of}
 use Rattle.end_rules.specs.Messages.{Message, Transport, Session, Word, OfAssociation, OfData, OfMarks, OfActivities, AssociationWord, Connect, Accept, DataWord, AlterContext, AlterContextAck, MarkWord, Mark, Restart, RestartAck, ActivityWord, Start, Resume, EndAck, InterruptAck, DiscardAck}
 use Rattle.end_rules.specs.State.{Body, first_set, holds_turn}
 use Rattle.end_rules.specs.Connecting.{recovers_in}

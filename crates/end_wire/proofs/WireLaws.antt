@@ -33,7 +33,7 @@ use Rattle.apdu_spelling.proofs.HeadsSound.{heads_sound}
 use Rattle.apdu_spelling.specs.Spellings.{Spells}
 use Rattle.apdu_spelling.specs.Writing.{written_apdu, IsWritable, has_values, is_typed, may_carry, may_return, written_typed, written_carried, written_head, outcome_of, head_of}
 use Rattle.apdu_spelling.proofs.Written.{written_spelled}
-use Rattle.end_rules.specs.Sets.{pair_of}
+use Rattle.osi_base.specs.SetPlaces.{pair_of}
 use Rattle.end_rules.specs.State.{bare_set}
 use Rattle.end_rules.specs.Messages.{Remote, Message}
 use Rattle.end_rules.specs.Hearing.{syntax_of}

@@ -15,7 +15,7 @@ use Rattle.stub_tables.specs.Apdus.{IsWhole}
 use Rattle.dialogue.specs.declared.config.Config.{Config}
 use Rattle.dialogue.specs.declared.config.Mode.TheVariants.{Bare}
 use Rattle.end_rules.specs.Base.{Base}
-use Rattle.end_rules.specs.Sets.{pair_of}
+use Rattle.osi_base.specs.SetPlaces.{pair_of}
 use Rattle.end_rules.specs.Messages.{ValueContent, DataValue, Values, OfData, Message, Session, Transport, Word, DataWord, AlterContext, AlterContextAck, OfAssociation, OfMarks, OfActivities}
 use Rattle.end_rules.specs.Hearing.{syntax_of}
 use Rattle.end_wire.specs.Values.{IsContent, content_at, written_content, bare_spellings}

@@ -61,7 +61,7 @@ pub use printing::{FaultAt, WordWithNumber};
 pub use real_files::{DiskFiles, StdSink};
 pub use rtse_word::{ConnectionData, Rtse};
 pub use session_word::{SessionConnect, SessionWord, Spdu, Spdus};
-pub use set_places::place_of;
+pub use set_places::{pair_of, place_of, remove_context};
 pub use sink::{Sink, SinkFault, write_all};
 pub use sure_line::SureLine;
 pub use syntax::{Pair, Syntax};

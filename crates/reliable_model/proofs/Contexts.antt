@@ -10,7 +10,8 @@ use Rattle.osi_base.specs.declared.layer_words.Proposal.{Proposal}
 use Rattle.osi_base.specs.declared.layer_words.AddAnswer.{AddAnswer}
 use Rattle.dialogue.specs.declared.config.Mode.TheVariants.{Reliable}
 use Rattle.end_rules.specs.Base.{Base, acse_name, rtse_name, ber_name}
-use Rattle.end_rules.specs.Sets.{Alteration, same_name, is_among, pair_of, put, put_accepted, pair_accepted, with_added, accepted_set}
+use Rattle.end_rules.specs.Sets.{Alteration, same_name, is_among, put, put_accepted, pair_accepted, with_added, accepted_set}
+use Rattle.osi_base.specs.SetPlaces.{pair_of}
 use Rattle.end_rules.specs.Sets.{proposed_ids, has_abstract, lowest_with, is_deleted_in}
 use Rattle.end_rules.specs.Altering.{has_double}
 use Rattle.end_rules.specs.Writing.{proposal_in_ber}

@@ -9,7 +9,8 @@ use Rattle.stub_tables.specs.declared.operation.Code.{Code}
 use Rattle.stub_tables.specs.Lookup.{operation_at, operation_with, error_with}
 use Rattle.dialogue.specs.declared.config.Mode.TheVariants.{Reliable}
 use Rattle.end_rules.specs.Base.{Base, Fault, Arrived, Whole, Raw, Carried, HeardHead, General, BadReject, InvokeHead, ResultHead, ErrorHead, RejectHead}
-use Rattle.end_rules.specs.Sets.{Alteration, same_name, is_among, named_ids, pair_of, has_abstract, is_fixed}
+use Rattle.end_rules.specs.Sets.{Alteration, same_name, is_among, named_ids, has_abstract, is_fixed}
+use Rattle.osi_base.specs.SetPlaces.{pair_of}
 use Rattle.end_rules.specs.State.{Body, OpenCall, Calls, Queued, Piece, Octets, Marked, Transfer}
 use Rattle.end_rules.specs.State.{is_key, opened_with, orphaned, closed, close, from_mark, up_to, newest_set, highest, pieces_of, confirmed_of}
 use Rattle.end_rules.specs.State.{resumed_set, on_transfer, on_current}

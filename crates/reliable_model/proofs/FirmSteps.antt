@@ -15,7 +15,8 @@ use Rattle.dialogue.specs.declared.call.Call.TheVariants as the_calls
 use Rattle.dialogue.specs.declared.call.CallRefusal.{CallRefusal}
 use Rattle.dialogue.specs.declared.call.CallRefusal.TheVariants as refusals
 use Rattle.end_rules.specs.Base.{Base, Fault, Arrived, most_alterations}
-use Rattle.end_rules.specs.Sets.{Alteration, is_among, named_ids, proposed_ids, pair_of, is_fixed, altered}
+use Rattle.end_rules.specs.Sets.{Alteration, is_among, named_ids, proposed_ids, is_fixed, altered}
+use Rattle.osi_base.specs.SetPlaces.{pair_of}
 use Rattle.end_rules.specs.Messages.{DataValue, Word, OfAssociation, OfData, OfMarks, OfActivities, Finish, Disconnect}
 use Rattle.end_rules.specs.Messages.{Abort, Values, AlterContext, AlterContextAck, Mark, MarkAck, Please, GiveConfirm, GiveAck, Start, Resume}
 use Rattle.end_rules.specs.Messages.{End, EndAck, Interrupt, InterruptAck, Discard, DiscardAck, Session, unit_of}

@@ -19,7 +19,8 @@ use Rattle.end_rules.specs.Messages.{TransportUnit, ConnectionRequest, Connectio
 use Rattle.end_rules.specs.Messages.{Connect, Accept, Refuse, Abort, Accepting, Message, Transport, Session, unit_of}
 use Rattle.end_rules.specs.State.{Body, Stage, Unused, Asked, Joined, Carrying, passes_over, is_joined}
 use Rattle.end_rules.specs.State.{is_carrying, is_unused, is_asked, is_broken}
-use Rattle.end_rules.specs.Sets.{fit_proposals, lowest_with, has_abstract, pair_of}
+use Rattle.end_rules.specs.Sets.{fit_proposals, lowest_with, has_abstract}
+use Rattle.osi_base.specs.SetPlaces.{pair_of}
 use Rattle.end_rules.specs.Units.{selected_with, proposed_units, needed_units, has_units, has_version_two, manages_with}
 use Rattle.end_rules.specs.World.{Shared}
 use Rattle.end_rules.specs.Altering.{has_double}

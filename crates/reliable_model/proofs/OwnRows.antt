@@ -9,7 +9,7 @@ use Rattle.osi_base.specs.declared.layer_words.Proposal.{Proposal}
 use Rattle.osi_base.specs.Limits.{most_marks, most_transferred, last_activity}
 use Rattle.dialogue.specs.declared.config.Mode.TheVariants.{Reliable}
 use Rattle.end_rules.specs.Base.{Base}
-use Rattle.end_rules.specs.Sets.{pair_of}
+use Rattle.osi_base.specs.SetPlaces.{pair_of}
 use Rattle.end_rules.specs.State.{Body, Octets, Marked, Progress, Running, Ending, Suspended, Encoded, Transfer}
 use Rattle.end_rules.specs.State.{Queued, joined, highest, pieces_of, on_current, is_empty, is_running}
 use Rattle.end_rules.specs.Messages.{Session, OfMarks, OfActivities, Part, Mark, Start, End}

@@ -17,7 +17,8 @@ use Rattle.end_rules.specs.Messages.{Start, Resume, End, EndAck, Interrupt, Inte
 use Rattle.end_rules.specs.Messages.{Message, Session, unit_of}
 use Rattle.end_rules.specs.State.{Body, Link, Calls, Suspended, joined, between, passes_over}
 use Rattle.end_rules.specs.State.{is_joined, is_carrying}
-use Rattle.end_rules.specs.Sets.{Alteration, fit_proposals, pair_of}
+use Rattle.end_rules.specs.Sets.{Alteration, fit_proposals}
+use Rattle.osi_base.specs.SetPlaces.{pair_of}
 use Rattle.end_rules.specs.World.{Shared}
 use Rattle.end_rules.specs.Policy.{policy}
 use Rattle.end_rules.specs.Faults.{transport_fault}

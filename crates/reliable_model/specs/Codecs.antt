@@ -6,7 +6,7 @@ use Rattle.osi_base.specs.Limits.{most_transferred, highest_context}
 use Rattle.stub_tables.specs.declared.apdu.Apdu.{Apdu}
 use Rattle.stub_tables.specs.declared.apdu.Apdu.TheVariants as apdus
 use Rattle.end_rules.specs.Base.{Base, Item, Whole}
-use Rattle.end_rules.specs.Sets.{pair_of}
+use Rattle.osi_base.specs.SetPlaces.{pair_of}
 use Rattle.end_rules.specs.Invoking.{is_too_long}
 use Rattle.agreement.specs.Messages as model
 use Rattle.end_model.specs.Seen.{Free, number_seen, set_seen, item_seen}

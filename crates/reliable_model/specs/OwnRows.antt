@@ -6,7 +6,7 @@ use Rattle.osi_base.specs.declared.layer_words.Proposal.{Proposal}
 use Rattle.dialogue.specs.declared.config.Mode.TheVariants.{Reliable}
 use Rattle.end_rules.specs.Base.{Base}
 use Rattle.end_rules.specs.State.{Body}
-use Rattle.end_rules.specs.Sets.{pair_of}
+use Rattle.osi_base.specs.SetPlaces.{pair_of}
 use Rattle.end_rules.specs.ByItself.{OwnAct, SendsNow, EncodesOn, next_own}
 use Rattle.end_rules.specs.History.{after_step, step_of}
 use Rattle.agreement.specs.Messages.{Act}

@@ -9,7 +9,8 @@ use Rattle.osi_base.specs.declared.layer_words.AddAnswer.{AddAnswer}
 use Rattle.stub_tables.specs.declared.tables.Tables.{Tables}
 use Rattle.dialogue.specs.declared.config.Config.{Config}
 use Rattle.end_rules.specs.Base.{Spellings, acse_name, ber_name}
-use Rattle.end_rules.specs.Sets.{same_name, is_among, put, put_accepted, pair_accepted, with_added, proposed_ids, pair_of}
+use Rattle.end_rules.specs.Sets.{same_name, is_among, put, put_accepted, pair_accepted, with_added, proposed_ids}
+use Rattle.osi_base.specs.SetPlaces.{pair_of}
 use Rattle.end_rules.specs.State.{Body}
 use Rattle.end_rules.specs.Altering.{has_double}
 use Rattle.end_rules.specs.Policy.{is_association, takes_syntax, acceptance, rejection, answer_within, answer_to_addition, counted_with, answers_to_additions, opening_policy}

@@ -12,7 +12,8 @@ use Rattle.stub_tables.specs.declared.tables.Tables.{Tables}
 use Rattle.dialogue.specs.declared.config.Config.{Config}
 use Rattle.dialogue.specs.declared.config.Mode.TheVariants.{Reliable}
 use Rattle.end_rules.specs.Base.{Spellings}
-use Rattle.end_rules.specs.Sets.{is_among, put, put_accepted, pair_accepted, with_added, proposed_ids, pair_of, has_parity}
+use Rattle.end_rules.specs.Sets.{is_among, put, put_accepted, pair_accepted, with_added, proposed_ids, has_parity}
+use Rattle.osi_base.specs.SetPlaces.{pair_of}
 use Rattle.end_rules.specs.State.{Body}
 use Rattle.end_rules.specs.Altering.{has_double}
 use Rattle.end_rules.specs.Policy.{answers_to_additions}

@@ -8,7 +8,7 @@ use Rattle.dialogue.specs.declared.config.Config.{Config}
 use Rattle.dialogue.specs.declared.config.Phase.TheVariants.{Broken, Over}
 use Rattle.dialogue.specs.declared.indication.Indication.{Indication}
 use Rattle.end_rules.specs.Base.{Base, Spellings, Fault, Item, Arrived, Whole}
-use Rattle.end_rules.specs.Sets.{pair_of}
+use Rattle.osi_base.specs.SetPlaces.{pair_of}
 use Rattle.end_rules.specs.State.{Body, Joined, Carrying, is_broken, passes_over}
 use Rattle.end_rules.specs.Messages.{Message, Transport, Session, TransportUnit, Word, OfAssociation, OfData, OfMarks, OfActivities, Connect, Accept, Refuse, Finish, Disconnect, Abort, AbortAccept, Values, Please, Start, Resume, End, EndAck, Interrupt, InterruptAck, Discard, DiscardAck, unit_of}
 use Rattle.end_rules.specs.Writing.{acse_pair, proposals}

@@ -8,7 +8,7 @@ use Rattle.osi_base.specs.declared.acse_word.Acse.TheVariants as acse
 use Rattle.osi_base.specs.declared.acse_word.Diagnostic.TheVariants.{User}
 use Rattle.acse.specs.Written as acse_written
 use Rattle.end_rules.specs.Base.{Base}
-use Rattle.end_rules.specs.Sets.{pair_of}
+use Rattle.osi_base.specs.SetPlaces.{pair_of}
 use Rattle.end_rules.specs.State.{Body}
 use Rattle.end_rules.specs.Messages.{OfAssociation, OfData, OfMarks, AlterContext, AlterContextAck, Restart, RestartAck}
 use Rattle.end_rules.specs.Writing.{acse_pair}

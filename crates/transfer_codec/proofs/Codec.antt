@@ -21,7 +21,8 @@ use Rattle.apdu_spelling.proofs.Written.{written_spelled}
 use Rattle.dialogue.specs.declared.config.Config.{Config}
 use Rattle.dialogue.specs.declared.config.Mode.{Mode}
 use Rattle.end_rules.specs.Base.{Base, Item, Fault, Arrived, Whole, Raw}
-use Rattle.end_rules.specs.Sets.{same_name, syntax_named, pair_of}
+use Rattle.end_rules.specs.Sets.{same_name, syntax_named}
+use Rattle.osi_base.specs.SetPlaces.{pair_of}
 use Rattle.end_rules.specs.Invoking.{is_too_long}
 use Rattle.end_wire.specs.Heads.{head_at, apdu_of}
 use Rattle.end_wire.proofs.ContentLaws.{said_is, spelled_said}

@@ -2,7 +2,8 @@ use Rattle.std.proofs.Common.{◌≡◌, ◌∙◌, sym, ap, subst, length, inse
 use Rattle.std.proofs.lemmas.Grind.{common_steps}
 use Rattle.context_sets.specs.Sets.{put}
 use Rattle.osi_base.specs.SetPlaces.{place_of}
-use Rattle.context_sets.proofs.Placing.{found_within, put_as}
+use Rattle.osi_base.proofs.Placing.{found_within}
+use Rattle.context_sets.proofs.Placing.{put_as}
 use Rattle.context_sets.proofs.sets.put.Goals as goal
 
 pub insert-requires : goal.insert-requires

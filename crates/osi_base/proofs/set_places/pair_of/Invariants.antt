@@ -1,6 +1,6 @@
 use Rattle.std.proofs.Common.{◌≡◌, drop}
-use Rattle.end_rules.specs.Sets.{pair_of}
-use Rattle.association_sets.proofs.sets.pair_of.Given as goal
+use Rattle.osi_base.specs.SetPlaces.{pair_of}
+use Rattle.osi_base.proofs.set_places.pair_of.Given as goal
 
 abbrev pub invariant-loop-item : goal.invariant-loop-item
 invariant-loop-item l = pair_of (drop l.item-index l.items) l.id ≡ pair_of l.items l.id
