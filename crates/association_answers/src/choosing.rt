@@ -58,7 +58,11 @@ fn contexts_counted(body: &Body) -> usize
 
 /// The answers to a peer's alteration; the own additions that aren't answered count too.
 #[tactic(auto, using(crate::proofs::Counted::capped))]
-pub fn policy(basis: &Ground<'_>, body: &Body, asked: &Alteration) -> Result<Answers, NoMemory>
+pub fn alteration_answers(
+    basis: &Ground<'_>,
+    body: &Body,
+    asked: &Alteration,
+) -> Result<Answers, NoMemory>
     ensures { IfOk result (λ answers. answers ≡ policy (base_in basis.now) (seen body.now)
         asked.now) }
 {

@@ -22,10 +22,10 @@ ghost use Rattle.association_reacting.specs.Reacts.{ReactsAs};
 ghost use Rattle.association_end.specs.Reacted.{ReactsTo};
 ghost use Rattle.association_end.specs.Sound.{IsMessage};
 
-use association_answers::{Reaction, fails};
+use association_answers::{Reaction, fail_association};
 use association_codecs::Codecs;
 use association_intake::Front;
-use association_meaning::{Halt, ReadingGround, arrived_at, meaning};
+use association_meaning::{Halt, ReadingGround, arrived_at, meaning_of_unit};
 use association_place::{is_unit_in_place, is_unit_purged};
 use association_reacting::{fails_on_accepted, has_connection, react, react_to_end};
 use association_sets::copy_set;
@@ -172,7 +172,7 @@ fn fail_unit(
         (seen body.new)) }
 {
     let accepted = contexts_of(basis, codecs, body, unit)?;
-    fails(basis, body, accepted.as_slice(), fault)
+    fail_association(basis, body, accepted.as_slice(), fault)
 }
 
 /// The number of the end of an activity, where the unit is one.
@@ -241,7 +241,7 @@ fn meant(
     ensures { GivesAs seen_word result (rule_meaning (base_in basis.now) (seen body.now) unit.now
         start) }
 {
-    meaning(
+    meaning_of_unit(
         &reading(basis, codecs),
         body.link.accepted.as_slice(),
         body.sets.held.as_slice(),

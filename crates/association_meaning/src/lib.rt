@@ -15,4 +15,4 @@ mod values;
 
 pub use basis::{Halt, ReadingGround};
 pub use transfers::arrived_at;
-pub use units::meaning;
+pub use units::meaning_of_unit;

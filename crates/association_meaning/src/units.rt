@@ -132,7 +132,7 @@ fn accepting(
     }
 }
 
-/// As `meaning`, step by step.
+/// As `meaning_of_unit`, step by step.
 fn unit_meaning(
     basis: &ReadingGround<'_>,
     accepted: &[SetItem],
@@ -154,7 +154,7 @@ fn unit_meaning(
 /// set, or the fault that ends the association: its unit of the presentation, then contexts and
 /// forms of values, then their APDUs. Its user data begin at this place of its TSDU. `NoMemory`
 /// where memory runs out; the unit is left as it is.
-pub fn meaning(
+pub fn meaning_of_unit(
     basis: &ReadingGround<'_>,
     accepted: &[SetItem],
     held: &[SetItem],

@@ -90,7 +90,11 @@ fn make(basis: &Ground<'_>, body: &mut Body, call: &Call) -> Result<CallOutcome,
 }
 
 /// Makes a call. A refused one changes nothing, unless memory was refused.
-pub fn call(basis: &Ground<'_>, body: &mut Body, call: &Call) -> Result<CallOutcome, CallRefusal>
+pub fn make_call(
+    basis: &Ground<'_>,
+    body: &mut Body,
+    call: &Call,
+) -> Result<CallOutcome, CallRefusal>
     ensures { CalledAs (base_in basis.now) (seen body.old) (seen body.new) call.now result }
 {
     match check_phase(basis, body, call) {

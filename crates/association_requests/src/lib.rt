@@ -10,8 +10,8 @@ mod operations;
 mod own_messages;
 mod sent;
 
-pub use broken::broke;
+pub use broken::connection_broke;
 pub use call_outcome::CallOutcome;
-pub use calls::call;
+pub use calls::make_call;
 pub use own_messages::{Own, next_own};
 pub use sent::after_sent;

@@ -20,7 +20,7 @@ use association_calls::{
 use association_sends::{
     connection_request, finish_message, give_message, please_message, user_abort,
 };
-use association_sets::{Alteration, listed};
+use association_sets::{Alteration, restored_list};
 use association_state::{Body, Ground};
 use association_words::{ActivityWord, DataWord, MarkWord, Message, Word};
 use dialogue::{Call, CallRefusal};
@@ -121,7 +121,7 @@ fn due_restart(basis: &Ground<'_>, body: &Body, n: u32) -> Result<CallOutcome, C
         (Some (list_of_set (restored_set (seen body.now) n))))) ∷ []) result }
 {
     let answer = can_restart(basis, body, n)?;
-    let list = listed(basis.alloc, body.saved.set_below(n))?;
+    let list = restored_list(basis.alloc, body.saved.set_below(n))?;
     Ok(CallOutcome {
         answer,
         message: Some(marks(MarkWord::Restart {

@@ -130,7 +130,7 @@ fn delete(set: &mut Vec<SetItem>, ids: &[u32], answers: &[u8])
 }
 
 /// Alters a set as was asked for and answered: additions first.
-pub fn alter(
+pub fn alter_set(
     alloc: Global,
     set: SetList,
     alteration: &Alteration,

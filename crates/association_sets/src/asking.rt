@@ -139,7 +139,7 @@ fn is_badly_offered(add: &[Proposal]) -> bool
 
 /// Whether nothing is asked for, an identifier comes twice or is none, or an addition offers no or
 /// too many transfer syntaxes.
-pub fn is_bad(alloc: Global, alteration: &Alteration) -> Result<bool, NoMemory>
+pub fn is_bad_alteration(alloc: Global, alteration: &Alteration) -> Result<bool, NoMemory>
     ensures { IfOk result (λ bad. bad ≡ is_bad alteration.now) }
 {
     let ids = named_ids(alloc, alteration)?;

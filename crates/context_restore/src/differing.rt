@@ -6,7 +6,7 @@ ghost use Rattle.context_restore.specs.Versions.{same_syntax, same_pair, missing
 ghost use Rattle.context_restore.specs.Chain.{from_id, begins_with, back_of};
 
 use crate::node::VersionNode;
-use context_sets::{Contexts, put};
+use context_sets::{Contexts, put_context};
 use osi_base::{Copied, ListOf, NoMemory, Pair, SetItem, SetList, Syntax, remove_context};
 use std::alloc::Global;
 
@@ -136,7 +136,7 @@ fn put_all(alloc: Global, set: &mut Vec<SetItem>, items: &[SetItem]) -> Result<(
 {
     for item in items {
         set.reserve(1)?;
-        put(set, item.copy(alloc)?);
+        put_context(set, item.copy(alloc)?);
     }
     Ok(())
 }

@@ -6,7 +6,7 @@ ghost use Rattle.context_sets.specs.Sets.{put};
 use osi_base::{SetItem, place_of};
 
 /// Puts a context into a set that has room for it, in the place of one with its identifier.
-pub fn put(items: &mut Vec<SetItem>, new: SetItem)
+pub fn put_context(items: &mut Vec<SetItem>, new: SetItem)
     requires { vec_len items.old < vec_capacity items.old }
     ensures items { items.new.items ≡ put new items.old.items }
     ensures len { vec_len items.new ≤ vec_len items.old + 1 }

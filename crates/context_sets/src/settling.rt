@@ -5,7 +5,7 @@ ghost use Rattle.context_sets.specs.Alterations.{syntax_known, accepted_as, with
 ghost use Rattle.context_sets.specs.Results.{acceptances};
 
 use crate::alteration::Alteration;
-use crate::sets::put;
+use crate::sets::put_context;
 use crate::syntaxes::syntax_named;
 use osi_base::{AddAnswer, Answers, Pair, Proposal, Proposals, SetItem, Syntax, remove_context};
 
@@ -54,7 +54,7 @@ fn put_accepted(items: &mut Vec<SetItem>, proposal: Proposal, answer: &AddAnswer
             abstract_name,
             transfer,
         };
-        put(items, SetItem { id, pair });
+        put_context(items, SetItem { id, pair });
     }
 }
 

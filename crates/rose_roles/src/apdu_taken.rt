@@ -68,7 +68,7 @@ pub enum RoseTaken {
 }
 
 /// A reject with a problem of this kind and number.
-pub fn rejected(id: Option<i64>, kind: ProblemKind, number: u8) -> RoseTaken
+pub fn reject_with(id: Option<i64>, kind: ProblemKind, number: u8) -> RoseTaken
     ensures { result ≡ takens.Reject id (problem_with kind number) }
 {
     RoseTaken::Reject {
@@ -82,11 +82,11 @@ pub fn rejected(id: Option<i64>, kind: ProblemKind, number: u8) -> RoseTaken
 
 /// What becomes of octets that are no head of an APDU: a reject with a general problem (X.880
 /// 9.4.2), or a reject that can't be read.
-pub fn refused(fault: HeadFault) -> Result<RoseTaken, NoMemory>
+pub fn refused_head(fault: HeadFault) -> Result<RoseTaken, NoMemory>
     ensures { result ≡ refused_as fault }
 {
     match fault {
-        HeadFault::General(number) => Ok(rejected(None, ProblemKind::General, number)),
+        HeadFault::General(number) => Ok(reject_with(None, ProblemKind::General, number)),
         HeadFault::BadReject => Ok(RoseTaken::BadReject),
         HeadFault::NoMemory => Err(NoMemory),
     }
@@ -108,7 +108,7 @@ pub(crate) fn result_taken(id: &i64, judged: Judged) -> RoseTaken
 {
     match judged {
         Judged::Right(value) => RoseTaken::Result { id: *id, value },
-        Judged::Wrong(number) => rejected(Some(*id), ProblemKind::Result, number),
+        Judged::Wrong(number) => reject_with(Some(*id), ProblemKind::Result, number),
     }
 }
 
@@ -122,8 +122,8 @@ pub(crate) fn error_taken(id: &i64, error: Option<u32>, judged: Judged) -> RoseT
             error,
             parameter,
         },
-        (Judged::Right(_), None) => rejected(Some(*id), ProblemKind::Error, 2),
-        (Judged::Wrong(number), _) => rejected(Some(*id), ProblemKind::Error, number),
+        (Judged::Right(_), None) => reject_with(Some(*id), ProblemKind::Error, 2),
+        (Judged::Wrong(number), _) => reject_with(Some(*id), ProblemKind::Error, number),
     }
 }
 
@@ -155,5 +155,5 @@ pub(crate) fn invoked(
 pub(crate) fn invoke_rejected(id: &i64, number: u8) -> RoseTaken
     ensures { result ≡ takens.Reject (Some id.now) (problem_with kinds.Invoke number) }
 {
-    rejected(Some(*id), ProblemKind::Invoke, number)
+    reject_with(Some(*id), ProblemKind::Invoke, number)
 }

@@ -16,7 +16,7 @@ ghost use Rattle.rose_roles.specs.Calls.{Kept, Invoking, called, key_of, AreOpen
 
 use crate::apdu_problems::{judge_error, judge_result};
 use crate::apdu_taken::{
-    RoseTaken, error_taken, is_of_invocation, own_rejected, rejected, result_taken,
+    RoseTaken, error_taken, is_of_invocation, own_rejected, reject_with, result_taken,
 };
 use crate::invoked_with::InvokedWith;
 use crate::opening::{called, enter, key_of, leave, own_key};
@@ -174,7 +174,7 @@ impl Invoker {
             return Ok(RoseTaken::BadReject);
         };
         match self.called_at(id) {
-            None => Ok(rejected(head.id, ProblemKind::Result, 0)),
+            None => Ok(reject_with(head.id, ProblemKind::Result, 0)),
             Some(call) => {
                 let taken = self.end_result(forest, syntax, tables, id, call, &head)?;
                 Ok(taken)
@@ -239,7 +239,7 @@ impl Invoker {
             return Ok(RoseTaken::BadReject);
         };
         match self.called_at(id) {
-            None => Ok(rejected(head.id, ProblemKind::Error, 0)),
+            None => Ok(reject_with(head.id, ProblemKind::Error, 0)),
             Some(call) => {
                 let taken = self.end_error(forest, syntax, tables, id, call, code, &head)?;
                 Ok(taken)

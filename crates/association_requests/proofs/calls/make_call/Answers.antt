@@ -1,6 +1,6 @@
 use Rattle.association_state.specs.Seen.{base_in, seen}
 use Rattle.association_requests.proofs.Rows.{refused_first, by_rows}
-use Rattle.association_requests.proofs.calls.call.Goals as goal
+use Rattle.association_requests.proofs.calls.make_call.Goals as goal
 
 pub returns-in-None : goal.returns-in-None
 returns-in-None c = by_rows (base_in c.args.basis.now) (seen c.args.body.now) (seen c.make.new.body) c.args.call.now c.make.result c.in-None.ensures c.make.ensures

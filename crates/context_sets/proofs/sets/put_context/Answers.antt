@@ -4,7 +4,7 @@ use Rattle.context_sets.specs.Sets.{put}
 use Rattle.osi_base.specs.SetPlaces.{place_of}
 use Rattle.osi_base.proofs.Placing.{found_within}
 use Rattle.context_sets.proofs.Placing.{put_as}
-use Rattle.context_sets.proofs.sets.put.Goals as goal
+use Rattle.context_sets.proofs.sets.put_context.Goals as goal
 
 pub insert-requires : goal.insert-requires
 insert-requires c = let h = found_within c.args.new.id c.deref.result.now _ c.in-Err.ensures in omega arith

@@ -1,6 +1,6 @@
 use Rattle.std.proofs.Common.{◌≡◌, ◌<◌, ◌^◌, drop}
 use Rattle.value_text.specs.Numbers.{below, digits_after}
-use Rattle.value_text.proofs.decimal.natural.Given as goal
+use Rattle.value_text.proofs.decimal.decimal_natural.Given as goal
 
 abbrev pub invariant-loop-digit : goal.invariant-loop-digit
 invariant-loop-digit l = record {

@@ -2,7 +2,7 @@ use Rattle.std.proofs.Common.{subst}
 use Rattle.association_words.specs.Seen.{seen_word}
 use Rattle.association_meaning.specs.Grounds.{association_base, GivesAs}
 use Rattle.association_meaning.proofs.Meant.{same_meaning}
-use Rattle.association_meaning.proofs.units.meaning.Goals as goal
+use Rattle.association_meaning.proofs.units.meaning_of_unit.Goals as goal
 
 pub returns : goal.returns
 returns c =
