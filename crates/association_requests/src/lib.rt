@@ -13,5 +13,5 @@ mod sent;
 pub use broken::connection_broke;
 pub use call_outcome::CallOutcome;
 pub use calls::make_call;
-pub use own_messages::{Own, next_own};
+pub use own_messages::{OwnAct, next_own};
 pub use sent::after_sent;

@@ -21,7 +21,7 @@ const LAST_ACTIVITY: u32 = 999_999;
 /// What an end does by itself: it sends a message, or encodes the item of its current transfer on a
 /// context.
 #[derive(Debug, Drop)]
-pub enum Own {
+pub enum OwnAct {
     /// This message is sent.
     Sends(Message),
     /// The item is encoded on the context with this identifier.
@@ -90,17 +90,17 @@ fn next_part(basis: &Ground<'_>, checkpoint: u32, left: &[u8]) -> Result<Octets,
 }
 
 /// A mark is sent.
-fn sends_mark(number: u32) -> Own
+fn sends_mark(number: u32) -> OwnAct
     ensures { seen_act result ≡ SendsNow (Session (OfMarks (Mark number))) }
 {
-    Own::Sends(Message::Session(Word::OfMarks(MarkWord::Mark { number })))
+    OwnAct::Sends(Message::Session(Word::OfMarks(MarkWord::Mark { number })))
 }
 
 /// The end of an activity is sent.
-fn sends_end(number: u32) -> Own
+fn sends_end(number: u32) -> OwnAct
     ensures { seen_act result ≡ SendsNow (Session (OfActivities (End number))) }
 {
-    Own::Sends(Message::Session(Word::OfActivities(ActivityWord::End { number })))
+    OwnAct::Sends(Message::Session(Word::OfActivities(ActivityWord::End { number })))
 }
 
 /// The mark, the end or the part that comes next of an encoded transfer; nothing where its window
@@ -110,7 +110,7 @@ fn next_of(
     body: &Body,
     transfer: &Transfer,
     encoded: &Encoded,
-) -> Result<Option<Own>, NoMemory>
+) -> Result<Option<OwnAct>, NoMemory>
     ensures { IfOk result (λ act. option_map seen_act act ≡ next_of (seen body.now)
         (seen_transfer transfer.now) (seen_encoded transfer.now.item.apdu encoded.now)
         (left_of (seen_transfer transfer.now) (seen_encoded transfer.now.item.apdu encoded.now))) }
@@ -126,16 +126,16 @@ fn next_of(
         return Ok(Some(sends_end(transfer.pieces.next())));
     }
     let part = next_part(basis, encoded.checkpoint, left)?;
-    Ok(Some(Own::Sends(part_message(basis.alloc, body, part)?)))
+    Ok(Some(OwnAct::Sends(part_message(basis.alloc, body, part)?)))
 }
 
 /// An item is encoded once it has a carrier.
-fn encodes_on(carrier: Option<u32>) -> Option<Own>
+fn encodes_on(carrier: Option<u32>) -> Option<OwnAct>
     ensures { option_map seen_act result ≡ encodes_on carrier }
 {
     match carrier {
         None => None,
-        Some(context) => Some(Own::Encodes(context)),
+        Some(context) => Some(OwnAct::Encodes(context)),
     }
 }
 
@@ -144,7 +144,7 @@ fn next_of_transfer(
     basis: &Ground<'_>,
     body: &Body,
     transfer: &Transfer,
-) -> Result<Option<Own>, NoMemory>
+) -> Result<Option<OwnAct>, NoMemory>
     ensures { IfOk result (λ act. option_map seen_act act ≡ next_in (base_in basis.now)
         (seen body.now) (Some (seen_transfer transfer.now))) }
 {
@@ -158,14 +158,14 @@ fn next_of_transfer(
 }
 
 /// The start of the next item, where it has a carrier and its number is one.
-fn next_start(basis: &Ground<'_>, body: &Body) -> Option<Own>
+fn next_start(basis: &Ground<'_>, body: &Body) -> Option<OwnAct>
     ensures { option_map seen_act result ≡ next_start (base_in basis.now) (seen body.now)
         (seen body.now).sending.queue }
 {
     let item = body.sending.queue.first()?;
     let started = body.sending.started;
     if carrier_in(basis, body, item.context).is_some() && started < LAST_ACTIVITY {
-        Some(Own::Sends(Message::Session(Word::OfActivities(ActivityWord::Start {
+        Some(OwnAct::Sends(Message::Session(Word::OfActivities(ActivityWord::Start {
             activity: started + 1,
         }))))
     } else {
@@ -174,7 +174,7 @@ fn next_start(basis: &Ground<'_>, body: &Body) -> Option<Own>
 }
 
 /// What the end does next by itself, if anything.
-pub fn next_own(basis: &Ground<'_>, body: &Body) -> Result<Option<Own>, NoMemory>
+pub fn next_own(basis: &Ground<'_>, body: &Body) -> Result<Option<OwnAct>, NoMemory>
     ensures { IfOk result (λ act. option_map seen_act act ≡ next_own (base_in basis.now)
         (seen body.now)) }
 {

@@ -36,9 +36,6 @@ ok_is x y e = cc
 
 -- ---- octets in parts
 
-pub octets_tail : (o : ℕ) (os : List ℕ) → AreOctets (o ∷ os) → AreOctets os
-octets_tail o os h = record { each = λ i. h.each (suc i) }
-
 pub octets_left : (a b : List ℕ) → AreOctets (a ++ b) → AreOctets a
 octets_left [] b h = record { each = λ i. omega arith }
 octets_left (o ∷ a) b h = record { each = at o a b h }
