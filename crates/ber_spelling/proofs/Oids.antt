@@ -98,7 +98,7 @@ mutual
       let body = sym (ap (λ (b : Bool). cond b None (cond (nat_lt d 128) (push_front (sized (128 * sized a + d)) (subidentifiers_of 0 false ds)) (subidentifiers_of (sized (128 * sized a + (d - 128))) true ds))) (and_false (nat_eq d 128))) ∙ e in
       digit_found a d ds ns are body (λ b ms f. begun_found b ds ms (octets_tail d ds are) f) (λ ms f. free_found ds ms (octets_tail d ds are) f)
 
-  pub free_found : (digits ns : List ℕ) → AreOctets digits → subidentifiers_of 0 false digits ≡ Some ns → AreSized ns digits
+  free_found : (digits ns : List ℕ) → AreOctets digits → subidentifiers_of 0 false digits ≡ Some ns → AreSized ns digits
   free_found [] ns are e = let same : [] ≡ ns = cc in subst (λ (x : List ℕ). AreSized x []) same refl
   free_found (d ∷ ds) ns are e =
       elim (chosen_some (nat_eq d 128 && true) None _ ns e) [
@@ -107,6 +107,9 @@ mutual
             let ne : d ≢ 128 = eqb-false d 128 (sym (test_or (nat_eq d 128)) ∙ t.0) in
             goes_sized d ds ns ne (digit_found 0 d ds ns are t.1 (λ b ms f. begun_found b ds ms (octets_tail d ds are) f) (λ ms f. free_found ds ms (octets_tail d ds are) f))
       ]
+
+pub subs_found : (digits ns : List ℕ) → AreOctets digits → subidentifiers_of 0 false digits ≡ Some ns → AreSized ns digits
+subs_found digits ns are e = free_found digits ns are e
 
 -- ---- the other way
 

@@ -8,7 +8,7 @@ use Rattle.asn1_types.specs.Fits.{has_32_bits}
 use Rattle.ber_spelling.specs.Octets.{AreOctets}
 use Rattle.ber_spelling.specs.Primitives.{subidentifiers_of}
 use Rattle.ber_spelling.specs.Spelling.{AreSubidentifiers}
-use Rattle.ber_spelling.proofs.Oids.{AllSmall, free_found, subs_again, sized_subs, second_low, root_small}
+use Rattle.ber_spelling.proofs.Oids.{AllSmall, subs_found, subs_again, sized_subs, second_low, root_small}
 use Rattle.packed_codec.specs.ObjectIds.{first_arc, arcs_from, judged_arcs, arcs_of, base_128, subidentifiers, arcs_octets}
 use Rattle.packed_codec.proofs.Spelled.{some_if}
 use Rattle.packed_codec.proofs.Base128.{base_unique, base_128_is}
@@ -115,7 +115,7 @@ arcs_sound c arcs are e = by_subs (subidentifiers_of 0 false c) refl e
         let u = and_parts (list_all has_32_bits (arcs_from ns)) (is_oid (arcs_from ns)) t.0 in
         let back = arcs_back ns (arcs_small (arcs_from ns) u.0) in
         let subs : subidentifiers arcs ≡ ns = ap subidentifiers (sym t.1) ∙ back.0 in
-        let spelled = sized_subs ns c (low_all ns back.1) (free_found c ns are s) in
+        let spelled = sized_subs ns c (low_all ns back.1) (subs_found c ns are s) in
         record {
           oid = ap is_oid (sym t.1) ∙ u.1;
           small = ap (list_all has_32_bits) (sym t.1) ∙ u.0;
