@@ -1,7 +1,7 @@
 //! APDUs of association control read, with the fields that are passed over.
 
 ghost use Rattle.std.specs.Prelude.{◌≡◌, ◌+◌, ◌<◌, ◌^◌, length, IfOk};
-ghost use Rattle.asn1_types.specs.Limits.{most_octets};
+ghost use Rattle.osi_base.specs.Limits.{most_octets};
 ghost use Rattle.ber_spelling.specs.Reading.{Gives, GoesOn, opened_of, spot_of};
 ghost use Rattle.passed_fields.specs.Known.{HaveRows};
 ghost use Rattle.passed_fields.specs.Front.{front_at};

@@ -5,7 +5,8 @@ use Rattle.osi_base.specs.declared.words.Proposal.{Proposal}
 use Rattle.osi_base.specs.declared.words.AddAnswer.{AddAnswer}
 use Rattle.osi_base.specs.declared.words.Answers.{Answers}
 use Rattle.osi_base.specs.declared.words.SetItem.{SetItem}
-use Rattle.end_rules.specs.Base.{Base, is_reliable, acse_name, rtse_name, ber_name, most_contexts}
+use Rattle.osi_base.specs.Limits.{most_contexts}
+use Rattle.end_rules.specs.Base.{Base, is_reliable, acse_name, rtse_name, ber_name}
 use Rattle.end_rules.specs.Sets.{Alteration, same_name, syntax_named, is_among, pair_of, is_fixed, has_parity, count_added, proposed_ids}
 use Rattle.end_rules.specs.State.{Body}
 use Rattle.end_rules.specs.Altering.{used, has_double}

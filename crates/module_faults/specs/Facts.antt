@@ -4,7 +4,7 @@ use Rattle.std.specs.List.{list_any}
 use Rattle.std.specs.Ordering.{int_eq}
 use Rattle.std.specs.Prelude.{int_lt}
 use Rattle.std.specs.Str.{bytes_eq}
-use Rattle.asn1_types.specs.Limits.{most_levels}
+use Rattle.osi_base.specs.Limits.{most_levels}
 use Rattle.notation_tokens.specs.declared.token.Located.{Located}
 use Rattle.operation_notation.specs.Tree.{TypeTree, type_tree, PlainTree, boolean, null, integer, enumerated, octets, bits, object_id, text, sequence_of, set_of, sequence, set, choice, named, PartTrees, no_parts, part}
 use Rattle.operation_notation.specs.declared.module.Assignment.{Assignment}

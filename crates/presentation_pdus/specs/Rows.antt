@@ -1,12 +1,11 @@
 -- The units of the presentation protocol as rows of types (X.226 8.2 to 8.4), without the fields that are passed over
 -- and without default contexts.
 use Rattle.std.specs.Prelude.{ℕ, pos, negsuc, true, false, List, [], ◌∷◌, codes}
-use Rattle.osi_base.specs.Limits.{highest_context}
+use Rattle.osi_base.specs.Limits.{highest_context, most_spelled}
 use Rattle.asn1_types.specs.declared.row.Class.TheVariants.{Application}
 use Rattle.asn1_types.specs.declared.row.Part.{Part}
 use Rattle.asn1_types.specs.declared.row.TypeRow.{TypeRow}
 use Rattle.asn1_types.specs.declared.row.TypeRow.TheVariants.{Integer, OctetString, BitString, ObjectId, Sequence, Set, SequenceOf, Choice, Tagged, Any}
-use Rattle.asn1_types.specs.Limits.{most_spelled}
 use Rattle.fixed_tables.specs.Rows.{part, implicit, explicit}
 
 abbrev pub connect_row : ℕ

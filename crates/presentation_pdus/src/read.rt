@@ -1,7 +1,7 @@
 //! Units of the presentation protocol read from the left.
 
 ghost use Rattle.std.specs.Prelude.{◌≡◌, ◌+◌, ◌<◌, ◌^◌, length, IfOk, [], Some, None};
-ghost use Rattle.asn1_types.specs.Limits.{most_spelled};
+ghost use Rattle.osi_base.specs.Limits.{most_spelled};
 ghost use Rattle.ber_spelling.specs.Reading.{Gives, GoesOn, opened_of, spot_of};
 ghost use Rattle.ber_spelling.specs.declared.fault.ReadFault.TheVariants.{NotSpelled};
 ghost use Rattle.ber_spelling.specs.Rules.{reads, plain};

@@ -1,10 +1,9 @@
 -- The APDUs of reliable transfer as rows of types (X.228 9).
 use Rattle.std.specs.Prelude.{ℕ, ℤ, pos, negsuc, true, false, List, [], ◌∷◌, codes}
-use Rattle.osi_base.specs.Limits.{most_checkpoint, most_32}
+use Rattle.osi_base.specs.Limits.{most_checkpoint, most_32, most_spelled}
 use Rattle.asn1_types.specs.declared.row.Class.TheVariants.{Universal}
 use Rattle.asn1_types.specs.declared.row.TypeRow.{TypeRow}
 use Rattle.asn1_types.specs.declared.row.TypeRow.TheVariants.{Integer, OctetString, Sequence, Set, Choice, Tagged, Any}
-use Rattle.asn1_types.specs.Limits.{most_spelled}
 use Rattle.fixed_tables.specs.Rows.{part, implicit, explicit}
 
 -- the row of all APDUs

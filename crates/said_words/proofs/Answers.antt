@@ -5,7 +5,8 @@ use Rattle.std.specs.List.{list_any}
 use Rattle.osi_base.specs.declared.syntax.Syntax.{Syntax}
 use Rattle.osi_base.specs.declared.syntax.Syntax.TheVariants.{Ber}
 use Rattle.osi_base.specs.declared.words.Proposal.{Proposal}
-use Rattle.end_rules.specs.Base.{Base, ber_name, most_contexts}
+use Rattle.osi_base.specs.Limits.{most_contexts}
+use Rattle.end_rules.specs.Base.{Base, ber_name}
 use Rattle.end_rules.specs.Sets.{Alteration, same_name, syntax_named, pair_of, is_among, is_fixed, count_added}
 use Rattle.end_rules.specs.State.{Body}
 use Rattle.end_rules.specs.Altering.{used}

@@ -1,8 +1,8 @@
 -- Reading that is left somewhere in a value, and goes on there: what the octets that follow make of it.
 use Rattle.std.specs.Prelude.{◌≡◌, ℕ, zero, suc, ◌+◌, ◌-◌, ◌<◌, ◌≤◌, ◌^◌, Bool, true, false, ◌&&◌, ◌||◌, Option, Some, None, List, [], ◌∷◌, ◌++◌, length, take, drop, Ok, Err, nat_lt, nat_eq, slice_index, if◌then◌else◌}
 use Rattle.osi_base.specs.declared.words.Kind.TheVariants.{Tag, Length}
+use Rattle.osi_base.specs.Limits.{most_octets}
 use Rattle.asn1_types.specs.Whole.{is_marked, number_256}
-use Rattle.asn1_types.specs.Limits.{most_octets}
 use Rattle.ber_spelling.specs.declared.fault.ReadFault.TheVariants as faults
 use Rattle.ber_spelling.specs.declared.spot.Scope.{Scope}
 use Rattle.ber_spelling.specs.Reading.{Spot, Reading, ◌>>=◌, refuse, within}

@@ -1,9 +1,9 @@
 -- What one octet makes of a scanner.
 use Rattle.std.specs.Prelude.{ℕ, zero, suc, ◌+◌, ◌-◌, ◌*◌, ◌%◌, Bool, true, false, ◌&&◌, ◌||◌, nat_lt, nat_le, nat_eq, if◌then◌else◌}
+use Rattle.osi_base.specs.Limits.{most_octets}
 use Rattle.asn1_types.specs.Rows.{is_no_tag}
 use Rattle.ber_spelling.specs.Fields.{is_constructed}
 use Rattle.asn1_types.specs.Tags.{class_of, capped}
-use Rattle.asn1_types.specs.Limits.{most_octets}
 use Rattle.stream_front.specs.declared.scanner.Scanner.{Scanner}
 use Rattle.stream_front.specs.declared.scanner.Stage.{Stage}
 use Rattle.stream_front.specs.declared.scanner.Stage.TheVariants as stage

@@ -1,8 +1,8 @@
 //! What one octet makes of a scanner.
 
 ghost use Rattle.std.specs.Prelude.{◌≡◌, ◌<◌, ◌≤◌, ◌^◌, ◌+◌, nat_lt};
+ghost use Rattle.osi_base.specs.Limits.{most_octets};
 ghost use Rattle.asn1_types.specs.Tags.{capped};
-ghost use Rattle.asn1_types.specs.Limits.{most_octets};
 ghost use Rattle.stream_front.specs.Resuming.{IsSoundStage};
 ghost use Rattle.stream_front.specs.Steps as steps;
 

@@ -2,7 +2,8 @@
 
 ghost use Rattle.std.specs.Prelude.{◌≡◌, ◌+◌, ◌≤◌, ◌<◌, ◌++◌, [], ◌∷◌, length, true, false, OnOk, IfOk};
 ghost use Rattle.std.specs.List.{flat_map};
-ghost use Rattle.tpkt.specs.Wire.{two, packet, header, parameter, unit_least, unit_most};
+ghost use Rattle.osi_base.specs.Limits.{unit_least, unit_most};
+ghost use Rattle.tpkt.specs.Wire.{two, packet, header, parameter};
 ghost use Rattle.tpkt.specs.Written.{part_packet, written_tsdu, size_parameter, selector_parameter, connection_fields, control_packet, HasRoom};
 
 use crate::numbers::push_number;
