@@ -4,7 +4,7 @@ use Rattle.std.specs.List.{list_any}
 use Rattle.std.specs.Ordering.{int_eq}
 use Rattle.std.specs.Prelude.{int_lt}
 use Rattle.std.specs.Str.{bytes_eq}
-use Rattle.osi_base.specs.Limits.{most_levels}
+use Rattle.osi_base.specs.Limits.{most_levels, most_signed}
 use Rattle.notation_tokens.specs.declared.token.Located.{Located}
 use Rattle.operation_notation.specs.Tree.{TypeTree, type_tree, PlainTree, boolean, null, integer, enumerated, octets, bits, object_id, text, sequence_of, set_of, sequence, set, choice, named, PartTrees, no_parts, part}
 use Rattle.operation_notation.specs.declared.module.Assignment.{Assignment}
@@ -91,7 +91,7 @@ abbrev pub simple : ℕ → ℕ → DefaultKind → Facts
 simple number nesting base = record { nesting = nesting; tags = record { class = 0; number = number } ∷ []; base = base }
 
 abbrev pub range_base : Option RangeText → DefaultKind
-range_base None = numbers (negsuc 9223372036854775807) (pos 9223372036854775807)
+range_base None = numbers (negsuc most_signed) (pos most_signed)
 range_base (Some r) = numbers r.low r.high
 
 -- the universal tag of a kind of text

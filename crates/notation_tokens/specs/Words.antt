@@ -3,7 +3,7 @@ use Rattle.std.specs.Prelude.{codes, ℕ, ◌-◌, Bool, true, false, ◌&&◌, 
 use Rattle.std.specs.List.{list_any, list_all}
 use Rattle.std.specs.Char.{is_ascii_digit, is_ascii_uppercase, is_ascii_lowercase}
 use Rattle.std.specs.Str.Parse.{digits_value}
-use Rattle.osi_base.specs.Limits.{most_signed}
+use Rattle.osi_base.specs.Limits.{most_signed, most_negated}
 use Rattle.notation_tokens.specs.Lexeme.{Lexeme, same}
 use Rattle.notation_tokens.specs.Forms.{is_word}
 use Rattle.notation_tokens.specs.declared.token.TokenKind.{TokenKind}
@@ -104,7 +104,7 @@ negative (Some n) = if n == 0 then None else Some (negsuc (n - 1))
 -- the integer of 64 bits that a text writes; -0 is none
 unfoldable pub int : List ℕ → Option ℤ
 int [] = None
-int (c ∷ cs) = if c == 45 then negative (number 9223372036854775808 cs) else option_map pos (number most_signed (c ∷ cs))
+int (c ∷ cs) = if c == 45 then negative (number most_negated cs) else option_map pos (number most_signed (c ∷ cs))
 
 abbrev pub number_of : ℕ → Lexeme → Option ℕ
 number_of most t = number most t.text

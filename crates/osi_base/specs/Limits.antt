@@ -12,6 +12,10 @@ number_bits = 64
 abbrev pub most_signed : ℕ
 most_signed = 9223372036854775807
 
+-- the number whose negative is the least of 64 bits with a sign
+abbrev pub most_negated : ℕ
+most_negated = 9223372036854775808
+
 -- the last value of a count, which has 64 bits
 abbrev pub last_count : ℕ
 last_count = 18446744073709551615
@@ -19,6 +23,14 @@ last_count = 18446744073709551615
 -- the last number of 32 bits
 abbrev pub most_32 : ℕ
 most_32 = 4294967295
+
+-- the last number of an octet
+abbrev pub last_octet : ℕ
+last_octet = 255
+
+-- the first number that two octets don't hold
+abbrev pub past_two_octets : ℕ
+past_two_octets = 65536
 
 -- ---- values and their spellings (this project's own)
 
@@ -79,6 +91,18 @@ unit_most = 65531
 -- the greatest size of a unit that a CR or a CC can name (X.224 13.3.4)
 abbrev pub named_most : ℕ
 named_most = 8192
+
+-- octets of a header behind its length (X.224 13.2.1)
+abbrev pub most_header_fields : ℕ
+most_header_fields = 254
+
+-- octets of a header with its length (X.224 13.2.1)
+abbrev pub most_header : ℕ
+most_header = 255
+
+-- the length of a header that is reserved (X.224 13.2.1)
+abbrev pub reserved_length : ℕ
+reserved_length = 255
 
 -- octets of a TSDU (this project's own)
 abbrev pub tsdu_limit : ℕ

@@ -8,6 +8,7 @@ ghost use Rattle.ber_spelling.specs.Rules.{reads, plain};
 ghost use Rattle.passed_fields.specs.Known.{HaveRows};
 ghost use Rattle.passed_fields.specs.Front.{front_at};
 ghost use Rattle.passed_fields.specs.Reading.{fielded_at};
+ghost use Rattle.presentation_pdus.specs.Rows.{row_count};
 ghost use Rattle.presentation_pdus.specs.Fields.{context_tag, sequence_tag, user_tag, mode_row, connect_fields, connect_passed, accept_fields, accept_passed, reject_fields, alter_fields, alter_ack_fields, restart_fields, user_abort_fields, provider_abort_fields};
 ghost use Rattle.presentation_pdus.specs.Selected.{again_kind, has_context, half_at, both, halves_done, no_half, halves_at, selected_at};
 ghost use Rattle.presentation_pdus.specs.Units.{unit_at, connect_at, accept_at, alteration_at, abort_at, data_at, ppdu_run};
@@ -78,7 +79,7 @@ fn half<'a>(
     spot: Spot<'a>,
 ) -> Result<(Halves, Spot<'a>), ReadFault>
     requires rows { HaveRows table.now shape.now.known.now }
-    requires all { length table.now ≡ 64 }
+    requires all { length table.now ≡ row_count }
     requires whole { spot.place + length spot.rest.now < 2 ^ 63 }
     requires start { GoesOn opened.now.start.place (length opened.now.start.rest.now) spot }
     ensures gives { Gives (λ x. (x.0, spot_of x.1)) result
@@ -149,7 +150,7 @@ fn all_halves<'a>(
     spot: Spot<'a>,
 ) -> Result<(Val, Spot<'a>), ReadFault>
     requires rows { HaveRows table.now shape.now.known.now }
-    requires all { length table.now ≡ 64 }
+    requires all { length table.now ≡ row_count }
     requires whole { spot.place + length spot.rest.now < 2 ^ 63 }
     ensures gives { Gives (λ x. (x.0, spot_of x.1)) result
         (halves_at (reads table.now mode_row plain)
@@ -187,7 +188,7 @@ fn selected<'a>(
     spot: Spot<'a>,
 ) -> Result<(Val, Spot<'a>), ReadFault>
     requires rows { HaveRows table.now shape.now.known.now }
-    requires all { length table.now ≡ 64 }
+    requires all { length table.now ≡ row_count }
     requires whole { spot.place + length spot.rest.now < 2 ^ 63 }
     ensures gives { Gives (λ x. (x.0, spot_of x.1)) result
         (selected_at (reads table.now mode_row plain)
@@ -216,7 +217,7 @@ fn with_mode<'a>(
     spot: Spot<'a>,
 ) -> Result<(Val, Spot<'a>), ReadFault>
     requires rows { HaveRows table.now known.now }
-    requires all { length table.now ≡ 64 }
+    requires all { length table.now ≡ row_count }
     requires whole { spot.place + length spot.rest.now < 2 ^ 63 }
     ensures gives { Gives (λ x. (x.0, spot_of x.1)) result
         (unit_at which (selected_at (reads table.now mode_row plain)
@@ -260,7 +261,7 @@ fn data<'a>(
     opened: &Opened<'a>,
     spot: Spot<'a>,
 ) -> Result<(Val, Spot<'a>), ReadFault>
-    requires all { length table.now ≡ 64 }
+    requires all { length table.now ≡ row_count }
     requires whole { spot.place + length spot.rest.now < 2 ^ 63 }
     ensures gives { Gives (λ x. (x.0, spot_of x.1)) result
         (data_at table.now scope.now (opened_of opened.now) (spot_of spot.entry)) }
@@ -283,7 +284,7 @@ fn alteration<'a>(
     opened: &Opened<'a>,
     spot: Spot<'a>,
 ) -> Result<(Val, Spot<'a>), ReadFault>
-    requires all { length table.now ≡ 64 }
+    requires all { length table.now ≡ row_count }
     requires whole { spot.place + length spot.rest.now < 2 ^ 63 }
     ensures gives { Gives (λ x. (x.0, spot_of x.1)) result
         (alteration_at table.now scope.now (opened_of opened.now) (spot_of spot.entry)) }
@@ -307,7 +308,7 @@ fn abort<'a>(
     opened: &Opened<'a>,
     spot: Spot<'a>,
 ) -> Result<(Val, Spot<'a>), ReadFault>
-    requires all { length table.now ≡ 64 }
+    requires all { length table.now ≡ row_count }
     requires whole { spot.place + length spot.rest.now < 2 ^ 63 }
     ensures gives { Gives (λ x. (x.0, spot_of x.1)) result
         (abort_at table.now scope.now (opened_of opened.now) (spot_of spot.entry)) }
@@ -331,7 +332,7 @@ fn connect<'a>(
     opened: &Opened<'a>,
     spot: Spot<'a>,
 ) -> Result<(Val, Spot<'a>), ReadFault>
-    requires all { length table.now ≡ 64 }
+    requires all { length table.now ≡ row_count }
     requires whole { spot.place + length spot.rest.now < 2 ^ 63 }
     ensures gives { Gives (λ x. (x.0, spot_of x.1)) result
         (unit_at 0 (connect_at table.now) scope.now (opened_of opened.now) (spot_of spot.entry)) }
@@ -351,7 +352,7 @@ fn accept<'a>(
     opened: &Opened<'a>,
     spot: Spot<'a>,
 ) -> Result<(Val, Spot<'a>), ReadFault>
-    requires all { length table.now ≡ 64 }
+    requires all { length table.now ≡ row_count }
     requires whole { spot.place + length spot.rest.now < 2 ^ 63 }
     ensures gives { Gives (λ x. (x.0, spot_of x.1)) result
         (unit_at 1 (accept_at table.now) scope.now (opened_of opened.now) (spot_of spot.entry)) }
@@ -371,7 +372,7 @@ fn reject<'a>(
     opened: &Opened<'a>,
     spot: Spot<'a>,
 ) -> Result<(Val, Spot<'a>), ReadFault>
-    requires all { length table.now ≡ 64 }
+    requires all { length table.now ≡ row_count }
     requires whole { spot.place + length spot.rest.now < 2 ^ 63 }
     ensures gives { Gives (λ x. (x.0, spot_of x.1)) result
         (unit_at 2 (fielded_at table.now reject_fields [] sequence_tag) scope.now
@@ -392,7 +393,7 @@ fn restart<'a>(
     opened: &Opened<'a>,
     spot: Spot<'a>,
 ) -> Result<(Val, Spot<'a>), ReadFault>
-    requires all { length table.now ≡ 64 }
+    requires all { length table.now ≡ row_count }
     requires whole { spot.place + length spot.rest.now < 2 ^ 63 }
     ensures gives { Gives (λ x. (x.0, spot_of x.1)) result
         (unit_at which (fielded_at table.now restart_fields [] sequence_tag) scope.now
@@ -422,7 +423,7 @@ fn unit<'a>(
     opened: &Opened<'a>,
     spot: Spot<'a>,
 ) -> Result<(Val, Spot<'a>), ReadFault>
-    requires all { length table.now ≡ 64 }
+    requires all { length table.now ≡ row_count }
     requires whole { spot.place + length spot.rest.now < 2 ^ 63 }
     ensures gives { Gives (λ x. (x.0, spot_of x.1)) result
         (ppdu_run table.now place scope.now (opened_of opened.now) (spot_of spot.entry)) }
@@ -450,7 +451,7 @@ pub(crate) fn front(
     place: PpduPlace,
     bytes: &[u8],
 ) -> Result<(Val, usize), ReadFault>
-    requires all { length table.now ≡ 64 }
+    requires all { length table.now ≡ row_count }
     ensures gives { Gives (λ x. x) result (front_at (ppdu_run table.now place) most_spelled
         bytes.now) }
 {

@@ -1,7 +1,7 @@
 -- Packets, and the transport units in them, as octets (RFC 1006 6; X.224 13, class 0).
 use Rattle.std.specs.Prelude.{◌≡◌, ℕ, ◌+◌, ◌/◌, ◌%◌, ◌<◌, ◌≤◌, ◌==◌, Bool, true, false, List, [], ◌∷◌, ◌++◌, length, Option, Some, None, if◌then◌else◌}
 use Rattle.std.specs.List.{flat_map}
-use Rattle.osi_base.specs.Limits.{tsdu_limit, unit_most}
+use Rattle.osi_base.specs.Limits.{tsdu_limit, unit_most, past_two_octets, most_header}
 use Rattle.tpkt.specs.declared.packet.ConnectionFields.{ConnectionFields}
 use Rattle.tpkt.specs.declared.packet.Packet.{Packet}
 use Rattle.tpkt.specs.declared.packet.Packet.TheVariants.{Connect, Confirm, Disconnect, Problem, Tsdu}
@@ -12,7 +12,7 @@ two n = n / 256 ∷ n % 256 ∷ []
 
 -- a number of two octets
 abbrev pub IsTwo : ℕ → Type 0
-IsTwo n = n < 65536
+IsTwo n = n < past_two_octets
 
 -- a packet: version 3, an octet that is 0, the length of the whole packet, and one unit (RFC 1006 6)
 abbrev pub packet : List ℕ → List ℕ
@@ -81,10 +81,10 @@ mark false = 0
 -- the units of class 0, without the limits on their length
 abbrev pub Spells : Tpdu → List ℕ → Type 0
 Spells (Part last octets) unit = unit ≡ header (240 ∷ mark last ∷ []) ++ octets
-Spells (Whole (Connect ends)) unit = IsConnection 224 ends unit × (length unit ≤ 255)
-Spells (Whole (Confirm ends)) unit = IsConnection 208 ends unit × (length unit ≤ 255)
-Spells (Whole Disconnect) unit = IsDisconnect unit × (length unit ≤ 255)
-Spells (Whole Problem) unit = IsProblem unit × (length unit ≤ 255)
+Spells (Whole (Connect ends)) unit = IsConnection 224 ends unit × (length unit ≤ most_header)
+Spells (Whole (Confirm ends)) unit = IsConnection 208 ends unit × (length unit ≤ most_header)
+Spells (Whole Disconnect) unit = IsDisconnect unit × (length unit ≤ most_header)
+Spells (Whole Problem) unit = IsProblem unit × (length unit ≤ most_header)
 Spells (Whole (Tsdu octets)) unit = ⊥
 
 -- the data of a TSDU that has begun, after a unit
