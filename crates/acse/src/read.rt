@@ -1,7 +1,8 @@
 //! APDUs of association control read, with the fields that are passed over.
 
-ghost use Rattle.std.specs.Prelude.{◌≡◌, ◌+◌, ◌<◌, ◌^◌, length, IfOk};
+ghost use Rattle.std.specs.Prelude.{◌≡◌, length, IfOk};
 ghost use Rattle.osi_base.specs.Limits.{most_octets};
+ghost use Rattle.osi_base.specs.OctetPlaces.{HasPlaces};
 ghost use Rattle.ber_spelling.specs.Reading.{Gives, GoesOn, opened_of, spot_of};
 ghost use Rattle.passed_fields.specs.Known.{HaveRows};
 ghost use Rattle.passed_fields.specs.Front.{front_at};
@@ -63,7 +64,7 @@ fn apdu<'a>(
     spot: Spot<'a>,
 ) -> Result<(Val, Spot<'a>), ReadFault>
     requires rows { HaveRows table.now known.now }
-    requires whole { spot.place + length spot.rest.now < 2 ^ 63 }
+    requires whole { HasPlaces spot.place spot.rest.now }
     ensures gives { Gives (λ x. (x.0, spot_of x.1)) result
         (apdu_at table.now which known.now passed.now scope.now (opened_of opened.now)
         (spot_of spot.entry)) }
@@ -88,7 +89,7 @@ fn of_number<'a>(
     spot: Spot<'a>,
 ) -> Result<(Val, Spot<'a>), ReadFault>
     requires rows { length table.now ≡ 31 }
-    requires whole { spot.place + length spot.rest.now < 2 ^ 63 }
+    requires whole { HasPlaces spot.place spot.rest.now }
     ensures gives { Gives (λ x. (x.0, spot_of x.1)) result
         (of_number table.now scope.now (opened_of opened.now) (spot_of spot.entry)) }
     ensures stops { IfOk result (λ x. GoesOn spot.entry.place (length spot.entry.rest.now) x.1) }
@@ -171,7 +172,7 @@ fn any_apdu<'a>(
     spot: Spot<'a>,
 ) -> Result<(Val, Spot<'a>), ReadFault>
     requires rows { length table.now ≡ 31 }
-    requires whole { spot.place + length spot.rest.now < 2 ^ 63 }
+    requires whole { HasPlaces spot.place spot.rest.now }
     ensures gives { Gives (λ x. (x.0, spot_of x.1)) result
         (any_apdu_at table.now scope.now (opened_of opened.now) (spot_of spot.entry)) }
     ensures stops { IfOk result (λ x. GoesOn spot.entry.place (length spot.entry.rest.now) x.1) }

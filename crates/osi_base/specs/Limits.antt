@@ -1,8 +1,8 @@
 -- The limits that definitions and contracts cite, each once, as literals: what each is, and where it comes from.
 -- A number of a format, as the code of a unit, stands with the format.
-use Rattle.std.specs.Prelude.{ℕ}
+use Rattle.std.specs.Prelude.{ℕ, ◌^◌}
 
--- ---- integers (this project's own)
+-- ---- integers and places (what those of the code hold)
 
 -- bits of a number with a sign
 abbrev pub number_bits : ℕ
@@ -15,6 +15,10 @@ most_signed = 9223372036854775807
 -- the number whose negative is the least of 64 bits with a sign
 abbrev pub most_negated : ℕ
 most_negated = 9223372036854775808
+
+-- the first number that is no place: a slice has fewer octets
+abbrev pub past_places : ℕ
+past_places = 2 ^ 63
 
 -- the last value of a count, which has 64 bits
 abbrev pub last_count : ℕ

@@ -1,7 +1,8 @@
 //! Units of the presentation protocol read from the left.
 
-ghost use Rattle.std.specs.Prelude.{◌≡◌, ◌+◌, ◌<◌, ◌^◌, length, IfOk, [], Some, None};
+ghost use Rattle.std.specs.Prelude.{◌≡◌, length, IfOk, [], Some, None};
 ghost use Rattle.osi_base.specs.Limits.{most_spelled};
+ghost use Rattle.osi_base.specs.OctetPlaces.{HasPlaces};
 ghost use Rattle.ber_spelling.specs.Reading.{Gives, GoesOn, opened_of, spot_of};
 ghost use Rattle.ber_spelling.specs.declared.fault.ReadFault.TheVariants.{NotSpelled};
 ghost use Rattle.ber_spelling.specs.Rules.{reads, plain};
@@ -80,7 +81,7 @@ fn half<'a>(
 ) -> Result<(Halves, Spot<'a>), ReadFault>
     requires rows { HaveRows table.now shape.now.known.now }
     requires all { length table.now ≡ row_count }
-    requires whole { spot.place + length spot.rest.now < 2 ^ 63 }
+    requires whole { HasPlaces spot.place spot.rest.now }
     requires start { GoesOn opened.now.start.place (length opened.now.start.rest.now) spot }
     ensures gives { Gives (λ x. (x.0, spot_of x.1)) result
         (half_at (reads table.now mode_row plain)
@@ -151,7 +152,7 @@ fn all_halves<'a>(
 ) -> Result<(Val, Spot<'a>), ReadFault>
     requires rows { HaveRows table.now shape.now.known.now }
     requires all { length table.now ≡ row_count }
-    requires whole { spot.place + length spot.rest.now < 2 ^ 63 }
+    requires whole { HasPlaces spot.place spot.rest.now }
     ensures gives { Gives (λ x. (x.0, spot_of x.1)) result
         (halves_at (reads table.now mode_row plain)
         (fielded_at table.now shape.now.known.now shape.now.passed.now (context_tag 2)) scope.now
@@ -189,7 +190,7 @@ fn selected<'a>(
 ) -> Result<(Val, Spot<'a>), ReadFault>
     requires rows { HaveRows table.now shape.now.known.now }
     requires all { length table.now ≡ row_count }
-    requires whole { spot.place + length spot.rest.now < 2 ^ 63 }
+    requires whole { HasPlaces spot.place spot.rest.now }
     ensures gives { Gives (λ x. (x.0, spot_of x.1)) result
         (selected_at (reads table.now mode_row plain)
         (fielded_at table.now shape.now.known.now shape.now.passed.now (context_tag 2)) scope.now
@@ -218,7 +219,7 @@ fn with_mode<'a>(
 ) -> Result<(Val, Spot<'a>), ReadFault>
     requires rows { HaveRows table.now known.now }
     requires all { length table.now ≡ row_count }
-    requires whole { spot.place + length spot.rest.now < 2 ^ 63 }
+    requires whole { HasPlaces spot.place spot.rest.now }
     ensures gives { Gives (λ x. (x.0, spot_of x.1)) result
         (unit_at which (selected_at (reads table.now mode_row plain)
         (fielded_at table.now known.now passed.now (context_tag 2))) scope.now
@@ -242,7 +243,7 @@ fn plain_unit<'a>(
     spot: Spot<'a>,
 ) -> Result<(Val, Spot<'a>), ReadFault>
     requires rows { HaveRows table.now known.now }
-    requires whole { spot.place + length spot.rest.now < 2 ^ 63 }
+    requires whole { HasPlaces spot.place spot.rest.now }
     ensures gives { Gives (λ x. (x.0, spot_of x.1)) result
         (unit_at which (fielded_at table.now known.now [] tag) scope.now (opened_of opened.now)
         (spot_of spot.entry)) }
@@ -262,7 +263,7 @@ fn data<'a>(
     spot: Spot<'a>,
 ) -> Result<(Val, Spot<'a>), ReadFault>
     requires all { length table.now ≡ row_count }
-    requires whole { spot.place + length spot.rest.now < 2 ^ 63 }
+    requires whole { HasPlaces spot.place spot.rest.now }
     ensures gives { Gives (λ x. (x.0, spot_of x.1)) result
         (data_at table.now scope.now (opened_of opened.now) (spot_of spot.entry)) }
     ensures stops { IfOk result (λ x. GoesOn spot.entry.place (length spot.entry.rest.now) x.1) }
@@ -285,7 +286,7 @@ fn alteration<'a>(
     spot: Spot<'a>,
 ) -> Result<(Val, Spot<'a>), ReadFault>
     requires all { length table.now ≡ row_count }
-    requires whole { spot.place + length spot.rest.now < 2 ^ 63 }
+    requires whole { HasPlaces spot.place spot.rest.now }
     ensures gives { Gives (λ x. (x.0, spot_of x.1)) result
         (alteration_at table.now scope.now (opened_of opened.now) (spot_of spot.entry)) }
     ensures stops { IfOk result (λ x. GoesOn spot.entry.place (length spot.entry.rest.now) x.1) }
@@ -309,7 +310,7 @@ fn abort<'a>(
     spot: Spot<'a>,
 ) -> Result<(Val, Spot<'a>), ReadFault>
     requires all { length table.now ≡ row_count }
-    requires whole { spot.place + length spot.rest.now < 2 ^ 63 }
+    requires whole { HasPlaces spot.place spot.rest.now }
     ensures gives { Gives (λ x. (x.0, spot_of x.1)) result
         (abort_at table.now scope.now (opened_of opened.now) (spot_of spot.entry)) }
     ensures stops { IfOk result (λ x. GoesOn spot.entry.place (length spot.entry.rest.now) x.1) }
@@ -333,7 +334,7 @@ fn connect<'a>(
     spot: Spot<'a>,
 ) -> Result<(Val, Spot<'a>), ReadFault>
     requires all { length table.now ≡ row_count }
-    requires whole { spot.place + length spot.rest.now < 2 ^ 63 }
+    requires whole { HasPlaces spot.place spot.rest.now }
     ensures gives { Gives (λ x. (x.0, spot_of x.1)) result
         (unit_at 0 (connect_at table.now) scope.now (opened_of opened.now) (spot_of spot.entry)) }
     ensures stops { IfOk result (λ x. GoesOn spot.entry.place (length spot.entry.rest.now) x.1) }
@@ -353,7 +354,7 @@ fn accept<'a>(
     spot: Spot<'a>,
 ) -> Result<(Val, Spot<'a>), ReadFault>
     requires all { length table.now ≡ row_count }
-    requires whole { spot.place + length spot.rest.now < 2 ^ 63 }
+    requires whole { HasPlaces spot.place spot.rest.now }
     ensures gives { Gives (λ x. (x.0, spot_of x.1)) result
         (unit_at 1 (accept_at table.now) scope.now (opened_of opened.now) (spot_of spot.entry)) }
     ensures stops { IfOk result (λ x. GoesOn spot.entry.place (length spot.entry.rest.now) x.1) }
@@ -373,7 +374,7 @@ fn reject<'a>(
     spot: Spot<'a>,
 ) -> Result<(Val, Spot<'a>), ReadFault>
     requires all { length table.now ≡ row_count }
-    requires whole { spot.place + length spot.rest.now < 2 ^ 63 }
+    requires whole { HasPlaces spot.place spot.rest.now }
     ensures gives { Gives (λ x. (x.0, spot_of x.1)) result
         (unit_at 2 (fielded_at table.now reject_fields [] sequence_tag) scope.now
         (opened_of opened.now) (spot_of spot.entry)) }
@@ -394,7 +395,7 @@ fn restart<'a>(
     spot: Spot<'a>,
 ) -> Result<(Val, Spot<'a>), ReadFault>
     requires all { length table.now ≡ row_count }
-    requires whole { spot.place + length spot.rest.now < 2 ^ 63 }
+    requires whole { HasPlaces spot.place spot.rest.now }
     ensures gives { Gives (λ x. (x.0, spot_of x.1)) result
         (unit_at which (fielded_at table.now restart_fields [] sequence_tag) scope.now
         (opened_of opened.now) (spot_of spot.entry)) }
@@ -424,7 +425,7 @@ fn unit<'a>(
     spot: Spot<'a>,
 ) -> Result<(Val, Spot<'a>), ReadFault>
     requires all { length table.now ≡ row_count }
-    requires whole { spot.place + length spot.rest.now < 2 ^ 63 }
+    requires whole { HasPlaces spot.place spot.rest.now }
     ensures gives { Gives (λ x. (x.0, spot_of x.1)) result
         (ppdu_run table.now place scope.now (opened_of opened.now) (spot_of spot.entry)) }
     ensures stops { IfOk result (λ x. GoesOn spot.entry.place (length spot.entry.rest.now) x.1) }
