@@ -6,6 +6,10 @@ use Rattle.asn1_types.specs.declared.row.TypeRow.{TypeRow}
 use Rattle.asn1_types.specs.declared.row.TypeRow.TheVariants.{Integer, BitString, ObjectId, Sequence, SequenceOf, Choice, Tagged, Any}
 use Rattle.fixed_tables.specs.Rows.{part, implicit, explicit}
 
+-- how many rows the table has
+abbrev pub row_count : ℕ
+row_count = 31
+
 -- the row of all APDUs
 abbrev pub acse_row : ℕ
 acse_row = 30

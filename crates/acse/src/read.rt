@@ -6,7 +6,7 @@ ghost use Rattle.osi_base.specs.OctetPlaces.{HasPlaces};
 ghost use Rattle.ber_spelling.specs.Reading.{Gives, GoesOn, opened_of, spot_of};
 ghost use Rattle.passed_fields.specs.Known.{HaveRows};
 ghost use Rattle.passed_fields.specs.Front.{front_at};
-ghost use Rattle.acse.specs.Rows.{acse_rows};
+ghost use Rattle.acse.specs.Rows.{acse_rows, row_count};
 ghost use Rattle.acse.specs.Fields.{request_fields, request_passed, response_fields, response_passed, release_fields, release_passed, abort_fields, abort_passed, apdu_at, of_number, any_apdu_at};
 
 use asn1_types::{Class, TypeTable, Val, same_class};
@@ -88,7 +88,7 @@ fn of_number<'a>(
     opened: &Opened<'a>,
     spot: Spot<'a>,
 ) -> Result<(Val, Spot<'a>), ReadFault>
-    requires rows { length table.now ≡ 31 }
+    requires rows { length table.now ≡ row_count }
     requires whole { HasPlaces spot.place spot.rest.now }
     ensures gives { Gives (λ x. (x.0, spot_of x.1)) result
         (of_number table.now scope.now (opened_of opened.now) (spot_of spot.entry)) }
@@ -171,7 +171,7 @@ fn any_apdu<'a>(
     opened: &Opened<'a>,
     spot: Spot<'a>,
 ) -> Result<(Val, Spot<'a>), ReadFault>
-    requires rows { length table.now ≡ 31 }
+    requires rows { length table.now ≡ row_count }
     requires whole { HasPlaces spot.place spot.rest.now }
     ensures gives { Gives (λ x. (x.0, spot_of x.1)) result
         (any_apdu_at table.now scope.now (opened_of opened.now) (spot_of spot.entry)) }
@@ -190,7 +190,7 @@ pub(crate) fn front(
     table: &TypeTable,
     bytes: &[u8],
 ) -> Result<(Val, usize), ReadFault>
-    requires rows { length table.now ≡ 31 }
+    requires rows { length table.now ≡ row_count }
     ensures gives { Gives (λ x. x) result (front_at (any_apdu_at table.now) most_octets bytes.now) }
 {
     let scope = Scope {

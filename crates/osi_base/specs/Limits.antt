@@ -54,6 +54,14 @@ most_spelled = 4294967295
 abbrev pub most_items : ℕ
 most_items = 131072
 
+-- alternatives of a CHOICE
+abbrev pub most_alternatives : ℕ
+most_alternatives = 256
+
+-- arcs of an object identifier
+abbrev pub most_arcs : ℕ
+most_arcs = 32
+
 -- ---- texts of the notation (this project's own)
 
 -- octets of a module's text
@@ -193,3 +201,7 @@ most_queued = 64
 -- octets of a transfer
 abbrev pub most_transferred : ℕ
 most_transferred = 262400
+
+-- octets that an end of a run gives out at once
+abbrev pub most_given : ℕ
+most_given = 256

@@ -1,7 +1,7 @@
 //! What one octet makes of a scanner.
 
 ghost use Rattle.std.specs.Prelude.{◌≡◌, ◌<◌, ◌≤◌, ◌^◌, ◌+◌, nat_lt};
-ghost use Rattle.osi_base.specs.Limits.{most_octets, past_places};
+ghost use Rattle.osi_base.specs.Limits.{most_octets, past_places, most_levels};
 ghost use Rattle.asn1_types.specs.Tags.{capped};
 ghost use Rattle.stream_front.specs.Resuming.{IsSoundStage};
 ghost use Rattle.stream_front.specs.Steps as steps;
@@ -169,7 +169,7 @@ fn digit(scanner: Scanner, constructed: bool, padded: bool, number: u64, octet: 
 /// The first octet of a length.
 fn length_octet(scanner: Scanner, constructed: bool, octet: u8) -> Scanner
     requires seen { scanner.seen < past_places }
-    requires depth { scanner.depth < 32 }
+    requires depth { scanner.depth < most_levels }
     ensures { result ≡ steps.length_octet scanner constructed octet }
 {
     if is_past(scanner) {
