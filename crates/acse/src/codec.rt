@@ -1,7 +1,7 @@
 //! APDUs of association control read and written.
 
 ghost use Rattle.std.specs.Prelude.{◌≡◌, IfOk};
-ghost use Rattle.asn1_types.specs.Limits.{most_octets};
+ghost use Rattle.osi_base.specs.Limits.{most_octets};
 ghost use Rattle.fixed_tables.specs.Whole.{GivesWhole, of_whole};
 ghost use Rattle.passed_fields.specs.Front.{all_at};
 ghost use Rattle.acse.specs.Rows.{acse_rows};

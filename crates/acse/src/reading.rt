@@ -1,11 +1,12 @@
 //! APDUs of association control read, with the fields that are passed over.
 
-ghost use Rattle.std.specs.Prelude.{◌≡◌, ◌+◌, ◌<◌, ◌^◌, length, IfOk};
-ghost use Rattle.asn1_types.specs.Limits.{most_octets};
+ghost use Rattle.std.specs.Prelude.{◌≡◌, length, IfOk};
+ghost use Rattle.osi_base.specs.Limits.{most_octets};
+ghost use Rattle.osi_base.specs.OctetPlaces.{HasPlaces};
 ghost use Rattle.ber_spelling.specs.Reading.{Gives, GoesOn, opened_of, spot_of};
 ghost use Rattle.passed_fields.specs.Known.{HaveRows};
 ghost use Rattle.passed_fields.specs.Front.{front_at};
-ghost use Rattle.acse.specs.Rows.{acse_rows};
+ghost use Rattle.acse.specs.Rows.{acse_rows, row_count};
 ghost use Rattle.acse.specs.Fields.{request_fields, request_passed, response_fields, response_passed, release_fields, release_passed, abort_fields, abort_passed, apdu_at, of_number, any_apdu_at};
 
 use asn1_types::{Class, TypeTable, Val, same_class};
@@ -63,7 +64,7 @@ fn apdu<'a>(
     spot: Spot<'a>,
 ) -> Result<(Val, Spot<'a>), ReadFault>
     requires rows { HaveRows table.now known.now }
-    requires whole { spot.place + length spot.rest.now < 2 ^ 63 }
+    requires whole { HasPlaces spot.place spot.rest.now }
     ensures gives { Gives (λ x. (x.0, spot_of x.1)) result
         (apdu_at table.now which known.now passed.now scope.now (opened_of opened.now)
         (spot_of spot.entry)) }
@@ -87,8 +88,8 @@ fn of_number<'a>(
     opened: &Opened<'a>,
     spot: Spot<'a>,
 ) -> Result<(Val, Spot<'a>), ReadFault>
-    requires rows { length table.now ≡ 31 }
-    requires whole { spot.place + length spot.rest.now < 2 ^ 63 }
+    requires rows { length table.now ≡ row_count }
+    requires whole { HasPlaces spot.place spot.rest.now }
     ensures gives { Gives (λ x. (x.0, spot_of x.1)) result
         (of_number table.now scope.now (opened_of opened.now) (spot_of spot.entry)) }
     ensures stops { IfOk result (λ x. GoesOn spot.entry.place (length spot.entry.rest.now) x.1) }
@@ -170,8 +171,8 @@ fn any_apdu<'a>(
     opened: &Opened<'a>,
     spot: Spot<'a>,
 ) -> Result<(Val, Spot<'a>), ReadFault>
-    requires rows { length table.now ≡ 31 }
-    requires whole { spot.place + length spot.rest.now < 2 ^ 63 }
+    requires rows { length table.now ≡ row_count }
+    requires whole { HasPlaces spot.place spot.rest.now }
     ensures gives { Gives (λ x. (x.0, spot_of x.1)) result
         (any_apdu_at table.now scope.now (opened_of opened.now) (spot_of spot.entry)) }
     ensures stops { IfOk result (λ x. GoesOn spot.entry.place (length spot.entry.rest.now) x.1) }
@@ -189,7 +190,7 @@ pub(crate) fn front(
     table: &TypeTable,
     bytes: &[u8],
 ) -> Result<(Val, usize), ReadFault>
-    requires rows { length table.now ≡ 31 }
+    requires rows { length table.now ≡ row_count }
     ensures gives { Gives (λ x. x) result (front_at (any_apdu_at table.now) most_octets bytes.now) }
 {
     let scope = Scope {

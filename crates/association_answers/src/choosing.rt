@@ -1,10 +1,10 @@
 //! How an end answers alterations (X.226 6.2.3, 6.3.3; the policy is this project's own).
 
 ghost use Rattle.std.specs.Prelude.{◌≡◌, ◌≤◌, ◌+◌, min, length, IfOk, map};
+ghost use Rattle.osi_base.specs.Limits.{most_contexts};
 ghost use Rattle.end_rules.specs.Sets.{count_added};
 ghost use Rattle.end_rules.specs.Altering.{used};
 ghost use Rattle.end_rules.specs.Policy.{answer_to_deletion, policy};
-ghost use Rattle.end_rules.specs.Base.{most_contexts};
 ghost use Rattle.association_state.specs.Seen.{base_in, seen};
 
 use association_calls::contexts_in_use;

@@ -1,7 +1,7 @@
 //! How many octets a DT has at most (X.224 13.3.4, RFC 1006 5).
 
 ghost use Rattle.std.specs.Prelude.{◌≡◌, ◌≤◌, ◌^◌};
-ghost use Rattle.tpkt.specs.Wire.{unit_least, unit_most, named_most};
+ghost use Rattle.osi_base.specs.Limits.{unit_least, unit_most, named_most};
 ghost use Rattle.end_rules.specs.TakesTransport.{is_size, octets_of_size};
 ghost use Rattle.association_line.specs.Line as line;
 ghost use Rattle.association_intake.specs.Seen.{seen_front};

@@ -1,7 +1,7 @@
 //! What an end does with what stands first.
 
 ghost use Rattle.std.specs.Prelude.{◌≡◌, ◌≤◌, IfOk, OnErr, MatchResult, false, true};
-ghost use Rattle.tpkt.specs.Wire.{unit_least, unit_most};
+ghost use Rattle.osi_base.specs.Limits.{unit_least, unit_most};
 ghost use Rattle.end_rules.specs.State.{passes_over};
 ghost use Rattle.association_intake.specs.Seen.{seen_front, IsPlaced, TakesFirst};
 ghost use Rattle.association_end.specs.Progress.{Keeps};

@@ -1,7 +1,8 @@
 //! Whether presentation data values may stand where they came (X.226 8.4.2).
 
-ghost use Rattle.std.specs.Prelude.{◌≡◌, ◌+◌, ◌<◌, ◌^◌, length};
+ghost use Rattle.std.specs.Prelude.{◌≡◌};
 ghost use Rattle.std.specs.Option.{option_copied};
+ghost use Rattle.osi_base.specs.OctetPlaces.{HasPlaces};
 ghost use Rattle.association_reading.specs.Places.{pdv_places};
 ghost use Rattle.association_reading.specs.Contexts as reading;
 ghost use Rattle.association_meaning.specs.Grounds.{GivesAs};
@@ -109,7 +110,7 @@ pub(crate) fn check(
     carrier: &Carrier<'_>,
     wrong: Option<Wrong>,
 ) -> Result<(), Halt>
-    requires { carrier.now.start + length carrier.now.user.now < 2 ^ 63 }
+    requires { HasPlaces carrier.now.start carrier.now.user.now }
     ensures { GivesAs (λ _. tt) result (steps.checked (steps.told_wrong (pdv_places
         carrier.now.place carrier.now.start carrier.now.user.now) wrong)) }
 {

@@ -1,13 +1,14 @@
 //! What each unit of the session means (X.225 8.3, X.226 8.2 to 8.4).
 
-ghost use Rattle.std.specs.Prelude.{◌≡◌, ◌+◌, ◌<◌, ◌^◌, length, [], IfOk};
+ghost use Rattle.std.specs.Prelude.{◌≡◌, [], IfOk};
+ghost use Rattle.osi_base.specs.OctetPlaces.{HasPlaces};
 ghost use Rattle.presentation_pdus.specs.declared.place.PpduPlace.TheVariants as places;
 ghost use Rattle.presentation_pdus.specs.Units.{ppdu_at};
 ghost use Rattle.association_reading.specs.Meaning as reading;
 ghost use Rattle.association_reading.specs.Places.{pdv_places};
 ghost use Rattle.association_words.specs.Seen.{seen_values, seen_accepting, seen_abort, seen_word};
 ghost use Rattle.association_meaning.specs.Grounds.{association_base, GivesAs};
-ghost use Rattle.association_intake.specs.Seen.{HasPlaces};
+ghost use Rattle.association_intake.specs.Seen.{HasUserPlaces};
 ghost use Rattle.association_meaning.specs.Steps as steps;
 ghost use Rattle.association_meaning.specs.Words as words;
 
@@ -27,7 +28,7 @@ use std::alloc::Global;
 
 /// The unit of the presentation that user data are. The place of a fault counts from the TSDU.
 fn unit_in(basis: &ReadingGround<'_>, carrier: &Carrier<'_>) -> Result<PresentationWord, Halt>
-    requires { carrier.now.start + length carrier.now.user.now < 2 ^ 63 }
+    requires { HasPlaces carrier.now.start carrier.now.user.now }
     ensures { GivesAs (λ unit. unit) result (steps.read_unit carrier.now.start (ppdu_at
         carrier.now.place carrier.now.user.now)) }
 {
@@ -68,7 +69,7 @@ fn without_user(alloc: Global, session: &SessionConnect) -> Result<SessionConnec
 
 /// CP in the user data of CN.
 fn connect_in(basis: &ReadingGround<'_>, carrier: &Carrier<'_>) -> Result<PresentationConnect, Halt>
-    requires { carrier.now.start + length carrier.now.user.now < 2 ^ 63 }
+    requires { HasPlaces carrier.now.start carrier.now.user.now }
     ensures { GivesAs (λ p. p) result (words.connect_in carrier.now.start (ppdu_at carrier.now.place
         carrier.now.user.now)) }
 {
@@ -89,7 +90,7 @@ fn connect_in(basis: &ReadingGround<'_>, carrier: &Carrier<'_>) -> Result<Presen
 
 /// CPA in the user data of AC.
 fn accept_in(basis: &ReadingGround<'_>, carrier: &Carrier<'_>) -> Result<PresentationAccept, Halt>
-    requires { carrier.now.start + length carrier.now.user.now < 2 ^ 63 }
+    requires { HasPlaces carrier.now.start carrier.now.user.now }
     ensures { GivesAs (λ p. p) result (words.accept_in carrier.now.start (ppdu_at carrier.now.place
         carrier.now.user.now)) }
 {
@@ -110,7 +111,7 @@ fn accept_in(basis: &ReadingGround<'_>, carrier: &Carrier<'_>) -> Result<Present
 
 /// CPR in the user data of RF.
 fn reject_in(basis: &ReadingGround<'_>, carrier: &Carrier<'_>) -> Result<PresentationReject, Halt>
-    requires { carrier.now.start + length carrier.now.user.now < 2 ^ 63 }
+    requires { HasPlaces carrier.now.start carrier.now.user.now }
     ensures { GivesAs (λ p. p) result (words.reject_in carrier.now.start (ppdu_at carrier.now.place
         carrier.now.user.now)) }
 {
@@ -131,7 +132,7 @@ fn reject_in(basis: &ReadingGround<'_>, carrier: &Carrier<'_>) -> Result<Present
 
 /// Values that stand alone in user data.
 fn data_in(basis: &ReadingGround<'_>, carrier: &Carrier<'_>) -> Result<Pdvs, Halt>
-    requires { carrier.now.start + length carrier.now.user.now < 2 ^ 63 }
+    requires { HasPlaces carrier.now.start carrier.now.user.now }
     ensures { GivesAs (λ p. p) result (words.data_in carrier.now.start (ppdu_at carrier.now.place
         carrier.now.user.now)) }
 {
@@ -156,7 +157,7 @@ pub(crate) fn connect_meaning(
     session: &SessionConnect,
     start: usize,
 ) -> Result<Word, Halt>
-    requires { start + length session.now.user < 2 ^ 63 }
+    requires { HasPlaces start session.now.user }
     ensures { GivesAs seen_word result (words.connected (association_base basis.now.tables.now
         basis.now.config.now) session.now start (words.connect_in start (ppdu_at places.Cn
         session.now.user))) }
@@ -186,7 +187,7 @@ pub(crate) fn accept_meaning(
     start: usize,
     user: &[u8],
 ) -> Result<Word, Halt>
-    requires { start + length user.now < 2 ^ 63 }
+    requires { HasPlaces start user.now }
     ensures { GivesAs seen_word result (words.accepted (association_base basis.now.tables.now
         basis.now.config.now) (seen_accepting session) start user.now (words.accept_in start
         (ppdu_at places.Ac user.now))) }
@@ -216,7 +217,7 @@ fn refuse_meaning(
     start: usize,
     user: &[u8],
 ) -> Result<Word, Halt>
-    requires { start + length user.now < 2 ^ 63 }
+    requires { HasPlaces start user.now }
     ensures { GivesAs seen_word result (words.refused (association_base basis.now.tables.now
         basis.now.config.now) transport reason start user.now (words.reject_in start (ppdu_at
         places.Rf user.now))) }
@@ -247,7 +248,7 @@ pub(crate) fn refused_with(
     start: usize,
     user: &Option<Octets>,
 ) -> Result<Word, Halt>
-    requires { HasPlaces start user.now }
+    requires { HasUserPlaces start user.now }
     ensures { GivesAs seen_word result (words.refused_with (association_base basis.now.tables.now
         basis.now.config.now) transport reason start user.now) }
 {
@@ -269,7 +270,7 @@ fn user_abort(
     carrier: &Carrier<'_>,
     pdvs: &[Pdv],
 ) -> Result<AbortData, Halt>
-    requires { carrier.now.start + length carrier.now.user.now < 2 ^ 63 }
+    requires { HasPlaces carrier.now.start carrier.now.user.now }
     ensures { GivesAs seen_abort result (words.user_abort (association_base basis.now.tables.now
         basis.now.config.now) accepted.now (pdv_places carrier.now.place carrier.now.start
         carrier.now.user.now) pdvs.now) }
@@ -284,7 +285,7 @@ fn abort_in(
     accepted: &[SetItem],
     carrier: &Carrier<'_>,
 ) -> Result<AbortData, Halt>
-    requires { carrier.now.start + length carrier.now.user.now < 2 ^ 63 }
+    requires { HasPlaces carrier.now.start carrier.now.user.now }
     ensures { GivesAs seen_abort result (words.abort_in (association_base basis.now.tables.now
         basis.now.config.now) accepted.now carrier.now.start carrier.now.user.now carrier.now.place
         (ppdu_at carrier.now.place carrier.now.user.now)) }
@@ -314,7 +315,7 @@ fn abort_meaning(
     start: usize,
     user: &[u8],
 ) -> Result<Word, Halt>
-    requires { start + length user.now < 2 ^ 63 }
+    requires { HasPlaces start user.now }
     ensures { GivesAs seen_word result (words.aborted (association_base basis.now.tables.now
         basis.now.config.now) accepted.now transport start user.now) }
 {
@@ -335,7 +336,7 @@ pub(crate) fn aborted_with(
     start: usize,
     user: &Option<Octets>,
 ) -> Result<Word, Halt>
-    requires { HasPlaces start user.now }
+    requires { HasUserPlaces start user.now }
     ensures { GivesAs seen_word result (words.aborted_with (association_base basis.now.tables.now
         basis.now.config.now) accepted.now transport start user.now) }
 {
@@ -355,7 +356,7 @@ fn values_with(
     carried: Carriage,
     carrier: &Carrier<'_>,
 ) -> Result<Values, Halt>
-    requires { carrier.now.start + length carrier.now.user.now < 2 ^ 63 }
+    requires { HasPlaces carrier.now.start carrier.now.user.now }
     ensures { GivesAs seen_values result (words.values_with basis.now.tables.now held.now
         carried carrier.now.place carrier.now.start carrier.now.user.now) }
 {
@@ -371,7 +372,7 @@ pub(crate) fn finish_meaning(
     start: usize,
     user: &[u8],
 ) -> Result<Word, Halt>
-    requires { start + length user.now < 2 ^ 63 }
+    requires { HasPlaces start user.now }
     ensures { GivesAs seen_word result (words.finished basis.now.tables.now held.now transport start
         user.now) }
 {
@@ -391,7 +392,7 @@ pub(crate) fn disconnect_meaning(
     start: usize,
     user: &[u8],
 ) -> Result<Word, Halt>
-    requires { start + length user.now < 2 ^ 63 }
+    requires { HasPlaces start user.now }
     ensures { GivesAs seen_word result (words.disconnected basis.now.tables.now held.now start
         user.now) }
 {
@@ -423,7 +424,7 @@ pub(crate) fn data_meaning(
     start: usize,
     user: &[u8],
 ) -> Result<Word, Halt>
-    requires { start + length user.now < 2 ^ 63 }
+    requires { HasPlaces start user.now }
     ensures { GivesAs seen_word result (words.sent (association_base basis.now.tables.now
         basis.now.config.now) held.now start user.now) }
 {
@@ -444,7 +445,7 @@ fn plea_meaning(
     start: usize,
     user: &[u8],
 ) -> Result<Word, Halt>
-    requires { start + length user.now < 2 ^ 63 }
+    requires { HasPlaces start user.now }
     ensures { GivesAs seen_word result (words.pleaded basis.now.tables.now held.now tokens start
         user.now) }
 {
@@ -468,7 +469,7 @@ pub(crate) fn pleaded_with(
     start: usize,
     user: &Option<Octets>,
 ) -> Result<Word, Halt>
-    requires { HasPlaces start user.now }
+    requires { HasUserPlaces start user.now }
     ensures { GivesAs seen_word result (words.pleaded_with basis.now.tables.now held.now tokens
         start user.now) }
 {
@@ -493,7 +494,7 @@ pub(crate) fn typed_meaning(
     start: usize,
     user: &[u8],
 ) -> Result<Word, Halt>
-    requires { start + length user.now < 2 ^ 63 }
+    requires { HasPlaces start user.now }
     ensures { GivesAs seen_word result (words.typed start (ppdu_at places.Td user.now)) }
 {
     let carrier = Carrier {
@@ -527,7 +528,7 @@ fn restart_meaning(
     start: usize,
     user: &[u8],
 ) -> Result<Word, Halt>
-    requires { start + length user.now < 2 ^ 63 }
+    requires { HasPlaces start user.now }
     ensures { GivesAs seen_word result (words.restarted number start (ppdu_at places.Rs user.now)) }
 {
     let carrier = Carrier {
@@ -560,7 +561,7 @@ pub(crate) fn restarted_with(
     start: usize,
     user: &Option<Octets>,
 ) -> Result<Word, Halt>
-    requires { HasPlaces start user.now }
+    requires { HasUserPlaces start user.now }
     ensures { GivesAs seen_word result (words.restarted_with number start user.now) }
 {
     match user {
@@ -576,7 +577,7 @@ fn restart_ack_meaning(
     start: usize,
     user: &[u8],
 ) -> Result<Word, Halt>
-    requires { start + length user.now < 2 ^ 63 }
+    requires { HasPlaces start user.now }
     ensures { GivesAs seen_word result (words.restart_acked number start (ppdu_at places.Ra
         user.now)) }
 {
@@ -612,7 +613,7 @@ pub(crate) fn restart_acked_with(
     start: usize,
     user: &Option<Octets>,
 ) -> Result<Word, Halt>
-    requires { HasPlaces start user.now }
+    requires { HasUserPlaces start user.now }
     ensures { GivesAs seen_word result (words.restart_acked_with number start user.now) }
 {
     match user {

@@ -7,7 +7,7 @@ ghost use Rattle.association_reading.specs.Meaning as reading;
 ghost use Rattle.association_words.specs.Seen.{seen_accepting, seen_word};
 ghost use Rattle.association_meaning.specs.Grounds.{association_base, GivesAs};
 ghost use Rattle.association_meaning.specs.Words as words;
-ghost use Rattle.association_intake.specs.Seen.{HasPlaces};
+ghost use Rattle.association_intake.specs.Seen.{HasUserPlaces};
 
 use crate::basis::{Halt, ReadingGround};
 use crate::unit_meanings::{
@@ -72,7 +72,7 @@ fn carried_word(
     unit: &SessionWord,
     start: usize,
 ) -> Result<Word, Halt>
-    requires { HasPlaces start (user_of unit.now) }
+    requires { HasUserPlaces start (user_of unit.now) }
     ensures { GivesAs seen_word result (words.carried_word (association_base basis.now.tables.now
         basis.now.config.now) accepted.now held.now unit.now start) }
 {
@@ -140,7 +140,7 @@ fn unit_meaning(
     unit: &SessionWord,
     start: usize,
 ) -> Result<Word, Halt>
-    requires { HasPlaces start (user_of unit.now) }
+    requires { HasUserPlaces start (user_of unit.now) }
     ensures { GivesAs seen_word result (words.unit_meant (association_base basis.now.tables.now
         basis.now.config.now) accepted.now held.now unit.now start) }
 {
@@ -161,7 +161,7 @@ pub fn meaning_of_unit(
     unit: &SessionWord,
     start: usize,
 ) -> Result<Word, Halt>
-    requires { HasPlaces start (user_of unit.now) }
+    requires { HasUserPlaces start (user_of unit.now) }
     ensures { (body : Body) → body.link.accepted ≡ accepted.now → body.sets.held ≡ held.now →
         GivesAs seen_word result (reading.meaning (association_base basis.now.tables.now
         basis.now.config.now) body unit.now start) }

@@ -1,7 +1,8 @@
 //! What presentation data values mean, each under the pair of its context.
 
-ghost use Rattle.std.specs.Prelude.{◌≡◌, ◌+◌, ◌<◌, ◌^◌, length, IfOk};
+ghost use Rattle.std.specs.Prelude.{◌≡◌, IfOk};
 ghost use Rattle.std.specs.Option.{option_copied};
+ghost use Rattle.osi_base.specs.OctetPlaces.{HasPlaces};
 ghost use Rattle.association_reading.specs.Places.{pdv_places};
 ghost use Rattle.association_reading.specs.Values as reading;
 ghost use Rattle.association_words.specs.Seen.{seen_value, seen_values};
@@ -84,7 +85,7 @@ pub(crate) fn values_under(
     carrier: &Carrier<'_>,
     pdvs: &[Pdv],
 ) -> Result<Values, Halt>
-    requires { carrier.now.start + length carrier.now.user.now < 2 ^ 63 }
+    requires { HasPlaces carrier.now.start carrier.now.user.now }
     ensures { GivesAs seen_values result (reading.values_under basis.now.tables.now set.now
         carried (pdv_places carrier.now.place carrier.now.start carrier.now.user.now) pdvs.now) }
 {

@@ -5,7 +5,7 @@ use Rattle.osi_base.specs.declared.layer_words.Problem.{Problem}
 use Rattle.osi_base.specs.declared.layer_words.SetItem.{SetItem}
 use Rattle.osi_base.specs.declared.syntax.Pair.{Pair}
 use Rattle.osi_base.specs.declared.syntax.Syntax.TheVariants.{Ber}
-use Rattle.osi_base.specs.Limits.{last_invocation}
+use Rattle.osi_base.specs.Limits.{last_invocation, most_open}
 use Rattle.asn1_types.specs.declared.value.Val.{Val}
 use Rattle.stub_tables.specs.declared.tables.Tables.{Tables}
 use Rattle.stub_tables.specs.declared.operation.Operation.{Operation}
@@ -21,7 +21,7 @@ use Rattle.dialogue.specs.declared.call.Call.{Call}
 use Rattle.dialogue.specs.declared.call.Call.TheVariants as the_calls
 use Rattle.dialogue.specs.declared.call.CallRefusal.{CallRefusal}
 use Rattle.dialogue.specs.declared.call.CallRefusal.TheVariants as refusals
-use Rattle.end_rules.specs.Base.{Base, is_bare, most_open}
+use Rattle.end_rules.specs.Base.{Base, is_bare}
 use Rattle.end_rules.specs.Sets.{is_deleted_in}
 use Rattle.osi_base.specs.SetPlaces.{pair_of}
 use Rattle.end_rules.specs.Messages.{Message, DataValue, Session, OfData, Values, Remote}

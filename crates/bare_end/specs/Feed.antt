@@ -1,6 +1,6 @@
 -- What a feed does.
 use Rattle.std.specs.Prelude.{◌≡◌, ℕ, ◌<◌, ◌≤◌, List, [], ◌++◌, length, drop, Bool, true, false}
-use Rattle.asn1_types.specs.Limits.{most_octets}
+use Rattle.osi_base.specs.Limits.{most_octets}
 use Rattle.dialogue.specs.declared.config.Phase.TheVariants.{Dead}
 use Rattle.dialogue.specs.declared.indication.Indication.{Indication}
 use Rattle.osi_base.specs.declared.syntax.Syntax.TheVariants.{Ber}

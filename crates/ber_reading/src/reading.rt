@@ -1,6 +1,7 @@
 //! Reading values, row by row.
 
 ghost use Rattle.std.specs.Prelude.{◌≡◌, false, true, ◌++◌, ◌∷◌, ◌+◌, ◌≤◌, ◌<◌, ◌^◌, [], length, Some, None, slice_get, slice_set, IfOk, List};
+ghost use Rattle.osi_base.specs.OctetPlaces.{HasPlaces};
 ghost use Rattle.asn1_types.specs.Rows.{begins};
 ghost use Rattle.asn1_types.specs.Defaults.{kept};
 ghost use Rattle.asn1_types.specs.Table.{AreSoundRows};
@@ -41,7 +42,7 @@ pub fn value<'a>(
     spot: Spot<'a>,
 ) -> Result<(Val, Spot<'a>), ReadFault>
     requires row { of.0 < length table.now }
-    requires whole { spot.place + length spot.rest.now < 2 ^ 63 }
+    requires whole { HasPlaces spot.place spot.rest.now }
     requires start { GoesOn opened.now.start.place (length opened.now.start.rest.now) spot }
     ensures gives { Gives (λ x. (x.0, spot_of x.1)) result
         (reads table.now of.0 (under tag default) scope.now (opened_of opened.now)
@@ -68,7 +69,7 @@ fn value_as<'a>(
 ) -> Result<(Val, Spot<'a>), ReadFault>
     requires row { slice_get table.now of.0 ≡ Some row.now }
     requires sound { AreSoundRows table.now }
-    requires whole { spot.place + length spot.rest.now < 2 ^ 63 }
+    requires whole { HasPlaces spot.place spot.rest.now }
     requires start { GoesOn opened.now.start.place (length opened.now.start.rest.now) spot }
     ensures gives { Gives (λ x. (x.0, spot_of x.1)) result
         (read_by (begins table.now) (written table.now) (reads table.now) row.now

@@ -1,6 +1,7 @@
 //! Reading primitive values other than strings.
 
-ghost use Rattle.std.specs.Prelude.{◌≡◌, ◌&&◌, ◌≢◌, IfErr, ◌+◌, ◌<◌, ◌^◌, length, IfOk, Some};
+ghost use Rattle.std.specs.Prelude.{◌≡◌, ◌&&◌, ◌≢◌, IfErr, length, IfOk, Some};
+ghost use Rattle.osi_base.specs.OctetPlaces.{HasPlaces};
 ghost use Rattle.asn1_types.specs.Value as tree;
 ghost use Rattle.ber_spelling.specs.Reading.{Gives, spot_of, opened_of, GoesOn};
 ghost use Rattle.ber_spelling.specs.Rules.{primitive_at, always, boolean_rule, is_strict_boolean, is_other, integer_rule, enumerated_rule, null_rule, object_id_rule};
@@ -47,7 +48,7 @@ pub fn boolean<'a>(
     opened: &Opened<'a>,
     spot: Spot<'a>,
 ) -> Result<(Val, Spot<'a>), ReadFault>
-    requires { spot.place + length spot.rest.now < 2 ^ 63 }
+    requires { HasPlaces spot.place spot.rest.now }
     ensures gives { Gives (λ x. (x.0, spot_of x.1)) result
         (primitive_at boolean_rule (λ c. is_strict_boolean c && is_other default (boolean_rule c))
         tag scope.now (opened_of opened.now) (spot_of spot.entry)) }
@@ -84,7 +85,7 @@ pub fn enumerated<'a>(
     opened: &Opened<'a>,
     spot: Spot<'a>,
 ) -> Result<(Val, Spot<'a>), ReadFault>
-    requires { spot.place + length spot.rest.now < 2 ^ 63 }
+    requires { HasPlaces spot.place spot.rest.now }
     ensures gives { Gives (λ x. (x.0, spot_of x.1)) result
         (primitive_at (enumerated_rule items.now)
         (λ c. is_other default (enumerated_rule items.now c)) tag scope.now (opened_of opened.now)
@@ -119,7 +120,7 @@ pub fn integer<'a>(
     opened: &Opened<'a>,
     spot: Spot<'a>,
 ) -> Result<(Val, Spot<'a>), ReadFault>
-    requires { spot.place + length spot.rest.now < 2 ^ 63 }
+    requires { HasPlaces spot.place spot.rest.now }
     ensures gives { Gives (λ x. (x.0, spot_of x.1)) result
         (primitive_at (integer_rule low high) (λ c. is_other default (integer_rule low high c)) tag
         scope.now (opened_of opened.now) (spot_of spot.entry)) }
@@ -149,7 +150,7 @@ pub fn null<'a>(
     opened: &Opened<'a>,
     spot: Spot<'a>,
 ) -> Result<(Val, Spot<'a>), ReadFault>
-    requires { spot.place + length spot.rest.now < 2 ^ 63 }
+    requires { HasPlaces spot.place spot.rest.now }
     ensures gives { Gives (λ x. (x.0, spot_of x.1)) result
         (primitive_at null_rule always tag scope.now (opened_of opened.now) (spot_of spot.entry)) }
     ensures no_memory { IfErr result (λ e. e ≢ ReadFault.NoMemory) }
@@ -174,7 +175,7 @@ pub fn object_id<'a>(
     opened: &Opened<'a>,
     spot: Spot<'a>,
 ) -> Result<(Val, Spot<'a>), ReadFault>
-    requires { spot.place + length spot.rest.now < 2 ^ 63 }
+    requires { HasPlaces spot.place spot.rest.now }
     ensures gives { Gives (λ x. (x.0, spot_of x.1)) result
         (primitive_at object_id_rule always tag scope.now (opened_of opened.now)
         (spot_of spot.entry)) }

@@ -1,6 +1,7 @@
 //! Strings, primitive or in segments (X.690 8.6, 8.7, 8.23).
 
-ghost use Rattle.std.specs.Prelude.{◌≡◌, ◌+◌, ◌<◌, ◌^◌, length, drop, slice_index, Some, IfOk};
+ghost use Rattle.std.specs.Prelude.{◌≡◌, ◌<◌, length, drop, slice_index, Some, IfOk};
+ghost use Rattle.osi_base.specs.OctetPlaces.{HasPlaces};
 ghost use Rattle.ber_spelling.specs.declared.spot.StringKind.TheVariants.{OfOctets, OfBits};
 ghost use Rattle.ber_spelling.specs.Reading.{Gives, spot_of, opened_of, GoesOn};
 ghost use Rattle.ber_spelling.specs.Rules.{always, primitive_at, constructed_at, segment_tag, is_segment, nothing, gathered, segment_rule, segment_at, all_items_at, segmented_at, string_rule, string_at, cleared, kind_of, whole_by, canonical_by, whole_octets, whole_text, whole_bits, has_zero_bits};
@@ -84,7 +85,7 @@ fn segments<'a>(
     spot: Spot<'a>,
     before: Gathered,
 ) -> Result<(Gathered, Spot<'a>), ReadFault>
-    requires { spot.place + length spot.rest.now < 2 ^ 63 }
+    requires { HasPlaces spot.place spot.rest.now }
     ensures gives { Gives (λ x. (x.0, spot_of x.1)) result
         (all_items_at (segment_at kind depth) (λ g. Some g) before scope.now (spot_of spot.entry)) }
     ensures stops { IfOk result (λ x. GoesOn spot.entry.place (length spot.entry.rest.now) x.1) }
@@ -114,7 +115,7 @@ fn segment<'a>(
     spot: Spot<'a>,
     before: Gathered,
 ) -> Result<(Gathered, Spot<'a>), ReadFault>
-    requires { spot.place + length spot.rest.now < 2 ^ 63 }
+    requires { HasPlaces spot.place spot.rest.now }
     ensures gives { Gives (λ x. (x.0, spot_of x.1)) result
         (segment_at kind depth before scope.now (opened_of opened.now) (spot_of spot.entry)) }
     ensures stops { IfOk result (λ x. GoesOn spot.entry.place (length spot.entry.rest.now) x.1) }
@@ -139,7 +140,7 @@ fn nested<'a>(
     spot: Spot<'a>,
     before: Gathered,
 ) -> Result<(Gathered, Spot<'a>), ReadFault>
-    requires { spot.place + length spot.rest.now < 2 ^ 63 }
+    requires { HasPlaces spot.place spot.rest.now }
     ensures gives { Gives (λ x. (x.0, spot_of x.1)) result
         (constructed_at (all_items_at (segment_at kind depth) (λ g. Some g) before)
         (segment_tag kind) scope.now (opened_of opened.now) (spot_of spot.entry)) }
@@ -159,7 +160,7 @@ fn single<'a>(
     spot: Spot<'a>,
     before: Gathered,
 ) -> Result<(Gathered, Spot<'a>), ReadFault>
-    requires { spot.place + length spot.rest.now < 2 ^ 63 }
+    requires { HasPlaces spot.place spot.rest.now }
     ensures gives { Gives (λ x. (x.0, spot_of x.1)) result
         (primitive_at (segment_rule kind before) always (segment_tag kind) scope.now
         (opened_of opened.now) (spot_of spot.entry)) }
@@ -267,7 +268,7 @@ fn segmented<'a>(
     opened: &Opened<'a>,
     spot: Spot<'a>,
 ) -> Result<(Val, Spot<'a>), ReadFault>
-    requires { spot.place + length spot.rest.now < 2 ^ 63 }
+    requires { HasPlaces spot.place spot.rest.now }
     ensures gives { Gives (λ x. (x.0, spot_of x.1)) result
         (segmented_at (kind_of rule) (whole_by rule) tag scope.now (opened_of opened.now)
         (spot_of spot.entry)) }
@@ -295,7 +296,7 @@ fn primitive<'a>(
     opened: &Opened<'a>,
     spot: Spot<'a>,
 ) -> Result<(Val, Spot<'a>), ReadFault>
-    requires { spot.place + length spot.rest.now < 2 ^ 63 }
+    requires { HasPlaces spot.place spot.rest.now }
     ensures gives { Gives (λ x. (x.0, spot_of x.1)) result
         (primitive_at (string_rule (kind_of rule) (whole_by rule)) (canonical_by rule) tag scope.now
         (opened_of opened.now) (spot_of spot.entry)) }
@@ -335,7 +336,7 @@ fn string<'a>(
     opened: &Opened<'a>,
     spot: Spot<'a>,
 ) -> Result<(Val, Spot<'a>), ReadFault>
-    requires { spot.place + length spot.rest.now < 2 ^ 63 }
+    requires { HasPlaces spot.place spot.rest.now }
     ensures gives { Gives (λ x. (x.0, spot_of x.1)) result
         (string_at (kind_of rule) (whole_by rule) (canonical_by rule) tag scope.now
         (opened_of opened.now) (spot_of spot.entry)) }
@@ -359,7 +360,7 @@ pub fn octet_string<'a>(
     opened: &Opened<'a>,
     spot: Spot<'a>,
 ) -> Result<(Val, Spot<'a>), ReadFault>
-    requires { spot.place + length spot.rest.now < 2 ^ 63 }
+    requires { HasPlaces spot.place spot.rest.now }
     ensures gives { Gives (λ x. (x.0, spot_of x.1)) result
         (string_at OfOctets (whole_octets most) always tag scope.now (opened_of opened.now)
         (spot_of spot.entry)) }
@@ -378,7 +379,7 @@ pub fn bit_string<'a>(
     opened: &Opened<'a>,
     spot: Spot<'a>,
 ) -> Result<(Val, Spot<'a>), ReadFault>
-    requires { spot.place + length spot.rest.now < 2 ^ 63 }
+    requires { HasPlaces spot.place spot.rest.now }
     ensures gives { Gives (λ x. (x.0, spot_of x.1)) result
         (string_at OfBits whole_bits has_zero_bits tag scope.now (opened_of opened.now)
         (spot_of spot.entry)) }
@@ -398,7 +399,7 @@ pub fn text<'a>(
     opened: &Opened<'a>,
     spot: Spot<'a>,
 ) -> Result<(Val, Spot<'a>), ReadFault>
-    requires { spot.place + length spot.rest.now < 2 ^ 63 }
+    requires { HasPlaces spot.place spot.rest.now }
     ensures gives { Gives (λ x. (x.0, spot_of x.1)) result
         (string_at OfOctets (whole_text kind) always tag scope.now (opened_of opened.now)
         (spot_of spot.entry)) }

@@ -4,6 +4,7 @@ ghost use Rattle.std.specs.Prelude.{◌≡◌, ◌+◌, ◌≤◌, not, [], ◌�
 ghost use Rattle.std.specs.Option.{option_copied};
 ghost use Rattle.context_sets.specs.Sets.{IsRising};
 ghost use Rattle.osi_base.specs.SetPlaces.{pair_of};
+ghost use Rattle.osi_base.specs.Limits.{most_contexts, most_alterations};
 ghost use Rattle.context_sets.specs.Alterations.{additions, altered, is_deleted};
 ghost use Rattle.context_sets.specs.Held.{HasRoom, oldest, later, may_send, serves, lowest, carrier};
 ghost use Rattle.context_sets.specs.Asking.{refusal, IsRefused};
@@ -70,7 +71,7 @@ impl Contexts {
     /// Puts a whole set in the place of this one, which waits for no answer.
     pub fn install(&mut self, list: SetList) -> Result<(), NoMemory>
         requires rises { IsRising list }
-        requires within { length list ≤ 64 }
+        requires within { length list ≤ most_contexts }
         requires none_waits { self.old.own ≡ [] }
         ensures ok { IsOk result }
         ensures initiator { self.new.initiator ≡ self.old.initiator }
@@ -226,7 +227,7 @@ impl Contexts {
     pub fn items(&self) -> &[SetItem]
         ensures value { result.now ≡ self.now.set }
         ensures rises { IsRising self.now.set }
-        ensures within { length self.now.set + additions self.now.own ≤ 64 }
+        ensures within { length self.now.set + additions self.now.own ≤ most_contexts }
     {
         &self.items
     }
@@ -246,7 +247,7 @@ impl Contexts {
     /// How many own alterations wait for their answers.
     pub fn pending(&self) -> u32
         ensures value { result ≡ length self.now.own }
-        ensures few { result ≤ 4 }
+        ensures few { result ≤ most_alterations }
     {
         self.own.len() as u32
     }

@@ -9,7 +9,7 @@ use Rattle.osi_base.specs.declared.layer_words.RestoredItem.{RestoredItem}
 use Rattle.osi_base.specs.declared.layer_words.Problem.{Problem}
 use Rattle.osi_base.specs.declared.layer_words.ProblemKind.{ProblemKind}
 use Rattle.osi_base.specs.declared.layer_words.ProblemKind.TheVariants as problems
-use Rattle.osi_base.specs.Limits.{most_marks, most_transferred}
+use Rattle.osi_base.specs.Limits.{most_marks, most_transferred, most_open}
 use Rattle.stub_tables.specs.declared.apdu.Apdu.{Apdu}
 use Rattle.stub_tables.specs.declared.apdu.Apdu.TheVariants as apdus
 use Rattle.stub_tables.specs.Lookup.{operation_at, operation_with, error_with}
@@ -17,7 +17,7 @@ use Rattle.dialogue.specs.declared.config.Mode.{Mode}
 use Rattle.dialogue.specs.declared.config.Mode.TheVariants.{Bare, Direct, Reliable}
 use Rattle.dialogue.specs.declared.config.Phase.{Phase}
 use Rattle.dialogue.specs.declared.config.Phase.TheVariants as phases
-use Rattle.end_rules.specs.Base.{Base, HeardHead, ResultHead, ErrorHead, Item, most_open}
+use Rattle.end_rules.specs.Base.{Base, HeardHead, ResultHead, ErrorHead, Item}
 use Rattle.end_rules.specs.Sets.{Alteration, Saved, syntax_named}
 use Rattle.end_rules.specs.State.{Stage, Unused, Asked, Joined, Carrying, Awaited, NoAnswer, RestartOf, InterruptOf, DiscardOf, ReleaseOf, OpenCall, is_whose, is_none, Calls, Queued, Piece, Octets, Marked, Progress, Running, Ending, Suspended, Encoded, Transfer, Sending, Receiving, Body}
 use Rattle.end_rules.specs.Invoking.{is_linked_to}

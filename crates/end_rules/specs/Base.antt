@@ -106,25 +106,3 @@ abbrev pub application_context : Mode → List ℕ
 application_context Reliable = 2 ∷ 999 ∷ 5 ∷ 4 ∷ []
 application_context Direct = 2 ∷ 999 ∷ 5 ∷ 3 ∷ []
 application_context Bare = 2 ∷ 999 ∷ 5 ∷ 3 ∷ []
-
--- ---- limits (this project's own)
-
--- contexts of a set
-abbrev pub most_contexts : ℕ
-most_contexts = 64
-
--- own alterations that aren't answered
-abbrev pub most_alterations : ℕ
-most_alterations = 4
-
--- transfer syntaxes of one addition
-abbrev pub most_transfers : ℕ
-most_transfers = 8
-
--- open invocations of one end
-abbrev pub most_open : ℕ
-most_open = 4096
-
--- items that wait for their transfer
-abbrev pub most_queued : ℕ
-most_queued = 64

@@ -1,6 +1,7 @@
 //! Which types name which.
 
 ghost use Rattle.std.specs.Prelude.{◌≡◌, ◌++◌, length, IfOk, OnOk};
+ghost use Rattle.osi_base.specs.Limits.{most_type_levels};
 ghost use Rattle.operation_notation.specs.TreeView.{plain_of, parts_of as trees};
 ghost use Rattle.module_faults.specs.Names.{type_place};
 ghost use Rattle.module_faults.specs.Recursion.{listed, parts_uses, plain_uses, type_uses, use_uses, body_uses, bodies_uses, list_at};
@@ -128,7 +129,7 @@ pub(crate) fn type_uses(
     names: &Names<'_>,
     of: &TypeText,
 ) -> Result<Vec<u32>, NoMemory>
-    ensures { IfOk result (λ used. used.items ≡ type_uses names.now 256 of.now) }
+    ensures { IfOk result (λ used. used.items ≡ type_uses names.now most_type_levels of.now) }
 {
     let mut used = Vec::new(alloc);
     of_type(names, MOST_LEVELS, of, &mut used)?;

@@ -1,8 +1,9 @@
 //! Cutting a text into tokens.
 
 ghost use Rattle.std.specs.Prelude.{◌≡◌, ◌≤◌, ◌<◌, ◌+◌, ◌^◌, length, IfOk};
+ghost use Rattle.osi_base.specs.Limits.{most_module_octets};
 ghost use Rattle.notation_tokens.specs.Forms.{is_blank};
-ghost use Rattle.notation_tokens.specs.Lexing.{behind_octets, goes_on_length, word_length, digits_length, number_length, sign_length, single_sign_length, comment_length, piece_of, fits_in, lexed_of, most_module_octets};
+ghost use Rattle.notation_tokens.specs.Lexing.{behind_octets, goes_on_length, word_length, digits_length, number_length, sign_length, single_sign_length, comment_length, piece_of, fits_in, lexed_of};
 
 use crate::faults::NotationKind;
 use crate::token::{Place, Token, TokenKind, Tokens};

@@ -1,7 +1,7 @@
 //! Calls that are to fail.
 
 ghost use Rattle.std.specs.Prelude.{◌≡◌, ◌↔◌, ◌+◌, ◌≤◌, min, IsTrue, Contains, if◌then◌else◌};
-ghost use Rattle.osi_base.specs.Outside.{last_count};
+ghost use Rattle.osi_base.specs.Limits.{last_count};
 
 use crate::line::Outcome;
 

@@ -1,6 +1,7 @@
 //! Reading values, row by row.
 
-ghost use Rattle.std.specs.Prelude.{◌≡◌, [], ◌+◌, ◌≤◌, ◌<◌, ◌^◌, length, Some, None, slice_get, IfOk};
+ghost use Rattle.std.specs.Prelude.{◌≡◌, [], ◌≤◌, ◌<◌, length, Some, None, slice_get, IfOk};
+ghost use Rattle.osi_base.specs.OctetPlaces.{HasPlaces};
 ghost use Rattle.asn1_types.specs.Table.{AreSoundRows};
 ghost use Rattle.asn1_types.specs.Writing.{written};
 ghost use Rattle.ber_spelling.specs.Below.{ReadsBelow, ReadsPartsBelow};
@@ -31,7 +32,7 @@ pub(crate) fn value<'a>(
     spot: Spot<'a>,
 ) -> Result<(Val, Spot<'a>), PackedFault>
     requires row { of.0 < length table.now }
-    requires whole { spot.place + length spot.rest.now < 2 ^ 63 }
+    requires whole { HasPlaces spot.place spot.rest.now }
     ensures gives { Gives (λ x. (x.0, spot_of x.1)) result
         (reads table.now of.0 limit (spot_of spot.entry)) }
     ensures stops { IfOk result (λ x. GoesOn spot.entry.place (length spot.entry.rest.now) x.1) }
@@ -50,7 +51,7 @@ fn value_as<'a>(
 ) -> Result<(Val, Spot<'a>), PackedFault>
     requires row { slice_get table.now of.0 ≡ Some row.now }
     requires sound { AreSoundRows table.now }
-    requires whole { spot.place + length spot.rest.now < 2 ^ 63 }
+    requires whole { HasPlaces spot.place spot.rest.now }
     ensures gives { Gives (λ x. (x.0, spot_of x.1)) result
         (read_by (written table.now) (reads table.now) row.now limit (spot_of spot.entry)) }
     ensures stops { IfOk result (λ x. GoesOn spot.entry.place (length spot.entry.rest.now) x.1) }

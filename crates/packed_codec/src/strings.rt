@@ -1,6 +1,7 @@
 //! Values of one field, and values behind a size: numbers and strings.
 
-ghost use Rattle.std.specs.Prelude.{◌≡◌, ◌+◌, ◌≤◌, ◌<◌, ◌^◌, length, IfOk};
+ghost use Rattle.std.specs.Prelude.{◌≡◌, ◌≤◌, length, IfOk};
+ghost use Rattle.osi_base.specs.OctetPlaces.{HasPlaces};
 ghost use Rattle.asn1_types.specs.Defaults.{is_item};
 ghost use Rattle.packed_codec.specs.Numbers.{is_size};
 ghost use Rattle.packed_codec.specs.Reading.{Gives, spot_of, GoesOn};
@@ -25,7 +26,7 @@ fn is_size(size: u8) -> bool
 /// A BOOLEAN: 0 or 1.
 #[tactic(auto, unfolding(crate::specs::Rules::boolean_at))]
 pub(crate) fn boolean<'a>(limit: u32, spot: Spot<'a>) -> Result<(Val, Spot<'a>), PackedFault>
-    requires { spot.place + length spot.rest.now < 2 ^ 63 }
+    requires { HasPlaces spot.place spot.rest.now }
     ensures gives { Gives (λ x. (x.0, spot_of x.1)) result (boolean_at limit (spot_of spot.entry)) }
     ensures stops { IfOk result (λ x. GoesOn spot.entry.place (length spot.entry.rest.now) x.1) }
 {
@@ -60,7 +61,7 @@ pub(crate) fn integer<'a>(
     limit: u32,
     spot: Spot<'a>,
 ) -> Result<(Val, Spot<'a>), PackedFault>
-    requires { spot.place + length spot.rest.now < 2 ^ 63 }
+    requires { HasPlaces spot.place spot.rest.now }
     ensures gives { Gives (λ x. (x.0, spot_of x.1)) result
         (number_at (number_rule (in_range low high)) limit (spot_of spot.entry)) }
     ensures stops { IfOk result (λ x. GoesOn spot.entry.place (length spot.entry.rest.now) x.1) }
@@ -88,7 +89,7 @@ pub(crate) fn enumerated<'a>(
     limit: u32,
     spot: Spot<'a>,
 ) -> Result<(Val, Spot<'a>), PackedFault>
-    requires { spot.place + length spot.rest.now < 2 ^ 63 }
+    requires { HasPlaces spot.place spot.rest.now }
     ensures gives { Gives (λ x. (x.0, spot_of x.1)) result
         (number_at (number_rule (is_item items.now)) limit (spot_of spot.entry)) }
     ensures stops { IfOk result (λ x. GoesOn spot.entry.place (length spot.entry.rest.now) x.1) }
@@ -117,7 +118,7 @@ pub(crate) fn octet_string<'a>(
     limit: u32,
     spot: Spot<'a>,
 ) -> Result<(Val, Spot<'a>), PackedFault>
-    requires { spot.place + length spot.rest.now < 2 ^ 63 }
+    requires { HasPlaces spot.place spot.rest.now }
     ensures gives { Gives (λ x. (x.0, spot_of x.1)) result
         (string_at (at_most most) octets_rule limit (spot_of spot.entry)) }
     ensures stops { IfOk result (λ x. GoesOn spot.entry.place (length spot.entry.rest.now) x.1) }
@@ -136,7 +137,7 @@ pub(crate) fn text<'a>(
     limit: u32,
     spot: Spot<'a>,
 ) -> Result<(Val, Spot<'a>), PackedFault>
-    requires { spot.place + length spot.rest.now < 2 ^ 63 }
+    requires { HasPlaces spot.place spot.rest.now }
     ensures gives { Gives (λ x. (x.0, spot_of x.1)) result
         (string_at any_size (text_rule kind) limit (spot_of spot.entry)) }
     ensures stops { IfOk result (λ x. GoesOn spot.entry.place (length spot.entry.rest.now) x.1) }
@@ -157,7 +158,7 @@ pub(crate) fn object_id<'a>(
     limit: u32,
     spot: Spot<'a>,
 ) -> Result<(Val, Spot<'a>), PackedFault>
-    requires { spot.place + length spot.rest.now < 2 ^ 63 }
+    requires { HasPlaces spot.place spot.rest.now }
     ensures gives { Gives (λ x. (x.0, spot_of x.1)) result
         (string_at any_size object_id_rule limit (spot_of spot.entry)) }
     ensures stops { IfOk result (λ x. GoesOn spot.entry.place (length spot.entry.rest.now) x.1) }
@@ -183,7 +184,7 @@ fn bits_behind<'a>(
     limit: u32,
     spot: Spot<'a>,
 ) -> Result<(Val, Spot<'a>), PackedFault>
-    requires { spot.place + length spot.rest.now < 2 ^ 63 }
+    requires { HasPlaces spot.place spot.rest.now }
     ensures gives { Gives (λ x. (x.0, spot_of x.1)) result
         (string_at (bits_size unused) (bits_rule unused) limit (spot_of spot.entry)) }
     ensures stops { IfOk result (λ x. GoesOn spot.entry.place (length spot.entry.rest.now) x.1) }
@@ -206,7 +207,7 @@ pub(crate) fn bit_string<'a>(
     limit: u32,
     spot: Spot<'a>,
 ) -> Result<(Val, Spot<'a>), PackedFault>
-    requires { spot.place + length spot.rest.now < 2 ^ 63 }
+    requires { HasPlaces spot.place spot.rest.now }
     ensures gives { Gives (λ x. (x.0, spot_of x.1)) result (bits_at limit (spot_of spot.entry)) }
     ensures stops { IfOk result (λ x. GoesOn spot.entry.place (length spot.entry.rest.now) x.1) }
 {

@@ -1,7 +1,7 @@
 //! Reading whole values.
 
 ghost use Rattle.std.specs.Prelude.{◌≡◌, ℕ, ◌≤◌, ◌<◌, length, take, IfOk};
-ghost use Rattle.asn1_types.specs.Limits.{most_octets};
+ghost use Rattle.osi_base.specs.Limits.{most_octets};
 ghost use Rattle.asn1_types.specs.Value as tree;
 ghost use Rattle.packed_codec.specs.Reading.{Gives};
 ghost use Rattle.packed_codec.specs.Rules.{read_at};

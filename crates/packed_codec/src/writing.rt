@@ -2,6 +2,7 @@
 
 ghost use Rattle.std.specs.Prelude.{◌≡◌, ◌∷◌, ◌++◌, ◌+◌, ◌≤◌, ◌<◌, Some, length, drop, slice_get};
 ghost use Rattle.std.specs.List.{AllByRecursion};
+ghost use Rattle.osi_base.specs.Limits.{most_alternatives};
 ghost use Rattle.asn1_types.specs.Rows.{rows_of_parts};
 ghost use Rattle.asn1_types.specs.Table.{AreSoundRows};
 ghost use Rattle.asn1_types.specs.ValueView.{parts_of, values_of};
@@ -75,7 +76,7 @@ fn put_choice(
     at: usize,
 ) -> usize
     requires below { AllByRecursion (λ m. m < of.0) (rows_of_parts alternatives.now) }
-    requires few { length alternatives.now ≤ 256 }
+    requires few { length alternatives.now ≤ most_alternatives }
     requires room { at + length (choice_written (packed table.now) alternatives.now value.now)
         ≤ length out.old }
     ensures { IsPut (choice_written (packed table.now) alternatives.now value.now) at out.old

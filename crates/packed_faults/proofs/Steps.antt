@@ -1,6 +1,6 @@
 -- Steps of reading that fail.
 use Rattle.std.proofs.Common.{◌≡◌, ℕ, ◌≤◌, ◌<◌, ◌^◌, Bool, true, false, cond, Option, Some, None, Ok, Err, refl, sym, ap, ◌∙◌, ◌⊎◌, inl, inr}
-use Rattle.asn1_types.specs.Limits.{most_items}
+use Rattle.osi_base.specs.Limits.{most_items}
 use Rattle.packed_codec.specs.declared.fault.PackedFault.{PackedFault}
 use Rattle.packed_codec.specs.declared.fault.PackedFault.TheVariants.{NotSpelled, Short}
 use Rattle.ber_spelling.specs.Octets.{AreOctets}

@@ -1,6 +1,7 @@
 //! Fields read from the left.
 
-ghost use Rattle.std.specs.Prelude.{◌≡◌, ◌+◌, ◌++◌, ◌<◌, ◌^◌, length, Some, IfOk, OnOk, drop};
+ghost use Rattle.std.specs.Prelude.{◌≡◌, ◌++◌, ◌<◌, length, Some, IfOk, OnOk, drop};
+ghost use Rattle.osi_base.specs.OctetPlaces.{HasPlaces};
 ghost use Rattle.asn1_types.specs.Value as tree;
 ghost use Rattle.asn1_types.specs.ValueView.{values_of, parts_of};
 ghost use Rattle.ber_spelling.specs.Reading.{Gives, GoesOn, opened_of, spot_of};
@@ -31,7 +32,7 @@ pub fn some_values<'a>(
     spot: Spot<'a>,
 ) -> Result<(Val, Spot<'a>), ReadFault>
     requires row { of.0 < length table.now }
-    requires whole { spot.place + length spot.rest.now < 2 ^ 63 }
+    requires whole { HasPlaces spot.place spot.rest.now }
     ensures gives { Gives (λ x. (x.0, spot_of x.1)) result
         (some_at (reads table.now of.0) tag scope.now (opened_of opened.now) (spot_of spot.entry)) }
     ensures stops { IfOk result (λ x. GoesOn spot.entry.place (length spot.entry.rest.now) x.1) }
@@ -50,7 +51,7 @@ fn some_items<'a>(
     spot: Spot<'a>,
 ) -> Result<(Val, Spot<'a>), ReadFault>
     requires row { of.0 < length table.now }
-    requires whole { spot.place + length spot.rest.now < 2 ^ 63 }
+    requires whole { HasPlaces spot.place spot.rest.now }
     ensures gives { Gives (λ x. (x.0, spot_of x.1)) result
         (some_items_at (reads table.now of.0) scope.now (spot_of spot.entry)) }
     ensures stops { IfOk result (λ x. GoesOn spot.entry.place (length spot.entry.rest.now) x.1) }
@@ -98,7 +99,7 @@ fn held<'a>(
     spot: Spot<'a>,
 ) -> Result<(Val, Spot<'a>), ReadFault>
     requires row { HasRow table.now holds }
-    requires whole { spot.place + length spot.rest.now < 2 ^ 63 }
+    requires whole { HasPlaces spot.place spot.rest.now }
     requires start { GoesOn opened.now.start.place (length opened.now.start.rest.now) spot }
     ensures gives { Gives (λ x. (x.0, spot_of x.1)) result
         (held_by table.now tag holds scope.now (opened_of opened.now) (spot_of spot.entry)) }
@@ -130,7 +131,7 @@ fn known<'a>(
     spot: Spot<'a>,
 ) -> Result<(MaybeVals, Spot<'a>), ReadFault>
     requires rows { HaveRows table.now fields.now }
-    requires whole { spot.place + length spot.rest.now < 2 ^ 63 }
+    requires whole { HasPlaces spot.place spot.rest.now }
     requires start { GoesOn opened.now.start.place (length opened.now.start.rest.now) spot }
     ensures gives { Gives (λ x. (x.0.items, spot_of x.1)) result
         (known_at table.now fields.now found.items scope.now (opened_of opened.now)
@@ -208,7 +209,7 @@ fn pass<'a>(
     opened: &Opened<'a>,
     spot: Spot<'a>,
 ) -> Result<(MaybeVals, Spot<'a>), ReadFault>
-    requires { spot.place + length spot.rest.now < 2 ^ 63 }
+    requires { HasPlaces spot.place spot.rest.now }
     ensures gives { Gives (λ x. (x.0.items, spot_of x.1)) result
         (pass_at found.items told scope.now (opened_of opened.now) (spot_of spot.entry)) }
     ensures stops { IfOk result (λ x. GoesOn spot.entry.place (length spot.entry.rest.now) x.1) }
@@ -232,7 +233,7 @@ fn field<'a>(
     spot: Spot<'a>,
 ) -> Result<(MaybeVals, Spot<'a>), ReadFault>
     requires rows { HaveRows table.now fields.now.known.now }
-    requires whole { spot.place + length spot.rest.now < 2 ^ 63 }
+    requires whole { HasPlaces spot.place spot.rest.now }
     requires start { GoesOn opened.now.start.place (length opened.now.start.rest.now) spot }
     ensures gives { Gives (λ x. (x.0.items, spot_of x.1)) result
         (field_at table.now fields.now.known.now fields.now.passed.now found.items scope.now
@@ -294,7 +295,7 @@ fn all_fields<'a>(
     spot: Spot<'a>,
 ) -> Result<(Val, Spot<'a>), ReadFault>
     requires rows { HaveRows table.now fields.now.known.now }
-    requires whole { spot.place + length spot.rest.now < 2 ^ 63 }
+    requires whole { HasPlaces spot.place spot.rest.now }
     ensures gives { Gives (λ x. (x.0, spot_of x.1)) result
         (fields_at table.now fields.now.known.now fields.now.passed.now scope.now
         (spot_of spot.entry)) }
@@ -332,7 +333,7 @@ pub fn fields<'a>(
     spot: Spot<'a>,
 ) -> Result<(Val, Spot<'a>), ReadFault>
     requires rows { HaveRows table.now fields.now.known.now }
-    requires whole { spot.place + length spot.rest.now < 2 ^ 63 }
+    requires whole { HasPlaces spot.place spot.rest.now }
     ensures gives { Gives (λ x. (x.0, spot_of x.1)) result
         (fielded_at table.now fields.now.known.now fields.now.passed.now tag scope.now
         (opened_of opened.now) (spot_of spot.entry)) }

@@ -1,13 +1,15 @@
 //! Units of the presentation protocol read from the left.
 
-ghost use Rattle.std.specs.Prelude.{◌≡◌, ◌+◌, ◌<◌, ◌^◌, length, IfOk, [], Some, None};
-ghost use Rattle.asn1_types.specs.Limits.{most_spelled};
+ghost use Rattle.std.specs.Prelude.{◌≡◌, length, IfOk, [], Some, None};
+ghost use Rattle.osi_base.specs.Limits.{most_spelled};
+ghost use Rattle.osi_base.specs.OctetPlaces.{HasPlaces};
 ghost use Rattle.ber_spelling.specs.Reading.{Gives, GoesOn, opened_of, spot_of};
 ghost use Rattle.ber_spelling.specs.declared.fault.ReadFault.TheVariants.{NotSpelled};
 ghost use Rattle.ber_spelling.specs.Rules.{reads, plain};
 ghost use Rattle.passed_fields.specs.Known.{HaveRows};
 ghost use Rattle.passed_fields.specs.Front.{front_at};
 ghost use Rattle.passed_fields.specs.Reading.{fielded_at};
+ghost use Rattle.presentation_pdus.specs.Rows.{row_count};
 ghost use Rattle.presentation_pdus.specs.Fields.{context_tag, sequence_tag, user_tag, mode_row, connect_fields, connect_passed, accept_fields, accept_passed, reject_fields, alter_fields, alter_ack_fields, restart_fields, user_abort_fields, provider_abort_fields};
 ghost use Rattle.presentation_pdus.specs.Selected.{again_kind, has_context, half_at, both, halves_done, no_half, halves_at, selected_at};
 ghost use Rattle.presentation_pdus.specs.Units.{unit_at, connect_at, accept_at, alteration_at, abort_at, data_at, ppdu_run};
@@ -79,8 +81,8 @@ fn half<'a>(
     spot: Spot<'a>,
 ) -> Result<(Halves, Spot<'a>), ReadFault>
     requires rows { HaveRows table.now shape.now.known.now }
-    requires all { length table.now ≡ 64 }
-    requires whole { spot.place + length spot.rest.now < 2 ^ 63 }
+    requires all { length table.now ≡ row_count }
+    requires whole { HasPlaces spot.place spot.rest.now }
     requires start { GoesOn opened.now.start.place (length opened.now.start.rest.now) spot }
     ensures gives { Gives (λ x. (x.0, spot_of x.1)) result
         (half_at (reads table.now mode_row plain)
@@ -150,8 +152,8 @@ fn all_halves<'a>(
     spot: Spot<'a>,
 ) -> Result<(Val, Spot<'a>), ReadFault>
     requires rows { HaveRows table.now shape.now.known.now }
-    requires all { length table.now ≡ 64 }
-    requires whole { spot.place + length spot.rest.now < 2 ^ 63 }
+    requires all { length table.now ≡ row_count }
+    requires whole { HasPlaces spot.place spot.rest.now }
     ensures gives { Gives (λ x. (x.0, spot_of x.1)) result
         (halves_at (reads table.now mode_row plain)
         (fielded_at table.now shape.now.known.now shape.now.passed.now (context_tag 2)) scope.now
@@ -188,8 +190,8 @@ fn selected<'a>(
     spot: Spot<'a>,
 ) -> Result<(Val, Spot<'a>), ReadFault>
     requires rows { HaveRows table.now shape.now.known.now }
-    requires all { length table.now ≡ 64 }
-    requires whole { spot.place + length spot.rest.now < 2 ^ 63 }
+    requires all { length table.now ≡ row_count }
+    requires whole { HasPlaces spot.place spot.rest.now }
     ensures gives { Gives (λ x. (x.0, spot_of x.1)) result
         (selected_at (reads table.now mode_row plain)
         (fielded_at table.now shape.now.known.now shape.now.passed.now (context_tag 2)) scope.now
@@ -217,8 +219,8 @@ fn with_mode<'a>(
     spot: Spot<'a>,
 ) -> Result<(Val, Spot<'a>), ReadFault>
     requires rows { HaveRows table.now known.now }
-    requires all { length table.now ≡ 64 }
-    requires whole { spot.place + length spot.rest.now < 2 ^ 63 }
+    requires all { length table.now ≡ row_count }
+    requires whole { HasPlaces spot.place spot.rest.now }
     ensures gives { Gives (λ x. (x.0, spot_of x.1)) result
         (unit_at which (selected_at (reads table.now mode_row plain)
         (fielded_at table.now known.now passed.now (context_tag 2))) scope.now
@@ -242,7 +244,7 @@ fn plain_unit<'a>(
     spot: Spot<'a>,
 ) -> Result<(Val, Spot<'a>), ReadFault>
     requires rows { HaveRows table.now known.now }
-    requires whole { spot.place + length spot.rest.now < 2 ^ 63 }
+    requires whole { HasPlaces spot.place spot.rest.now }
     ensures gives { Gives (λ x. (x.0, spot_of x.1)) result
         (unit_at which (fielded_at table.now known.now [] tag) scope.now (opened_of opened.now)
         (spot_of spot.entry)) }
@@ -261,8 +263,8 @@ fn data<'a>(
     opened: &Opened<'a>,
     spot: Spot<'a>,
 ) -> Result<(Val, Spot<'a>), ReadFault>
-    requires all { length table.now ≡ 64 }
-    requires whole { spot.place + length spot.rest.now < 2 ^ 63 }
+    requires all { length table.now ≡ row_count }
+    requires whole { HasPlaces spot.place spot.rest.now }
     ensures gives { Gives (λ x. (x.0, spot_of x.1)) result
         (data_at table.now scope.now (opened_of opened.now) (spot_of spot.entry)) }
     ensures stops { IfOk result (λ x. GoesOn spot.entry.place (length spot.entry.rest.now) x.1) }
@@ -284,8 +286,8 @@ fn alteration<'a>(
     opened: &Opened<'a>,
     spot: Spot<'a>,
 ) -> Result<(Val, Spot<'a>), ReadFault>
-    requires all { length table.now ≡ 64 }
-    requires whole { spot.place + length spot.rest.now < 2 ^ 63 }
+    requires all { length table.now ≡ row_count }
+    requires whole { HasPlaces spot.place spot.rest.now }
     ensures gives { Gives (λ x. (x.0, spot_of x.1)) result
         (alteration_at table.now scope.now (opened_of opened.now) (spot_of spot.entry)) }
     ensures stops { IfOk result (λ x. GoesOn spot.entry.place (length spot.entry.rest.now) x.1) }
@@ -308,8 +310,8 @@ fn abort<'a>(
     opened: &Opened<'a>,
     spot: Spot<'a>,
 ) -> Result<(Val, Spot<'a>), ReadFault>
-    requires all { length table.now ≡ 64 }
-    requires whole { spot.place + length spot.rest.now < 2 ^ 63 }
+    requires all { length table.now ≡ row_count }
+    requires whole { HasPlaces spot.place spot.rest.now }
     ensures gives { Gives (λ x. (x.0, spot_of x.1)) result
         (abort_at table.now scope.now (opened_of opened.now) (spot_of spot.entry)) }
     ensures stops { IfOk result (λ x. GoesOn spot.entry.place (length spot.entry.rest.now) x.1) }
@@ -332,8 +334,8 @@ fn connect<'a>(
     opened: &Opened<'a>,
     spot: Spot<'a>,
 ) -> Result<(Val, Spot<'a>), ReadFault>
-    requires all { length table.now ≡ 64 }
-    requires whole { spot.place + length spot.rest.now < 2 ^ 63 }
+    requires all { length table.now ≡ row_count }
+    requires whole { HasPlaces spot.place spot.rest.now }
     ensures gives { Gives (λ x. (x.0, spot_of x.1)) result
         (unit_at 0 (connect_at table.now) scope.now (opened_of opened.now) (spot_of spot.entry)) }
     ensures stops { IfOk result (λ x. GoesOn spot.entry.place (length spot.entry.rest.now) x.1) }
@@ -352,8 +354,8 @@ fn accept<'a>(
     opened: &Opened<'a>,
     spot: Spot<'a>,
 ) -> Result<(Val, Spot<'a>), ReadFault>
-    requires all { length table.now ≡ 64 }
-    requires whole { spot.place + length spot.rest.now < 2 ^ 63 }
+    requires all { length table.now ≡ row_count }
+    requires whole { HasPlaces spot.place spot.rest.now }
     ensures gives { Gives (λ x. (x.0, spot_of x.1)) result
         (unit_at 1 (accept_at table.now) scope.now (opened_of opened.now) (spot_of spot.entry)) }
     ensures stops { IfOk result (λ x. GoesOn spot.entry.place (length spot.entry.rest.now) x.1) }
@@ -372,8 +374,8 @@ fn reject<'a>(
     opened: &Opened<'a>,
     spot: Spot<'a>,
 ) -> Result<(Val, Spot<'a>), ReadFault>
-    requires all { length table.now ≡ 64 }
-    requires whole { spot.place + length spot.rest.now < 2 ^ 63 }
+    requires all { length table.now ≡ row_count }
+    requires whole { HasPlaces spot.place spot.rest.now }
     ensures gives { Gives (λ x. (x.0, spot_of x.1)) result
         (unit_at 2 (fielded_at table.now reject_fields [] sequence_tag) scope.now
         (opened_of opened.now) (spot_of spot.entry)) }
@@ -393,8 +395,8 @@ fn restart<'a>(
     opened: &Opened<'a>,
     spot: Spot<'a>,
 ) -> Result<(Val, Spot<'a>), ReadFault>
-    requires all { length table.now ≡ 64 }
-    requires whole { spot.place + length spot.rest.now < 2 ^ 63 }
+    requires all { length table.now ≡ row_count }
+    requires whole { HasPlaces spot.place spot.rest.now }
     ensures gives { Gives (λ x. (x.0, spot_of x.1)) result
         (unit_at which (fielded_at table.now restart_fields [] sequence_tag) scope.now
         (opened_of opened.now) (spot_of spot.entry)) }
@@ -423,8 +425,8 @@ fn unit<'a>(
     opened: &Opened<'a>,
     spot: Spot<'a>,
 ) -> Result<(Val, Spot<'a>), ReadFault>
-    requires all { length table.now ≡ 64 }
-    requires whole { spot.place + length spot.rest.now < 2 ^ 63 }
+    requires all { length table.now ≡ row_count }
+    requires whole { HasPlaces spot.place spot.rest.now }
     ensures gives { Gives (λ x. (x.0, spot_of x.1)) result
         (ppdu_run table.now place scope.now (opened_of opened.now) (spot_of spot.entry)) }
     ensures stops { IfOk result (λ x. GoesOn spot.entry.place (length spot.entry.rest.now) x.1) }
@@ -451,7 +453,7 @@ pub(crate) fn front(
     place: PpduPlace,
     bytes: &[u8],
 ) -> Result<(Val, usize), ReadFault>
-    requires all { length table.now ≡ 64 }
+    requires all { length table.now ≡ row_count }
     ensures gives { Gives (λ x. x) result (front_at (ppdu_run table.now place) most_spelled
         bytes.now) }
 {

@@ -4,7 +4,7 @@ use Rattle.std.specs.Prelude.{ℤ, Bool, not, ◌&&◌, ◌||◌, Option, Some, 
 use Rattle.std.proofs.lemmas.Bool.Decides.{nat_tests}
 use Rattle.osi_base.specs.declared.layer_words.SetItem.{SetItem}
 use Rattle.osi_base.specs.declared.layer_words.Answers.{Answers}
-use Rattle.osi_base.specs.Limits.{most_marks}
+use Rattle.osi_base.specs.Limits.{most_marks, most_alterations}
 use Rattle.asn1_types.specs.declared.value.Val.{Val}
 use Rattle.stub_tables.specs.declared.apdu.Apdu.{Apdu}
 use Rattle.stub_tables.specs.declared.operation.Operation.{Operation}
@@ -14,7 +14,7 @@ use Rattle.dialogue.specs.declared.call.Call.{Call}
 use Rattle.dialogue.specs.declared.call.Call.TheVariants as the_calls
 use Rattle.dialogue.specs.declared.call.CallRefusal.{CallRefusal}
 use Rattle.dialogue.specs.declared.call.CallRefusal.TheVariants as refusals
-use Rattle.end_rules.specs.Base.{Base, Fault, Arrived, most_alterations}
+use Rattle.end_rules.specs.Base.{Base, Fault, Arrived}
 use Rattle.end_rules.specs.Sets.{Alteration, is_among, named_ids, proposed_ids, is_fixed, altered}
 use Rattle.osi_base.specs.SetPlaces.{pair_of}
 use Rattle.end_rules.specs.Messages.{DataValue, Word, OfAssociation, OfData, OfMarks, OfActivities, Finish, Disconnect}

@@ -1,11 +1,12 @@
 -- The laws of the two sides.
 use Rattle.std.specs.Prelude.{ℕ, ◌≤◌, Bool, length, IfSome}
 use Rattle.osi_base.specs.declared.syntax.Syntax.{Syntax}
+use Rattle.osi_base.specs.Limits.{most_open}
 use Rattle.asn1_types.specs.Table.{AreSoundRows}
 use Rattle.ber_spelling.specs.Octets.{AreOctets}
 use Rattle.stub_tables.specs.declared.tables.Tables.{Tables}
 use Rattle.apdu_spelling.specs.declared.head.ApduHead.{ApduHead}
-use Rattle.end_rules.specs.Base.{Base, Carried, HeardHead, most_open}
+use Rattle.end_rules.specs.Base.{Base, Carried, HeardHead}
 use Rattle.end_rules.specs.State.{Calls, opens_of}
 use Rattle.end_rules.specs.Hearing.{hear}
 use Rattle.end_wire.specs.Heads.{carried_at}

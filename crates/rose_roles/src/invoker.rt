@@ -3,11 +3,11 @@
 ghost use Rattle.std.specs.Prelude.{◌≡◌, ◌<◌, ◌≤◌, ◌+◌, ℕ, ℤ, pos, List, [], ◌∷◌, ◌++◌, length, None, Some, true, false, IfOk, OnOk, OnErr, is_some};
 ghost use Rattle.std.specs.Option.{option_map};
 ghost use Rattle.std.specs.Ordering.{int_cmp};
-ghost use Rattle.osi_base.specs.Limits.{last_invocation};
+ghost use Rattle.osi_base.specs.Limits.{last_invocation, most_open};
 ghost use Rattle.linked_ops.specs.Entries.{Entry, IsForest, is_open, is_open_or_none};
 ghost use Rattle.apdu_spelling.specs.declared.head.ApduKind.TheVariants as kinds;
 ghost use Rattle.stub_tables.specs.Lookup.{error_with};
-ghost use Rattle.end_rules.specs.Base.{Base, ResultHead, ErrorHead, RejectHead, most_open};
+ghost use Rattle.end_rules.specs.Base.{Base, ResultHead, ErrorHead, RejectHead};
 ghost use Rattle.end_rules.specs.State.{close, opens_of};
 ghost use Rattle.end_rules.specs.Hearing.{hear, is_of_invocation};
 ghost use Rattle.rose_roles.specs.Heads.{is_invocation, reject_by, Carries, use_by, parameter_placed};

@@ -8,6 +8,7 @@ use Rattle.osi_base.specs.declared.layer_words.Proposal.{Proposal}
 use Rattle.osi_base.specs.declared.layer_words.AddAnswer.{AddAnswer}
 use Rattle.osi_base.specs.declared.layer_words.Answers.{Answers}
 use Rattle.osi_base.specs.declared.layer_words.Problem.{Problem}
+use Rattle.osi_base.specs.Limits.{most_alterations}
 use Rattle.stub_tables.specs.declared.operation.Code.{Code}
 use Rattle.stub_tables.specs.declared.apdu.Apdu.{Apdu}
 use Rattle.stub_tables.specs.declared.apdu.Apdu.TheVariants as apdus
@@ -16,7 +17,7 @@ use Rattle.dialogue.specs.declared.indication.Indication.TheVariants as indicati
 use Rattle.dialogue.specs.declared.config.Mode.TheVariants.{Direct}
 use Rattle.dialogue.specs.declared.call.CallRefusal.{CallRefusal}
 use Rattle.dialogue.specs.declared.call.CallRefusal.TheVariants as refusals
-use Rattle.end_rules.specs.Base.{Base, Carried, most_alterations}
+use Rattle.end_rules.specs.Base.{Base, Carried}
 use Rattle.end_rules.specs.Altering.{additions_refusal, deletions_refusal, or_else, is_bad, is_set_full, alteration_refusal, can_alter}
 use Rattle.end_rules.specs.Sets.{Alteration, Saved, carrier, may_send, lowest_with, has_abstract, is_among, named_ids, proposed_ids, is_fixed, put, put_accepted, pair_accepted, with_added, with_deleted, altered, below, newest}
 use Rattle.osi_base.specs.SetPlaces.{pair_of, without_context}
