@@ -1,6 +1,6 @@
 //! Fixed tables of types, row by row.
 
-ghost use Rattle.std.specs.Prelude.{◌≡◌, ◌++◌, ◌∷◌, [], None, true, IfOk, OnOk};
+ghost use Rattle.std.specs.Prelude.{◌≡◌, ◌++◌, ◌∷◌, [], map, None, true, IfOk, OnOk};
 ghost use Rattle.asn1_types.specs.Table.{refusal};
 ghost use Rattle.asn1_types.specs.declared.row.TypeRow.TheVariants.{Tagged};
 ghost use Rattle.fixed_tables.specs.Rows.{part, implicit, explicit as around, all_added};
@@ -10,7 +10,7 @@ use osi_base::{ListOf, Name, NoMemory};
 use std::alloc::Global;
 
 /// A part of this name, whose type is this row.
-pub fn part(alloc: Global, name: &str, row: u32, optional: bool) -> Result<Part, NoMemory>
+fn part(alloc: Global, name: &str, row: u32, optional: bool) -> Result<Part, NoMemory>
     ensures { IfOk result (λ p. p ≡ part name.now row optional) }
 {
     Ok(Part {
@@ -21,11 +21,15 @@ pub fn part(alloc: Global, name: &str, row: u32, optional: bool) -> Result<Part,
     })
 }
 
-/// The parts of a vector, which is taken as it is.
-pub fn parts_of(parts: Vec<Part>) -> Parts
-    ensures { result ≡ parts.items }
+/// The parts that are told, each by its name, the row of its type, and whether it may be absent.
+pub fn parts(alloc: Global, told: &[(&str, u32, bool)]) -> Result<Parts, NoMemory>
+    ensures { IfOk result (λ parts. parts ≡ map (λ t. part t.0.now t.1 t.2) told.now) }
 {
-    ListOf::from_vec(parts)
+    let mut parts = Vec::new(alloc);
+    for (name, row, optional) in told {
+        parts.push(part(alloc, name, *row, *optional)?)?;
+    }
+    Ok(ListOf::from_vec(parts))
 }
 
 /// A tag around a row, or in the place of its own.

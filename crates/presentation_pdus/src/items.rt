@@ -90,16 +90,13 @@ impl InValue for Definitions {
     }
 
     fn val(alloc: Global, item: &Proposal) -> Result<Val, NoMemory> {
-        let parts = vec![in alloc;
-            Some(integer(item.id as i64)),
-            Some(object_id(alloc, &item.abstract_name)?),
-            Some(list_of::<Names>(alloc, item.transfers.as_slice())?),
-        ]?;
-        Ok(sequence(parts))
+        let name = object_id(alloc, &item.abstract_name)?;
+        let transfers = list_of::<Names>(alloc, item.transfers.as_slice())?;
+        let id = integer(item.id as i64);
+        Ok(sequence(vec![in alloc; Some(id), Some(name), Some(transfers)]?))
     }
 }
 
-/// A name as a part.
 /// A small number as a part.
 pub(crate) fn octet_part(number: Option<u8>) -> Option<Val>
     ensures { result ≡ option_map number_value number }
@@ -139,12 +136,10 @@ impl InValue for Results {
     }
 
     fn val(alloc: Global, item: &AddAnswer) -> Result<Val, NoMemory> {
-        let parts = vec![in alloc;
-            Some(integer(item.result as i64)),
-            name_part(alloc, &item.transfer)?,
-            octet_part(item.reason),
-        ]?;
-        Ok(sequence(parts))
+        let transfer = name_part(alloc, &item.transfer)?;
+        let result = integer(item.result as i64);
+        let reason = octet_part(item.reason);
+        Ok(sequence(vec![in alloc; Some(result), transfer, reason]?))
     }
 }
 
@@ -166,11 +161,9 @@ impl InValue for Restored {
     }
 
     fn val(alloc: Global, item: &RestoredItem) -> Result<Val, NoMemory> {
-        let parts = vec![in alloc;
-            Some(integer(item.id as i64)),
-            Some(object_id(alloc, &item.transfer)?),
-        ]?;
-        Ok(sequence(parts))
+        let transfer = object_id(alloc, &item.transfer)?;
+        let id = integer(item.id as i64);
+        Ok(sequence(vec![in alloc; Some(id), Some(transfer)]?))
     }
 }
 
