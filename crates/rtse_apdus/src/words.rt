@@ -75,10 +75,9 @@ fn data_value(alloc: Global, carried: &ConnectionData) -> Result<Val, NoMemory>
     match carried {
         ConnectionData::Open(value) => chosen(alloc, 0, any(alloc, value)?),
         ConnectionData::Recover { reference, common } => {
-            let parts = vec![in alloc;
-                Some(octets(alloc, reference)?),
-                Some(octets(alloc, common)?),
-            ]?;
+            let reference = octets(alloc, reference)?;
+            let common = octets(alloc, common)?;
+            let parts = vec![in alloc; Some(reference), Some(common)]?;
             chosen(alloc, 1, sequence(parts))
         }
     }
@@ -95,11 +94,12 @@ pub(crate) fn value_of(alloc: Global, apdu: &Rtse) -> Result<Val, NoMemory>
             mode,
             data,
         } => {
+            let data = data_value(alloc, data)?;
             let parts = vec![in alloc;
                 Some(integer(*checkpoint as i64)),
                 Some(integer(*window as i64)),
                 Some(integer(*mode)),
-                Some(data_value(alloc, data)?),
+                Some(data),
             ]?;
             chosen(alloc, 0, sequence(parts))
         }
@@ -108,10 +108,11 @@ pub(crate) fn value_of(alloc: Global, apdu: &Rtse) -> Result<Val, NoMemory>
             window,
             data,
         } => {
+            let data = data_value(alloc, data)?;
             let parts = vec![in alloc;
                 Some(integer(*checkpoint as i64)),
                 Some(integer(*window as i64)),
-                Some(data_value(alloc, data)?),
+                Some(data),
             ]?;
             chosen(alloc, 1, sequence(parts))
         }
