@@ -108,14 +108,10 @@ impl Heads {
             (heads.invoke id linked code.now octets)) }
     {
         match syntax {
-            Syntax::Ber => self.ber_text(
-                alloc,
-                &values::ber_invoke(alloc, id, linked, code, octets)?,
-            ),
-            Syntax::Der => self.ber_text(
-                alloc,
-                &values::ber_invoke(alloc, id, linked, code, octets)?,
-            ),
+            Syntax::Ber | Syntax::Der => {
+                let head = values::ber_invoke(alloc, id, linked, code, octets)?;
+                self.ber_text(alloc, &head)
+            }
             Syntax::Packed => {
                 let head = values::packed_invoke(alloc, id, linked, code, &octets)?;
                 with_carried(self.packed_text(alloc, &head)?, octets)
@@ -136,8 +132,10 @@ impl Heads {
             (heads.error id code.now octets)) }
     {
         match syntax {
-            Syntax::Ber => self.ber_text(alloc, &values::ber_error(alloc, id, code, octets)?),
-            Syntax::Der => self.ber_text(alloc, &values::ber_error(alloc, id, code, octets)?),
+            Syntax::Ber | Syntax::Der => {
+                let head = values::ber_error(alloc, id, code, octets)?;
+                self.ber_text(alloc, &head)
+            }
             Syntax::Packed => {
                 let head = values::packed_error(alloc, id, code, &octets)?;
                 with_carried(self.packed_text(alloc, &head)?, octets)
@@ -150,8 +148,10 @@ impl Heads {
         ensures { IfOk result (λ text. text ≡ written_head syntax (heads.result id None)) }
     {
         match syntax {
-            Syntax::Ber => self.ber_text(alloc, &values::ber_none(alloc, id)?),
-            Syntax::Der => self.ber_text(alloc, &values::ber_none(alloc, id)?),
+            Syntax::Ber | Syntax::Der => {
+                let head = values::ber_none(alloc, id)?;
+                self.ber_text(alloc, &head)
+            }
             Syntax::Packed => {
                 let head = values::packed_none(alloc, id)?;
                 with_carried(self.packed_text(alloc, &head)?, None)
@@ -172,8 +172,10 @@ impl Heads {
             (heads.result id (Some (record { code = code.now; octets = octets })))) }
     {
         match syntax {
-            Syntax::Ber => self.ber_text(alloc, &values::ber_result(alloc, id, code, octets)?),
-            Syntax::Der => self.ber_text(alloc, &values::ber_result(alloc, id, code, octets)?),
+            Syntax::Ber | Syntax::Der => {
+                let head = values::ber_result(alloc, id, code, octets)?;
+                self.ber_text(alloc, &head)
+            }
             Syntax::Packed => {
                 let head = values::packed_result(alloc, id, code, &octets)?;
                 with_carried(self.packed_text(alloc, &head)?, Some(octets))
@@ -192,8 +194,10 @@ impl Heads {
         ensures { IfOk result (λ text. text ≡ written_head syntax (heads.reject id problem.now)) }
     {
         match syntax {
-            Syntax::Ber => self.ber_text(alloc, &values::reject(alloc, 3, id, problem)?),
-            Syntax::Der => self.ber_text(alloc, &values::reject(alloc, 3, id, problem)?),
+            Syntax::Ber | Syntax::Der => {
+                let head = values::reject(alloc, 3, id, problem)?;
+                self.ber_text(alloc, &head)
+            }
             Syntax::Packed => {
                 let head = values::reject(alloc, 4, id, problem)?;
                 with_carried(self.packed_text(alloc, &head)?, None)
