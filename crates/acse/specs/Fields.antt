@@ -1,11 +1,11 @@
 -- The fields of the APDUs of association control (X.227 9): those that are known, and those that are passed over.
 use Rattle.std.specs.Prelude.{◌≡◌, ℕ, zero, suc, ◌≤◌, Bool, true, false, not, List, [], ◌∷◌, length, Result, Ok, nat_eq, if◌then◌else◌}
-use Rattle.osi_base.specs.declared.words.Kind.TheVariants.{Tag}
+use Rattle.osi_base.specs.declared.layer_words.Kind.TheVariants.{Tag}
 use Rattle.osi_base.specs.declared.acse_word.Acse as apdus
+use Rattle.osi_base.specs.Limits.{most_levels, most_octets}
 use Rattle.asn1_types.specs.declared.row.Class.TheVariants.{Application, Context}
 use Rattle.asn1_types.specs.declared.row.TypeRow.{TypeRow}
 use Rattle.asn1_types.specs.Rows.{same_class}
-use Rattle.asn1_types.specs.Limits.{most_levels, most_octets}
 use Rattle.asn1_types.specs.Value.{Value, chosen}
 use Rattle.ber_spelling.specs.declared.spot.Scope.{Scope}
 use Rattle.asn1_types.specs.declared.row.Tag as tags

@@ -1,7 +1,7 @@
 -- APDUs of association control of known fields alone: none of their fields is passed over (X.227 9).
 use Rattle.std.specs.Prelude.{◌≡◌, ℕ, zero, suc, ◌≤◌, Bool, false, List, [], length}
 use Rattle.osi_base.specs.declared.acse_word.Acse as apdus
-use Rattle.asn1_types.specs.Limits.{most_levels, most_octets}
+use Rattle.osi_base.specs.Limits.{most_levels, most_octets}
 use Rattle.asn1_types.specs.Value.{Value, chosen}
 use Rattle.acse.specs.Words.{said}
 use Rattle.acse.specs.Fields.{request_fields, response_fields, release_fields, abort_fields, FieldsSpelled}

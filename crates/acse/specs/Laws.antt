@@ -1,7 +1,7 @@
 -- The laws of APDUs of association control.
 use Rattle.std.specs.Prelude.{◌≡◌, ◌↔◌, ℕ, ◌<◌, ◌≤◌, List, length, take, Ok, Err}
-use Rattle.osi_base.specs.declared.words.Kind.{Kind}
-use Rattle.osi_base.specs.declared.words.Kind.TheVariants.{Missing}
+use Rattle.osi_base.specs.declared.layer_words.Kind.{Kind}
+use Rattle.osi_base.specs.declared.layer_words.Kind.TheVariants.{Missing}
 use Rattle.osi_base.specs.declared.acse_word.Acse as apdus
 use Rattle.ber_spelling.specs.Octets.{AreOctets}
 use Rattle.fixed_tables.specs.declared.pdu.PduFault.TheVariants as unit

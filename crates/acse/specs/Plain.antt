@@ -1,8 +1,8 @@
 -- The APDUs of association control as values of one table, where no field is passed over (X.227 9).
 use Rattle.std.specs.Prelude.{◌≡◌, ℕ, false, List, Result, Ok, Err}
 use Rattle.osi_base.specs.declared.acse_word.Acse as apdus
+use Rattle.osi_base.specs.Limits.{most_octets}
 use Rattle.asn1_types.specs.Value.{Value}
-use Rattle.asn1_types.specs.Limits.{most_octets}
 use Rattle.ber_spelling.specs.Spelling.{Spells}
 use Rattle.fixed_tables.specs.declared.pdu.PduFault as units
 use Rattle.acse.specs.Rows.{acse_row, acse_rows}

@@ -1,10 +1,14 @@
 -- The APDUs of association control as rows of types (X.227 9), without the fields that are passed over.
 use Rattle.std.specs.Prelude.{ℕ, ℤ, pos, negsuc, true, false, List, [], ◌∷◌, codes}
-use Rattle.osi_base.specs.Limits.{highest_context}
+use Rattle.osi_base.specs.Limits.{highest_context, most_signed}
 use Rattle.asn1_types.specs.declared.row.Class.TheVariants.{Universal, Application}
 use Rattle.asn1_types.specs.declared.row.TypeRow.{TypeRow}
 use Rattle.asn1_types.specs.declared.row.TypeRow.TheVariants.{Integer, BitString, ObjectId, Sequence, SequenceOf, Choice, Tagged, Any}
 use Rattle.fixed_tables.specs.Rows.{part, implicit, explicit}
+
+-- how many rows the table has
+abbrev pub row_count : ℕ
+row_count = 31
 
 -- the row of all APDUs
 abbrev pub acse_row : ℕ
@@ -18,7 +22,7 @@ acse_rows =
     ∷ ObjectId
     ∷ BitString
     ∷ Any
-    ∷ Integer (negsuc 9223372036854775807) (pos 9223372036854775807)
+    ∷ Integer (negsuc most_signed) (pos most_signed)
     -- 5, 6: a result, a source of an abort
     ∷ Integer (pos 0) (pos 2)
     ∷ Integer (pos 0) (pos 1)

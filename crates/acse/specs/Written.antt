@@ -7,12 +7,11 @@ use Rattle.osi_base.specs.declared.acse_word.Diagnostic as diagnostics
 use Rattle.osi_base.specs.declared.acse_word.Diagnostic.TheVariants as diagnostic
 use Rattle.osi_base.specs.declared.acse_word.Acse as apdus
 use Rattle.osi_base.specs.declared.acse_word.Acse.TheVariants as apdu
-use Rattle.osi_base.specs.Limits.{highest_context}
+use Rattle.osi_base.specs.Limits.{highest_context, most_octets}
 use Rattle.asn1_types.specs.Fits.{is_number, bits_fit, object_id_fits}
 use Rattle.asn1_types.specs.Value.{bits, object_id}
 use Rattle.asn1_types.specs.Whole.{is_whole}
 use Rattle.asn1_types.specs.Writing.{written}
-use Rattle.asn1_types.specs.Limits.{most_octets}
 use Rattle.acse.specs.Rows.{acse_row, acse_rows}
 use Rattle.acse.specs.Words.{value_of}
 

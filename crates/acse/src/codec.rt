@@ -1,14 +1,14 @@
 //! APDUs of association control read and written.
 
 ghost use Rattle.std.specs.Prelude.{◌≡◌, IfOk};
-ghost use Rattle.asn1_types.specs.Limits.{most_octets};
+ghost use Rattle.osi_base.specs.Limits.{most_octets};
 ghost use Rattle.fixed_tables.specs.Whole.{GivesWhole, of_whole};
 ghost use Rattle.passed_fields.specs.Front.{all_at};
 ghost use Rattle.acse.specs.Rows.{acse_rows};
 ghost use Rattle.acse.specs.Fields.{any_apdu_at, acse_at};
 ghost use Rattle.acse.specs.Written.{written_acse};
 
-use crate::read::front;
+use crate::reading::front;
 use crate::table::{APDU, AcseTable};
 use crate::words::{said, value_of};
 use asn1_types::{TypeTable, Val};

@@ -3,7 +3,7 @@
 
 mod codec;
 mod laws;
-mod read;
+mod reading;
 mod table;
 mod words;
 

@@ -8,8 +8,9 @@ ghost use Rattle.acse.specs.Words.{external_in, user_in, diagnostic_in, request_
 
 use asn1_types::Val;
 use fixed_tables::{
-    InValue, alternative, any, bits, chosen, inside, integer, list_in, list_of, maybe_bits, number,
-    object_id, octet, octets_in, oid_in, part_in, reason_in, reason_value, sequence, small,
+    InValue, alternative, any, bits, chosen, chosen_in, integer, list_in, list_of, maybe_bits,
+    number_or, object_id, octet_or, octets_in, oid_in, part_in, reason_in, reason_value, sequence,
+    small_number_or,
 };
 use osi_base::{Acse, BitString, Diagnostic, External, Externals, NoMemory};
 use std::alloc::Global;
@@ -26,7 +27,7 @@ impl InValue for ExternalItems {
 
     fn item(alloc: Global, value: &Val) -> Result<External, NoMemory> {
         Ok(External {
-            id: small(part_in(0, Some(value)), 0),
+            id: small_number_or(part_in(0, Some(value)), 0),
             value: octets_in(alloc, part_in(1, Some(value)))?,
         })
     }
@@ -49,7 +50,7 @@ fn user_in(alloc: Global, value: Option<&Val>) -> Result<Externals, NoMemory>
 fn diagnostic_in(value: Option<&Val>) -> Diagnostic
     ensures { result ≡ diagnostic_in (option_copied value.entry) }
 {
-    let inner = number(inside(value), 0);
+    let inner = number_or(chosen_in(value), 0);
     if alternative(value) == 0 {
         Diagnostic::User(inner)
     } else {
@@ -72,7 +73,7 @@ fn response_in(alloc: Global, value: Option<&Val>) -> Result<Acse, NoMemory>
 {
     Ok(Acse::AssociateResponse {
         context: oid_in(alloc, part_in(0, value))?,
-        result: octet(part_in(1, value), 0),
+        result: octet_or(part_in(1, value), 0),
         diagnostic: diagnostic_in(part_in(2, value)),
         user: user_in(alloc, part_in(3, value))?,
     })
@@ -82,7 +83,7 @@ fn response_in(alloc: Global, value: Option<&Val>) -> Result<Acse, NoMemory>
 pub(crate) fn said(alloc: Global, value: &Val) -> Result<Acse, NoMemory>
     ensures { IfOk result (λ x. x ≡ said value.now) }
 {
-    let inner = inside(Some(value));
+    let inner = chosen_in(Some(value));
     match alternative(Some(value)) {
         0 => request_in(alloc, inner),
         1 => response_in(alloc, inner),
@@ -93,7 +94,7 @@ pub(crate) fn said(alloc: Global, value: &Val) -> Result<Acse, NoMemory>
             reason: reason_in(inner),
         }),
         _ => Ok(Acse::Abort {
-            source: octet(part_in(0, inner), 0),
+            source: octet_or(part_in(0, inner), 0),
             user: user_in(alloc, part_in(1, inner))?,
         }),
     }

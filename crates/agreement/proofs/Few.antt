@@ -1,7 +1,8 @@
 -- An end has at most four unanswered alterations, which name each identifier once: what one end keeps.
 use Rattle.std.proofs.Common.{◌≡◌, suc, ◌<◌, ◌≤◌, length, true, false, List, [], ◌∷◌, ◌++◌, refl, sym, ap, arith, subst}
 use Rattle.std.specs.Prelude.{Option, Some, None}
-use Rattle.agreement.specs.Sets.{Role, Item, AreDistinct, named, most_alterations}
+use Rattle.osi_base.specs.Limits.{most_alterations}
+use Rattle.agreement.specs.Sets.{Role, Item, AreDistinct, named}
 use Rattle.agreement.specs.Sets.Role.{Initiator, Responder}
 use Rattle.agreement.specs.Messages.{Value, Mode, Setup, Message, Act, Choice}
 use Rattle.agreement.specs.Messages.Mode.{Bare, Direct, Reliable}

@@ -1,6 +1,7 @@
 -- What an end may do of itself, what it sends then, and its state afterwards (X.225 7, X.226 6, X.228 8).
 use Rattle.std.specs.Prelude.{◌≡◌, ℕ, suc, zero, ◌<◌, ◌≤◌, true, false, ◌++◌, length, List, [], ◌∷◌, Option, Some, None}
-use Rattle.agreement.specs.Sets.{Pair, Role, ContextSet, AllMayAsk, AreDistinct, named, most_alterations, some_deletes, lookup, listed, below, newest, next_number}
+use Rattle.osi_base.specs.Limits.{most_alterations}
+use Rattle.agreement.specs.Sets.{Pair, Role, ContextSet, AllMayAsk, AreDistinct, named, some_deletes, lookup, listed, below, newest, next_number}
 use Rattle.agreement.specs.Sets.Role.{Initiator}
 use Rattle.agreement.specs.Messages.{Value, Mode, Setup, Codec, Message, Act}
 use Rattle.agreement.specs.Messages.Mode.{Bare, Direct, Reliable}

@@ -1,6 +1,7 @@
 -- The laws of two ends, over every world that they can reach.
 use Rattle.std.specs.Prelude.{◌≡◌, ℕ, suc, ◌<◌, ◌≤◌, nat_eq, length, true, false, if◌then◌else◌, ◌⊎◌, ◌++◌, List, [], ◌∷◌, Option, Some, None}
-use Rattle.agreement.specs.Sets.{Pair, Role, ContextSet, IsKnownSet, other, lookup, AreDistinct, is_among, identifiers, named, most_alterations}
+use Rattle.osi_base.specs.Limits.{most_alterations}
+use Rattle.agreement.specs.Sets.{Pair, Role, ContextSet, IsKnownSet, other, lookup, AreDistinct, is_among, identifiers, named}
 use Rattle.agreement.specs.Sets.Role.{Initiator, Responder}
 use Rattle.agreement.specs.Messages.{Apdu, Invocation, Calls, Value, Setup, Message, Choice}
 use Rattle.agreement.specs.Messages.Message.{Accept, Connect, End}

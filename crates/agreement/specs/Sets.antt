@@ -145,10 +145,6 @@ abbrev pub named : List (List Item) → List ℕ
 named [] = []
 named (items ∷ rest) = identifiers items ++ named rest
 
--- an end has at most so many unanswered alterations (this project's own limit)
-abbrev pub most_alterations : ℕ
-most_alterations = 4
-
 -- what an end may ask for over its set: to add what is absent, under its own parity; to delete what
 -- is there and not in use
 abbrev pub MayAsk : Role → ContextSet → List ℕ → Item → Type 0

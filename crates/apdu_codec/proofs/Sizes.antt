@@ -7,9 +7,10 @@ use Rattle.std.specs.List.{flat_map}
 use Rattle.std.specs.Int.{bytes_high_first}
 use Rattle.osi_base.specs.declared.syntax.Syntax.{Syntax}
 use Rattle.osi_base.specs.declared.syntax.Syntax.TheVariants as syntax
-use Rattle.osi_base.specs.declared.words.Problem.{Problem}
-use Rattle.osi_base.specs.declared.words.ProblemKind.{ProblemKind}
-use Rattle.osi_base.specs.declared.words.ProblemKind.TheVariants as kinds
+use Rattle.osi_base.specs.declared.layer_words.Problem.{Problem}
+use Rattle.osi_base.specs.declared.layer_words.ProblemKind.{ProblemKind}
+use Rattle.osi_base.specs.declared.layer_words.ProblemKind.TheVariants as kinds
+use Rattle.osi_base.specs.Limits.{most_octets}
 use Rattle.asn1_types.specs.declared.row.Tag as tags
 use Rattle.asn1_types.specs.declared.row.Part.{Part}
 use Rattle.asn1_types.specs.declared.row.TypeId.{TypeId}
@@ -35,7 +36,6 @@ use Rattle.stub_tables.specs.declared.apdu.Returned.{Returned}
 use Rattle.stub_tables.specs.Apdus.{argument_of, result_of, parameter_of, operation_coded, error_coded}
 use Rattle.apdu_spelling.specs.Heads.{Outcome, invoke, result, error, reject, or_none, carried}
 use Rattle.apdu_spelling.specs.Rows.{part, optional_part, any_row, linked_row, code_row, mark_row, returned_row, head_rows, apdu_row, packed_apdu_row, reject_parts, invoke_parts, returned_parts, result_parts, error_parts}
-use Rattle.asn1_types.specs.Limits.{most_octets}
 use Rattle.apdu_spelling.specs.Values.{code_value, linked_part, rejected_value, kind_place, problem_value, any_part, returned_part, ber_value, mark_part, packed_value}
 use Rattle.apdu_spelling.specs.Writing.{written_typed, written_carried, written_head, outcome_of, head_of, written_apdu}
 use Rattle.apdu_spelling.proofs.HeadsSound.{heads_sound}

@@ -3,6 +3,7 @@ use Rattle.std.specs.Prelude.{ℕ, suc, ◌+◌, ℤ, Bool, ◌||◌, List, Opti
 use Rattle.std.specs.List.{flat_map}
 use Rattle.osi_base.specs.declared.syntax.Syntax.{Syntax}
 use Rattle.osi_base.specs.declared.syntax.Syntax.TheVariants.{Ber, Der, Packed}
+use Rattle.osi_base.specs.Limits.{most_octets}
 use Rattle.asn1_types.specs.Writing.{base_128, integer_octets, subidentifiers, length_octets}
 use Rattle.packed_codec.specs.Numbers as packed_numbers
 use Rattle.packed_codec.specs.ObjectIds as packed_ids
@@ -10,7 +11,6 @@ use Rattle.stub_tables.specs.declared.tables.Tables.{Tables}
 use Rattle.stub_tables.specs.declared.apdu.Apdu.{Apdu}
 use Rattle.stub_tables.specs.declared.operation.Code.{Code}
 use Rattle.stub_tables.specs.declared.operation.Code.TheVariants.{Local, Global}
-use Rattle.asn1_types.specs.Limits.{most_octets}
 use Rattle.apdu_spelling.specs.Writing.{written_apdu}
 
 -- identifier of one octet, length and contents

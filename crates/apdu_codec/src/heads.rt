@@ -5,7 +5,7 @@ ghost use Rattle.apdu_spelling.specs.Rows as table;
 ghost use Rattle.apdu_spelling.specs.Rows.{head_rows};
 
 use asn1_types::{Parts, TypeId, TypeRow, TypeTable};
-use fixed_tables::{behind, implicit, part, table_of};
+use fixed_tables::{implicit, joined_rows, part, table_of};
 use osi_base::{ListOf, NoMemory};
 use std::alloc::Global;
 use std::marker::Model;
@@ -228,8 +228,8 @@ fn packed_rows(alloc: Global) -> Result<Vec<TypeRow>, NoMemory>
 fn all_rows(alloc: Global) -> Result<Vec<TypeRow>, NoMemory>
     ensures { IfOk result (λ rows. rows.items ≡ head_rows) }
 {
-    let ber = behind(common_rows(alloc)?, ber_rows(alloc)?)?;
-    behind(ber, packed_rows(alloc)?)
+    let ber = joined_rows(common_rows(alloc)?, ber_rows(alloc)?)?;
+    joined_rows(ber, packed_rows(alloc)?)
 }
 
 impl Heads {

@@ -285,11 +285,18 @@ fn is_too_long_in(syntax: Syntax, tables: &Tables, used: Option<Use>, apdu: &Apd
 /// Whether an APDU whose value is used so has more than 262,144 octets in one of the three
 /// syntaxes. BER and DER have one spelling.
 #[tactic(auto, using(crate::proofs::Sizes::too_long))]
-pub fn is_too_long(tables: &Tables, used: Option<Use>, apdu: &Apdu) -> bool
+pub fn is_too_long_with(tables: &Tables, used: Option<Use>, apdu: &Apdu) -> bool
     requires { used ≡ use_in tables.now apdu.now }
     ensures { result ≡ is_too_long tables.now apdu.now }
 {
     let ber = is_too_long_in(Syntax::Ber, tables, used, apdu);
     let packed = is_too_long_in(Syntax::Packed, tables, used, apdu);
     ber || packed
+}
+
+/// Whether an APDU has more than 262,144 octets in one of the three syntaxes.
+pub fn is_too_long(tables: &Tables, apdu: &Apdu) -> bool
+    ensures { result ≡ is_too_long tables.now apdu.now }
+{
+    is_too_long_with(tables, tables.use_in(apdu), apdu)
 }

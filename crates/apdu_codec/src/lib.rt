@@ -16,6 +16,6 @@ pub use apdu_spelling::{ApduHead, ApduKind};
 pub use fault::HeadFault;
 pub use heads::Heads;
 pub use laws::written_apdu_is_read;
-pub use lengths::{apdu_len, is_too_long};
+pub use lengths::{apdu_len, is_too_long, is_too_long_with};
 pub use reading::read_apdu;
 pub use writing::write_apdu;

@@ -2,7 +2,7 @@
 
 ghost use Rattle.std.specs.Prelude.{◌≡◌, ◌≤◌, ◌-◌, ℕ, IfOk, Ok, Err, length, true, false};
 ghost use Rattle.osi_base.specs.declared.syntax.Syntax.TheVariants as syntaxes;
-ghost use Rattle.asn1_types.specs.Limits.{most_octets};
+ghost use Rattle.osi_base.specs.Limits.{most_octets};
 ghost use Rattle.apdu_spelling.specs.Rows.{head_rows};
 ghost use Rattle.apdu_codec.specs.Refusals.{opens, opens_reject, number_of_kind, ber_told, packed_told, refusal_of, problem_number};
 ghost use Rattle.apdu_codec.specs.HeadsRead.{IsTried, IsHeadRead, HasNone};

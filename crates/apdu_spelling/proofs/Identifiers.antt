@@ -5,8 +5,8 @@ use Rattle.std.proofs.lemmas.Bool.{and_parts}
 use Rattle.std.proofs.lemmas.Bool.Decides.{nat_tests}
 use Rattle.osi_base.specs.declared.syntax.Syntax.{Syntax}
 use Rattle.osi_base.specs.declared.syntax.Syntax.TheVariants.{Ber, Der, Packed}
-use Rattle.osi_base.specs.declared.words.ProblemKind.{ProblemKind}
-use Rattle.osi_base.specs.declared.words.ProblemKind.TheVariants as kinds
+use Rattle.osi_base.specs.declared.layer_words.ProblemKind.{ProblemKind}
+use Rattle.osi_base.specs.declared.layer_words.ProblemKind.TheVariants as kinds
 use Rattle.asn1_types.specs.Value.{integer}
 use Rattle.asn1_types.specs.Fits.{integer_fits, has_form}
 use Rattle.ber_spelling.specs.Octets.{AreOctets}

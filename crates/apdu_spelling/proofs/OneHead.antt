@@ -3,9 +3,9 @@ use Rattle.std.proofs.Common.{◌≡◌, ℕ, ◌≤◌, ℤ, true, false, List,
 use Rattle.std.proofs.lemmas.List.{append_cancel_left}
 use Rattle.osi_base.specs.declared.syntax.Syntax.{Syntax}
 use Rattle.osi_base.specs.declared.syntax.Syntax.TheVariants as syntax
-use Rattle.osi_base.specs.declared.words.Problem.{Problem}
-use Rattle.osi_base.specs.declared.words.ProblemKind.{ProblemKind}
-use Rattle.osi_base.specs.declared.words.ProblemKind.TheVariants as kinds
+use Rattle.osi_base.specs.declared.layer_words.Problem.{Problem}
+use Rattle.osi_base.specs.declared.layer_words.ProblemKind.{ProblemKind}
+use Rattle.osi_base.specs.declared.layer_words.ProblemKind.TheVariants as kinds
 use Rattle.asn1_types.specs.declared.value.Val.{Val}
 use Rattle.asn1_types.specs.declared.row.TypeId.{TypeId}
 use Rattle.asn1_types.specs.Value.{Value, present}

@@ -7,6 +7,7 @@ use Rattle.std.proofs.lemmas.Bool.{eqb-true, and_parts}
 use Rattle.std.proofs.lemmas.Bool.Decides.{Decides-int_eq, nat_tests}
 use Rattle.osi_base.specs.declared.syntax.Syntax.{Syntax}
 use Rattle.osi_base.specs.declared.syntax.Syntax.TheVariants as syntax
+use Rattle.osi_base.specs.Limits.{most_items}
 use Rattle.asn1_types.specs.declared.value.Val.{Val}
 use Rattle.asn1_types.specs.declared.table.TypeTable.{TypeTable}
 use Rattle.asn1_types.specs.declared.row.Class.TheVariants.{Universal, Context}
@@ -23,7 +24,6 @@ use Rattle.ber_spelling.proofs.Written.{written_spelled as value_spelled}
 use Rattle.ber_spelling.proofs.Wholes.{whole_is}
 use Rattle.ber_spelling.proofs.WholeSpelled.{written_whole as value_whole}
 use Rattle.asn1_types.proofs.FitLaws.{fits_has_form}
-use Rattle.asn1_types.specs.Limits.{most_items}
 use Rattle.packed_codec.specs.Writing.{packed, items}
 use Rattle.packed_codec.specs.Laws.{packs}
 use Rattle.stub_tables.specs.declared.tables.Tables.{Tables}

@@ -1,8 +1,8 @@
 -- Heads of APDUs of remote operations (X.880 9, X.882 9): all but the value that an operation or an error carries,
 -- which stands in them as its octets.
 use Rattle.std.specs.Prelude.{ℕ, ℤ, List, [], Option, Some, None}
-use Rattle.osi_base.specs.declared.words.Problem.{Problem}
-use Rattle.asn1_types.specs.Limits.{most_octets}
+use Rattle.osi_base.specs.declared.layer_words.Problem.{Problem}
+use Rattle.osi_base.specs.Limits.{most_octets}
 use Rattle.stub_tables.specs.declared.operation.Code.{Code}
 use Rattle.apdu_spelling.specs.declared.head.ApduHead.{ApduHead}
 use Rattle.apdu_spelling.specs.declared.head.ApduKind.TheVariants as kind

@@ -2,7 +2,7 @@
 -- any type, the last of its SEQUENCE (X.882 9). In the packed syntax it stands behind the head, which ends with a mark
 -- where it may lack.
 use Rattle.std.specs.Prelude.{ℕ, ◌+◌, pos, negsuc, true, false, List, [], ◌∷◌, None, codes}
-use Rattle.osi_base.specs.Limits.{last_invocation}
+use Rattle.osi_base.specs.Limits.{last_invocation, most_signed}
 use Rattle.asn1_types.specs.declared.row.Part.{Part}
 use Rattle.asn1_types.specs.declared.row.Class.TheVariants.{Context}
 use Rattle.asn1_types.specs.declared.row.TypeRow.{TypeRow}
@@ -163,7 +163,7 @@ abbrev pub head_rows : List TypeRow
 head_rows =
     -- identifiers have 32 bits
     Integer (negsuc last_invocation) (pos last_invocation)
-    ∷ Integer (negsuc 9223372036854775807) (pos 9223372036854775807)
+    ∷ Integer (negsuc most_signed) (pos most_signed)
     ∷ ObjectId
     ∷ Choice code_kinds
     ∷ Null

@@ -3,10 +3,10 @@ use Rattle.std.specs.Prelude.{◌≡◌, ℕ, ◌-◌, ℤ, true, false, List, �
 use Rattle.std.specs.Option.{option_map}
 use Rattle.osi_base.specs.declared.syntax.Syntax.{Syntax}
 use Rattle.osi_base.specs.declared.syntax.Syntax.TheVariants as syntax
+use Rattle.osi_base.specs.Limits.{most_octets}
 use Rattle.asn1_types.specs.declared.value.Val.{Val}
 use Rattle.asn1_types.specs.declared.table.TypeTable.{TypeTable}
 use Rattle.asn1_types.specs.declared.row.TypeId.{TypeId}
-use Rattle.asn1_types.specs.Limits.{most_octets}
 use Rattle.ber_spelling.specs.Spelling as ber
 use Rattle.packed_codec.specs.Laws.{Packed}
 use Rattle.packed_codec.specs.Writing.{packed}

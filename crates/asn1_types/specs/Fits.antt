@@ -3,6 +3,7 @@ use Rattle.std.specs.Prelude.{ℕ, ◌-◌, ◌%◌, ◌^◌, ℤ, pos, negsuc, 
 use Rattle.std.specs.List.{list_all}
 use Rattle.std.specs.Str.{is_utf8}
 use Rattle.osi_base.specs.Oid.{is_oid}
+use Rattle.osi_base.specs.Limits.{number_bits, most_spelled}
 use Rattle.asn1_types.specs.declared.row.Item.{Item}
 use Rattle.asn1_types.specs.declared.row.Part.{Part}
 use Rattle.asn1_types.specs.declared.row.TextKind.{TextKind}
@@ -10,7 +11,6 @@ use Rattle.asn1_types.specs.declared.row.TextKind.TheVariants.{Utf8, Ia5, Visibl
 use Rattle.asn1_types.specs.declared.row.TypeRow.{TypeRow}
 use Rattle.asn1_types.specs.declared.row.TypeRow.TheVariants as row
 use Rattle.asn1_types.specs.Value.{Value, boolean, integer, null, octets, bits, object_id, text, parts, list, chosen, any, MaybeValues, no_parts, absent, present, Values, no_values, value}
-use Rattle.asn1_types.specs.Limits.{number_bits, most_spelled}
 use Rattle.asn1_types.specs.Rows.{along}
 use Rattle.asn1_types.specs.Defaults.{is_item, may_be_absent, is_default}
 use Rattle.asn1_types.specs.Whole.{is_whole}

@@ -1,4 +1,3 @@
-pub mod Limits
 pub mod Printed
 pub mod Value
 pub mod ValueCode

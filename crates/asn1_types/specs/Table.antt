@@ -1,6 +1,7 @@
 -- Sound tables: which rows may be added to a table, and what is wrong with those that may not.
 use Rattle.std.specs.Prelude.{◌≡◌, ℕ, ◌^◌, ◌<◌, Bool, true, false, ◌||◌, ◌&&◌, List, [], ◌∷◌, length, take, Option, Some, None, slice_get, nat_eq, nat_lt, int_lt, if◌then◌else◌}
 use Rattle.std.specs.List.{list_any}
+use Rattle.osi_base.specs.Limits.{most_levels, most_alternatives}
 use Rattle.asn1_types.specs.declared.row.Part.{Part}
 use Rattle.asn1_types.specs.declared.row.Item.{Item}
 use Rattle.asn1_types.specs.declared.row.TypeRow.{TypeRow}
@@ -8,7 +9,6 @@ use Rattle.asn1_types.specs.declared.row.TypeRow.TheVariants.{Integer, Enumerate
 use Rattle.asn1_types.specs.declared.refusal.RowRefusal.{RowRefusal}
 use Rattle.asn1_types.specs.declared.refusal.RowRefusal.TheVariants.{NoSuchRow, BadRange, DoubleName, TooNested, TagsNotDistinct, BadDefault, NoMemory}
 use Rattle.asn1_types.specs.Rows.{Opening, names_of, nesting, nesting_by, openings, meets, is_no_tag}
-use Rattle.asn1_types.specs.Limits.{most_levels}
 use Rattle.asn1_types.specs.Defaults.{same_number, may_be_absent, takes_default, has_bad_default}
 
 -- the first row that is named and isn't there
@@ -20,7 +20,7 @@ first_from count (n ∷ ns) = if nat_lt n count then first_from count ns else So
 abbrev pub is_bad_range : TypeRow → Bool
 is_bad_range (Integer low high) = int_lt high low
 is_bad_range (Enumerated items) = nat_eq (length items) 0
-is_bad_range (Choice parts) = nat_eq (length parts) 0 || nat_lt 256 (length parts)
+is_bad_range (Choice parts) = nat_eq (length parts) 0 || nat_lt most_alternatives (length parts)
 is_bad_range (Tagged class number explicit inner) = is_no_tag class number
 is_bad_range row = false
 

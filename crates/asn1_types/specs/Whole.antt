@@ -1,7 +1,7 @@
 -- One whole value of any type, as octets (X.690 8.1): an identifier, a definite length and that many octets, or an
 -- indefinite length, whole values and end-of-contents.
 use Rattle.std.specs.Prelude.{ℕ, zero, suc, ◌-◌, ◌*◌, ◌+◌, ◌/◌, ◌%◌, Bool, true, false, ◌&&◌, ◌||◌, Option, Some, None, option_and_then, List, [], ◌∷◌, length, take, drop, nat_lt, nat_le, nat_eq, if◌then◌else◌}
-use Rattle.asn1_types.specs.Limits.{most_levels}
+use Rattle.osi_base.specs.Limits.{most_levels}
 
 -- the number that octets are, the most significant first
 abbrev pub number_256 : ℕ → List ℕ → ℕ

@@ -2,7 +2,6 @@
 //! tables of types, which values fit, and what stands behind one whole value.
 #![tactic(auto)]
 
-mod check;
 mod clash;
 mod defaults;
 mod nesting;
@@ -10,6 +9,7 @@ mod numbered;
 mod opening;
 mod refusal;
 mod row;
+mod row_by_itself;
 mod table;
 mod text;
 mod value;

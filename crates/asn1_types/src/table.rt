@@ -1,16 +1,16 @@
-//! Tables of types.
+//! Tables of types: a row is added behind those that it names, or refused.
 
 ghost use Rattle.std.specs.Prelude.{◌≡◌, ◌<◌, ◌↔◌, ◌++◌, ◌∷◌, [], length, Some, None, slice_get, IsTrue, IfOk, IfErr, OnErr, MatchResult};
 ghost use Rattle.std.specs.List.{AllByRecursion};
 ghost use Rattle.asn1_types.specs.Rows.{names_of, nesting_by, nesting};
 ghost use Rattle.asn1_types.specs.Table.{HasShortTag, AreSoundRows, first_from, refusal_after, refusal, IsRefused};
 
-use crate::check::{is_bad_range, is_double_name};
 use crate::clash::has_clash;
 use crate::defaults::has_bad_default;
 use crate::nesting::{first_missing, nesting_of};
 use crate::refusal::RowRefusal;
 use crate::row::{TypeId, TypeRow};
+use crate::row_by_itself::{is_bad_range, is_double_name};
 use std::alloc::Global;
 use std::marker::Model;
 

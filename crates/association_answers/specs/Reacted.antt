@@ -1,6 +1,6 @@
 -- What a message leads to in code, as the rules of one end have it.
 use Rattle.std.specs.Prelude.{◌≡◌, List, map}
-use Rattle.osi_base.specs.declared.words.SetItem.{SetItem}
+use Rattle.osi_base.specs.declared.layer_words.SetItem.{SetItem}
 use Rattle.dialogue.specs.declared.indication.Indication.{Indication}
 use Rattle.end_rules.specs.Base as base
 use Rattle.end_rules.specs.Messages as meant

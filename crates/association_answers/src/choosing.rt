@@ -1,17 +1,17 @@
 //! How an end answers alterations (X.226 6.2.3, 6.3.3; the policy is this project's own).
 
 ghost use Rattle.std.specs.Prelude.{◌≡◌, ◌≤◌, ◌+◌, min, length, IfOk, map};
+ghost use Rattle.osi_base.specs.Limits.{most_contexts};
 ghost use Rattle.end_rules.specs.Sets.{count_added};
 ghost use Rattle.end_rules.specs.Altering.{used};
 ghost use Rattle.end_rules.specs.Policy.{answer_to_deletion, policy};
-ghost use Rattle.end_rules.specs.Base.{most_contexts};
 ghost use Rattle.association_state.specs.Seen.{base_in, seen};
 
 use association_calls::contexts_in_use;
 use association_ground::is_among;
-use association_sets::{Alteration, count_added, is_fixed, pair_of};
+use association_sets::{Alteration, count_added, is_fixed};
 use association_state::{Body, Ground};
-use osi_base::{Answers, NoMemory, Octets};
+use osi_base::{Answers, NoMemory, Octets, pair_of};
 use set_rules::answers_to_additions;
 use std::alloc::Global;
 
@@ -58,7 +58,11 @@ fn contexts_counted(body: &Body) -> usize
 
 /// The answers to a peer's alteration; the own additions that aren't answered count too.
 #[tactic(auto, using(crate::proofs::Counted::capped))]
-pub fn policy(basis: &Ground<'_>, body: &Body, asked: &Alteration) -> Result<Answers, NoMemory>
+pub fn alteration_answers(
+    basis: &Ground<'_>,
+    body: &Body,
+    asked: &Alteration,
+) -> Result<Answers, NoMemory>
     ensures { IfOk result (λ answers. answers ≡ policy (base_in basis.now) (seen body.now)
         asked.now) }
 {

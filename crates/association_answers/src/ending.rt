@@ -68,7 +68,7 @@ fn shown_at(
 
 /// Ends the association for a fault by an own abort, which goes on these contexts. What the fault
 /// tells is shown first, and is no longer in the fault that is answered.
-pub fn fails(
+pub fn fail_association(
     basis: &Ground<'_>,
     body: &mut Body,
     accepted: &[SetItem],

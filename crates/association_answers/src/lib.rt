@@ -8,8 +8,8 @@ mod ending;
 mod telling;
 
 pub use brought::{Brought, Messages, Reaction, one_message};
-pub use choosing::policy;
-pub use ending::{end_association, fails};
+pub use choosing::alteration_answers;
+pub use ending::{end_association, fail_association};
 pub use telling::{
     one_indication, push_cuts, push_losses, with_answer, with_indication, with_nothing,
 };

@@ -1,11 +1,11 @@
 -- Room and numbers for one more invocation.
 use Rattle.std.specs.Prelude.{◌≡◌, ◌<◌, length, not, ◌&&◌, nat_le, true, false, Option, Some, None, Ok, Err, if◌then◌else◌}
-use Rattle.osi_base.specs.Limits.{last_invocation}
+use Rattle.osi_base.specs.Limits.{last_invocation, most_open}
 use Rattle.stub_tables.specs.declared.operation.Operation.{Operation}
 use Rattle.stub_tables.specs.Codes.{is_silent}
 use Rattle.dialogue.specs.declared.call.CallRefusal.{CallRefusal}
 use Rattle.dialogue.specs.declared.call.CallRefusal.TheVariants as refusals
-use Rattle.end_rules.specs.Base.{Base, most_open}
+use Rattle.end_rules.specs.Base.{Base}
 use Rattle.end_rules.specs.State.{Body, opens_of}
 use Rattle.end_rules.specs.Invoking.{Reply, next_id, is_queue_full}
 

@@ -10,11 +10,11 @@ use crate::in_use::contexts_in_use;
 use crate::transfers::is_ending;
 use association_ground::{is_among, is_reliable};
 use association_sets::{
-    Alteration, count_added, has_parity, is_bad, is_fixed, is_named_in, pair_of,
+    Alteration, count_added, has_parity, is_bad_alteration, is_fixed, is_named_in,
 };
 use association_state::{Body, Ground};
 use dialogue::CallRefusal;
-use osi_base::{NoMemory, Proposal};
+use osi_base::{NoMemory, Proposal, pair_of};
 
 /// Why one addition is refused.
 fn addition_refusal(basis: &Ground<'_>, body: &Body, id: u32) -> Option<CallRefusal>
@@ -129,7 +129,7 @@ pub fn can_alter(basis: &Ground<'_>, body: &Body, asked: &Alteration) -> Reply
     if body.sets.own.len() >= 4 {
         return Err(CallRefusal::AlterPending);
     }
-    if is_bad(basis.alloc, asked)? {
+    if is_bad_alteration(basis.alloc, asked)? {
         return Err(CallRefusal::BadProposal);
     }
     match alteration_refusal(basis, body, asked)? {

@@ -10,12 +10,13 @@ ghost use Rattle.association_state.specs.Seen.{base_in, seen};
 ghost use Rattle.association_calls.specs.Replies.{IsChecked, IsRefusal};
 ghost use Rattle.association_calls.specs.Rooms.{HasRoom, IsRoomy};
 
-use apdu_codec::is_too_long;
+use apdu_codec::is_too_long_with;
 use asn1_types::Val;
 use association_ground::{is_direct, is_reliable};
-use association_sets::{has_abstract, is_deleted_in, pair_of};
+use association_sets::{has_abstract, is_deleted_in};
 use association_state::{Body, Ground};
 use dialogue::CallRefusal;
+use osi_base::pair_of;
 use rose_roles::{invoke_apdu, is_linked_to};
 use stub_tables::{Apdu, Operation};
 
@@ -125,7 +126,7 @@ fn check_send(
     }
     let apdu = invoke_apdu(basis.alloc, operation, next_id(body), linked, argument)?;
     let used = basis.tables.use_in(&apdu);
-    if is_too_long(basis.tables, used, &apdu) {
+    if is_too_long_with(basis.tables, used, &apdu) {
         return Err(CallRefusal::TooLong);
     }
     match room_refusal(basis, body, operation) {

@@ -12,7 +12,7 @@ ghost use Rattle.association_calls.specs.Replies.{IsChecked};
 ghost use Rattle.association_calls.specs.Outcomes.{can_send_on};
 
 use crate::invoking::{is_queue_full, is_stopped};
-use apdu_codec::is_too_long;
+use apdu_codec::is_too_long_with;
 use asn1_types::Val;
 use association_ground::is_direct;
 use association_sets::carrier;
@@ -54,7 +54,7 @@ fn check_outcome(
         return Err(CallRefusal::NoContext);
     }
     let used = basis.tables.use_in(&apdu);
-    if is_too_long(basis.tables, used, &apdu) {
+    if is_too_long_with(basis.tables, used, &apdu) {
         return Err(CallRefusal::TooLong);
     }
     if is_queue_full(basis, body) {

@@ -1,6 +1,6 @@
 -- What may not stand in an AC, step by step.
 use Rattle.std.specs.Prelude.{List, Option, None, not, ◌&&◌, ◌||◌, if◌then◌else◌}
-use Rattle.osi_base.specs.declared.words.SetItem.{SetItem}
+use Rattle.osi_base.specs.declared.layer_words.SetItem.{SetItem}
 use Rattle.end_rules.specs.Base.{Base, Fault, is_reliable}
 use Rattle.end_rules.specs.Messages.{DataValue}
 use Rattle.end_rules.specs.Faults.{invalid_ppdu, acse_fault, rtse_fault, fault_if, or_fault}

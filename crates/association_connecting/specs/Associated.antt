@@ -1,6 +1,6 @@
 -- The one value of association control, and the first of its user information.
 use Rattle.std.specs.Prelude.{List, [], ◌∷◌, Bool, not, Option, Some, None}
-use Rattle.osi_base.specs.declared.words.SetItem.{SetItem}
+use Rattle.osi_base.specs.declared.layer_words.SetItem.{SetItem}
 use Rattle.end_rules.specs.Base as base
 use Rattle.end_rules.specs.Messages as meant
 use Rattle.end_rules.specs.Faults.{invalid_ppdu, rtse_fault, fault_if, or_fault}

@@ -1,7 +1,7 @@
 -- What a run of two ends comes to.
 use Rattle.std.specs.Prelude.{◌≡◌, List}
-use Rattle.osi_base.specs.declared.words.Side.{Side}
-use Rattle.osi_base.specs.declared.words.Side.TheVariants.{A, B}
+use Rattle.osi_base.specs.declared.layer_words.Side.{Side}
+use Rattle.osi_base.specs.declared.layer_words.Side.TheVariants.{A, B}
 use Rattle.dialogue.specs.declared.event.Event.{Event}
 use Rattle.dialogue.specs.declared.event.Entry.{Entry}
 use Rattle.dialogue.specs.declared.event.Transcript.{Transcript}

@@ -1,6 +1,7 @@
 //! Octets that an end gives out.
 
 ghost use Rattle.std.specs.Prelude.{◌≡◌, ◌++◌, ◌∷◌, [], min, length, take, IfOk};
+ghost use Rattle.osi_base.specs.Limits.{most_given};
 ghost use Rattle.association_duo.specs.Steps.{given_out};
 ghost use Rattle.association_runs.specs.Worlds.{first_octets};
 
@@ -14,7 +15,7 @@ const BLOCK: usize = 256;
 /// Gives out at most so many octets, but not more than a block, and answers how many.
 fn give_block(end: &mut End<'_>, octets: &mut Octets, most: usize) -> Result<usize, NoMemory>
     ensures count { IfOk result (λ count. count
-        ≡ min (min most 256) (length end.old.end.line.waiting)) }
+        ≡ min (min most most_given) (length end.old.end.line.waiting)) }
     ensures octets { IfOk result (λ count. octets.new
         ≡ octets.old ++ take count end.old.end.line.waiting) }
     ensures end { IfOk result (λ count. end.new ≡ given_out count end.old) }

@@ -10,7 +10,7 @@ use Rattle.end_rules.specs.State.{Body, Transfer, Encoded, Queued, Link, on_curr
 use Rattle.end_rules.specs.Writing.{part_message}
 use Rattle.end_rules.specs.Invoking.{carrier_in}
 use Rattle.end_rules.specs.ByItself.{OwnAct, SendsNow, EncodesOn, next_own, next_in, next_start, next_of, next_of_encoded, encodes_on, leads, part_size, ends_in_octets, is_window_full, left_of, item_on, encoded_as, encoding}
-use Rattle.end_rules.specs.Sets.{pair_of}
+use Rattle.osi_base.specs.SetPlaces.{pair_of}
 use Rattle.end_rules.specs.Base.{Item}
 use Rattle.end_rules.specs.History.{Step, step_of, sent, encoded, ByItself, rests, goes}
 use Rattle.end_rules.specs.Requesting.{after_sent}

@@ -1,15 +1,15 @@
 -- What an end does with what stands first, path by path.
 use Rattle.std.proofs.Common.{◌≡◌, ℕ, Bool, true, false, not, if◌then◌else◌, Option, Some, None, refl, ap, subst, ◌∙◌}
 use Rattle.std.specs.Prelude.{MatchOption, Result, Ok, Err}
-use Rattle.osi_base.specs.declared.words.Layer.{Layer}
-use Rattle.osi_base.specs.declared.words.Layer.TheVariants as layers
+use Rattle.osi_base.specs.declared.layer_words.Layer.{Layer}
+use Rattle.osi_base.specs.declared.layer_words.Layer.TheVariants as layers
 use Rattle.osi_base.specs.declared.session_word.SessionConnect.{SessionConnect}
 use Rattle.osi_base.specs.declared.session_word.SessionWord.{SessionWord}
 use Rattle.osi_base.specs.declared.session_word.SessionWord.TheVariants as units
 use Rattle.osi_base.specs.declared.presentation_word.PresentationConnect.{PresentationConnect}
 use Rattle.osi_base.specs.declared.presentation_word.PresentationWord.{PresentationWord}
 use Rattle.osi_base.specs.declared.presentation_word.PresentationWord.TheVariants as ppdus
-use Rattle.osi_base.specs.declared.words.Kind.{Kind}
+use Rattle.osi_base.specs.declared.layer_words.Kind.{Kind}
 use Rattle.presentation_pdus.specs.declared.place.PpduFault.{PpduFault}
 use Rattle.presentation_pdus.specs.declared.place.PpduFault.TheVariants as ppdu_faults
 use Rattle.presentation_pdus.specs.Units.{FailsPpdu}

@@ -1,6 +1,6 @@
 -- What holds of every end. No public clause cites this module.
 use Rattle.std.specs.Prelude.{◌≡◌, ◌≤◌, List, [], ◌∷◌, Bool, true, false, Option, Some, None, IsSome}
-use Rattle.tpkt.specs.Wire.{unit_least, unit_most}
+use Rattle.osi_base.specs.Limits.{unit_least, unit_most}
 use Rattle.end_rules.specs.Base.{is_bare}
 use Rattle.end_rules.specs.State.{passes_over}
 use Rattle.end_config.specs.Refusing.{config_refusal}

@@ -10,7 +10,7 @@ ghost use Rattle.association_end.specs.Changed.{wants_memory, ChangedBy};
 ghost use Rattle.association_end.specs.Reacted.{AllMayStand, sending};
 
 use crate::end::End;
-use association_requests::{CallOutcome, call};
+use association_requests::{CallOutcome, make_call};
 use association_words::Message;
 use dialogue::{Call, CallRefusal, Phase};
 use osi_base::NoMemory;
@@ -35,7 +35,7 @@ impl<'t> End<'t> {
         ensures is { ChangedBy self.old self.new asked.now result }
         ensures room { IfOk result (λ called. AllMayStand (sent_by called)) }
     {
-        let called = call(&self.basis, &mut self.body, asked);
+        let called = make_call(&self.basis, &mut self.body, asked);
         if wants_memory(&called) {
             self.body.link.phase = Phase::Dead;
             return called;

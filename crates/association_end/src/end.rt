@@ -3,12 +3,12 @@
 ghost use Rattle.std.specs.Prelude.{◌≡◌, ◌≢◌, ℕ, List, [], ◌∷◌, ◌++◌, length, min, take, drop, IfOk, IfErr, OnOk, false, Some, None};
 ghost use Rattle.end_rules.specs.Base.{is_bare};
 
-use crate::sizes::first_size;
+use crate::dt_sizes::first_size;
 use apdu_codec::Heads;
 use association_codecs::Codecs;
 use association_ground::is_up;
 use association_intake::Intake;
-use association_requests::broke;
+use association_requests::connection_broke;
 use association_state::{Body, Ground};
 use dialogue::{Config, ConfigRefusal, Phase};
 use end_config::check_config;
@@ -160,7 +160,7 @@ impl<'t> End<'t> {
         ensures steps { Stepped self.old self.new (broke ∷ []) }
         ensures history { (h : History) → StandsFor self.old h → StandsFor self.new (broke ∷ h) }
     {
-        broke(&self.basis, &mut self.body);
+        connection_broke(&self.basis, &mut self.body);
         self.waiting.clear();
         self.intake = Some(Intake::new(self.basis.alloc));
         self.size = first_size(self.basis.config.initiator);

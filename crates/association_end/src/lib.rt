@@ -3,13 +3,13 @@
 #![tactic(auto)]
 
 mod calling;
+mod dt_sizes;
 mod end;
 mod feeding;
 mod own_acts;
 mod reacting;
 mod reading;
 mod sending;
-mod sizes;
 mod told_and_sent;
 
 pub use end::End;

@@ -3,7 +3,7 @@
 ghost use Rattle.std.specs.Prelude.{◌≡◌, [], ◌∷◌, Some, false, IfOk, OnOk, OnErr, MatchResult, option_map};
 ghost use Rattle.end_rules.specs.ByItself.{encoding, item_on, encoded_as, next_own as rule_next};
 ghost use Rattle.end_rules.specs.State.{passes_over};
-ghost use Rattle.end_rules.specs.Sets.{pair_of};
+ghost use Rattle.osi_base.specs.SetPlaces.{pair_of};
 ghost use Rattle.end_rules.specs.History.{encoded as rule_encoded, sent, step_of};
 ghost use Rattle.association_words.specs.Seen.{seen_message};
 ghost use Rattle.association_writing.specs.Room.{MayStand};
@@ -16,7 +16,7 @@ ghost use Rattle.association_end.specs.Progress.{Keeps, OwnGoes, DidOwn, BeganOw
 use crate::end::End;
 use association_codecs::Codecs;
 use association_line::own_acts_end;
-use association_requests::{Own, after_sent, next_own};
+use association_requests::{OwnAct, after_sent, next_own};
 use association_sends::pair_copied;
 use association_state::{Body, Encoded, Ground, Queued, Transfer};
 use association_words::{Message, TransferItem};
@@ -148,7 +148,7 @@ impl<'t> End<'t> {
     }
 
     /// What the end does next by itself, if anything.
-    fn next_act(&self) -> Result<Option<Own>, NoMemory>
+    fn next_act(&self) -> Result<Option<OwnAct>, NoMemory>
         ensures { IfOk result (λ act. option_map seen_act act ≡ rule_next (base self.now)
             self.now.end.body) }
     {
@@ -156,14 +156,14 @@ impl<'t> End<'t> {
     }
 
     /// Does what comes next.
-    fn perform(&mut self, act: Own) -> Result<(), NoMemory>
+    fn perform(&mut self, act: OwnAct) -> Result<(), NoMemory>
         requires { Some (seen_act act) ≡ rule_next (base self.old) self.old.end.body }
         ensures ok { OnOk result (Stepped self.old self.new (step_of (seen_act act) ∷ [])) }
         ensures err { OnErr result (Keeps self.old self.new) }
     {
         match act {
-            Own::Encodes(context) => self.encode(context),
-            Own::Sends(message) => {
+            OwnAct::Encodes(context) => self.encode(context),
+            OwnAct::Sends(message) => {
                 let sent = self.send(&message);
                 drop(message);
                 sent

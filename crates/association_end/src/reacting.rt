@@ -1,7 +1,7 @@
 //! What an end does with what stands first.
 
 ghost use Rattle.std.specs.Prelude.{◌≡◌, ◌≤◌, IfOk, OnErr, MatchResult, false, true};
-ghost use Rattle.tpkt.specs.Wire.{unit_least, unit_most};
+ghost use Rattle.osi_base.specs.Limits.{unit_least, unit_most};
 ghost use Rattle.end_rules.specs.State.{passes_over};
 ghost use Rattle.association_intake.specs.Seen.{seen_front, IsPlaced, TakesFirst};
 ghost use Rattle.association_end.specs.Progress.{Keeps};
@@ -10,9 +10,9 @@ ghost use Rattle.association_end.specs.Seen.{came_in};
 ghost use Rattle.association_end.specs.Sound.{IsMessage, HasMessages};
 ghost use Rattle.association_line.specs.Line as line;
 
+use crate::dt_sizes::{first_size, size_with};
 use crate::end::End;
 use crate::reading::react_to;
-use crate::sizes::{first_size, size_with};
 use association_answers::Reaction;
 use association_ground::passes_over;
 use association_intake::{Front, Intake};

@@ -11,7 +11,7 @@ ghost use Rattle.end_rules.specs.State.{passes_over};
 ghost use Rattle.end_rules.specs.TakesActivities as activities;
 ghost use Rattle.association_reading.specs.Meaning.{meaning as rule_meaning};
 ghost use Rattle.association_reading.specs.Reacting as rules;
-ghost use Rattle.association_intake.specs.Seen.{seen_front, HasPlaces, IsPlaced};
+ghost use Rattle.association_intake.specs.Seen.{seen_front, HasUserPlaces, IsPlaced};
 ghost use Rattle.association_words.specs.Seen.{seen_word, seen_activities, seen_fault, seen_value, seen_arrived};
 ghost use Rattle.association_state.specs.Seen.{base_in, seen};
 ghost use Rattle.association_takes.specs.Acts.{is_end};
@@ -22,10 +22,10 @@ ghost use Rattle.association_reacting.specs.Reacts.{ReactsAs};
 ghost use Rattle.association_end.specs.Reacted.{ReactsTo};
 ghost use Rattle.association_end.specs.Sound.{IsMessage};
 
-use association_answers::{Reaction, fails};
+use association_answers::{Reaction, fail_association};
 use association_codecs::Codecs;
 use association_intake::Front;
-use association_meaning::{Halt, ReadingGround, arrived_at, meaning};
+use association_meaning::{Halt, ReadingGround, arrived_at, meaning_of_unit};
 use association_place::{is_unit_in_place, is_unit_purged};
 use association_reacting::{fails_on_accepted, has_connection, react, react_to_end};
 use association_sets::copy_set;
@@ -172,7 +172,7 @@ fn fail_unit(
         (seen body.new)) }
 {
     let accepted = contexts_of(basis, codecs, body, unit)?;
-    fails(basis, body, accepted.as_slice(), fault)
+    fail_association(basis, body, accepted.as_slice(), fault)
 }
 
 /// The number of the end of an activity, where the unit is one.
@@ -237,11 +237,11 @@ fn meant(
     unit: &SessionWord,
     start: usize,
 ) -> Result<Word, Halt>
-    requires { HasPlaces start (user_of unit.now) }
+    requires { HasUserPlaces start (user_of unit.now) }
     ensures { GivesAs seen_word result (rule_meaning (base_in basis.now) (seen body.now) unit.now
         start) }
 {
-    meaning(
+    meaning_of_unit(
         &reading(basis, codecs),
         body.link.accepted.as_slice(),
         body.sets.held.as_slice(),
@@ -259,7 +259,7 @@ fn react_to_meaning(
     start: usize,
 ) -> Result<Reaction, NoMemory>
     requires associated { is_bare basis.now.config.mode ≡ false }
-    requires placed { HasPlaces start (user_of unit.now) }
+    requires placed { HasUserPlaces start (user_of unit.now) }
     ensures { IfOk result (ReactsAs (rules.on_meaning (base_in basis.now) (seen body.old) unit.now
         (rule_meaning (base_in basis.now) (seen body.old) unit.now start)) (seen body.old)
         (seen body.new)) }
@@ -282,7 +282,7 @@ fn react_to_unit(
     start: usize,
 ) -> Result<Reaction, NoMemory>
     requires associated { is_bare basis.now.config.mode ≡ false }
-    requires placed { HasPlaces start (user_of unit.now) }
+    requires placed { HasUserPlaces start (user_of unit.now) }
     ensures { IfOk result (ReactsAs (rules.react_to_unit (base_in basis.now) (seen body.old)
         unit.now start) (seen body.old) (seen body.new)) }
 {

@@ -1,7 +1,7 @@
 //! Messages that an end sends.
 
 ghost use Rattle.std.specs.Prelude.{◌≡◌, ◌≤◌, [], ◌∷◌, IfOk, OnOk, OnErr};
-ghost use Rattle.tpkt.specs.Wire.{unit_least, unit_most};
+ghost use Rattle.osi_base.specs.Limits.{unit_least, unit_most};
 ghost use Rattle.association_words.specs.Seen.{seen_message};
 ghost use Rattle.association_answers.specs.Reacted.{seen_messages};
 ghost use Rattle.association_writing.specs.Room.{MayStand};

@@ -1,7 +1,7 @@
 //! What an end tells and sends for a message.
 
 ghost use Rattle.std.specs.Prelude.{◌≡◌, ◌≤◌, ◌++◌, true, List, OnOk, OnErr, MatchResult, Some, None};
-ghost use Rattle.tpkt.specs.Wire.{unit_least, unit_most};
+ghost use Rattle.osi_base.specs.Limits.{unit_least, unit_most};
 ghost use Rattle.dialogue.specs.declared.indication.Indication.{Indication};
 ghost use Rattle.end_rules.specs.State.{passes_over};
 ghost use Rattle.association_answers.specs.Reacted.{seen_messages};

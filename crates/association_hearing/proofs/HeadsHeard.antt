@@ -15,13 +15,13 @@ use Rattle.apdu_codec.specs.declared.fault.HeadFault.{HeadFault}
 use Rattle.apdu_codec.specs.declared.fault.HeadFault.TheVariants as fault
 use Rattle.apdu_codec.specs.Refusals.{refusal_of}
 use Rattle.apdu_codec.specs.HeadsRead.{HasFields, HasNone, IsRefused}
-use Rattle.rose_roles.specs.declared.taken.RoseTaken.{RoseTaken}
+use Rattle.rose_roles.specs.declared.apdu_taken.RoseTaken.{RoseTaken}
 use Rattle.rose_roles.specs.Heads.{room_in, said_by}
 use Rattle.rose_roles.specs.Hearing.{heard_with, refused_as, Hears}
 use Rattle.rose_roles.specs.Laws.{carried_by}
 use Rattle.rose_roles.proofs.Carrying.{always_carries}
 use Rattle.open_invocations.specs.Invocations.{SomeCarried}
-use Rattle.end_rules.specs.Base.{Base, Head, InvokeHead, ResultHead, ErrorHead}
+use Rattle.end_rules.specs.Base.{Base, InvokeHead, ResultHead, ErrorHead}
 use Rattle.end_rules.specs.State.{Calls}
 use Rattle.end_rules.specs.Hearing.{hear}
 use Rattle.end_wire.specs.Heads.{carried_at, said, refused, said_or_refused, head_at}

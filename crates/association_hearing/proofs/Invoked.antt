@@ -1,11 +1,11 @@
 -- What is heard of an invocation, by its first problem and its operation.
 use Rattle.std.proofs.Common.{◌≡◌, ℕ, ℤ, false, Option, Some, None, refl, sym, ap, ◌∙◌}
-use Rattle.osi_base.specs.declared.words.ProblemKind.TheVariants as kinds
+use Rattle.osi_base.specs.declared.layer_words.ProblemKind.TheVariants as kinds
 use Rattle.asn1_types.specs.declared.value.Val.{Val}
 use Rattle.stub_tables.specs.declared.operation.Code.{Code}
 use Rattle.stub_tables.specs.Lookup.{operation_with}
 use Rattle.dialogue.specs.declared.indication.Indication.TheVariants as indications
-use Rattle.rose_roles.specs.declared.taken.RoseTaken.TheVariants as takens
+use Rattle.rose_roles.specs.declared.apdu_taken.RoseTaken.TheVariants as takens
 use Rattle.rose_roles.specs.Hearing.{heard_with}
 use Rattle.end_rules.specs.Base.{Base}
 use Rattle.end_rules.specs.State.{Calls}

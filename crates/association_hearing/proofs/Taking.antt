@@ -1,12 +1,12 @@
 -- Values that are taken, one after the other, with one more behind them.
 use Rattle.std.proofs.Common.{◌≡◌, ℕ, List, [], ◌∷◌, ◌++◌, refl, ap, sym, subst, ◌∙◌, append_assoc}
 use Rattle.std.proofs.lemmas.List.{append-nil, map-append}
-use Rattle.end_rules.specs.Base.{Base, Head}
+use Rattle.end_rules.specs.Base.{Base, HeardHead}
 use Rattle.end_rules.specs.State.{Body, Calls}
 use Rattle.end_rules.specs.Messages.{DataValue}
 use Rattle.end_rules.specs.Hearing.{Taken, hear, on_heard, head_of, take_head, take_values, then_taken}
-use Rattle.rose_roles.specs.declared.taken.RoseTaken as roses
-use Rattle.rose_roles.specs.declared.taken.RoseTaken.TheVariants as rose
+use Rattle.rose_roles.specs.declared.apdu_taken.RoseTaken as roses
+use Rattle.rose_roles.specs.declared.apdu_taken.RoseTaken.TheVariants as rose
 use Rattle.rose_roles.specs.Hearing.{heard_with}
 use Rattle.association_answers.specs.declared.brought.Brought as broughts
 use Rattle.association_answers.specs.Reacted.{seen_messages}
@@ -73,7 +73,7 @@ calls_told c rose.BadReject = refl
 calls_told c (rose.Reject id problem) = refl
 
 -- what is done with what was heard is the taking
-pub took_so : (base : Base) (old : Body) (others : Calls) (context : ℕ) (head : Head) (t : roses.RoseTaken) (after : Body) (came : broughts.Brought)
+pub took_so : (base : Base) (old : Body) (others : Calls) (context : ℕ) (head : HeardHead) (t : roses.RoseTaken) (after : Body) (came : broughts.Brought)
     → heard_with others t ≡ hear base old.calls context head → TookAs (on_heard base (record old { calls = others }) context (heard_with others t)) after came
     → TookAs (take_head base old context head) after came
 took_so base old others context head t after came h g =

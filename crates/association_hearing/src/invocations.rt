@@ -10,7 +10,7 @@ use asn1_types::Val;
 use association_state::Ground;
 use open_invocations::Invocations;
 use osi_base::{NoMemory, ProblemKind};
-use rose_roles::{InvokedWith, RoseTaken, rejected};
+use rose_roles::{InvokedWith, RoseTaken, reject_with};
 use stub_tables::Code;
 
 /// Hears an invocation on a context.
@@ -28,10 +28,10 @@ pub(crate) fn hear_invoke(
 {
     let place = basis.tables.operation_with(code);
     if let Some(number) = invoke_problem(basis, calls, &id, &linked, place, &argument) {
-        return Ok(rejected(Some(id), ProblemKind::Invoke, number));
+        return Ok(reject_with(Some(id), ProblemKind::Invoke, number));
     }
     let Some(operation) = place else {
-        return Ok(rejected(Some(id), ProblemKind::Invoke, 1));
+        return Ok(reject_with(Some(id), ProblemKind::Invoke, 1));
     };
     calls.admit(
         basis.tables,

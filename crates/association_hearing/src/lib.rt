@@ -14,4 +14,4 @@ mod values;
 pub use apdus::hear_apdu;
 pub use transfers::{part_in, set_resumed, suspend};
 pub use unread::hear_unread;
-pub use values::{data_on, queueing, take_value, take_values};
+pub use values::{data_on, queue_apdu, take_value, take_values};

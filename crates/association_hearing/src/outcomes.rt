@@ -12,7 +12,7 @@ use asn1_types::Val;
 use association_state::Ground;
 use open_invocations::Invocations;
 use osi_base::{Problem, ProblemKind};
-use rose_roles::{RoseTaken, is_of_invocation, rejected};
+use rose_roles::{RoseTaken, is_of_invocation, reject_with};
 use stub_tables::Code;
 
 /// Hears a result.
@@ -27,12 +27,12 @@ pub(crate) fn hear_result(
         (opened_with true id calls.old.opens) code.now (carried_in value) }
 {
     let Some(called) = calls.called(true, &id) else {
-        return rejected(Some(id), ProblemKind::Result, 0);
+        return reject_with(Some(id), ProblemKind::Result, 0);
     };
     let problem = result_problem(basis, called.operation, code, &value);
     calls.close_own(&id);
     match problem {
-        Some(number) => rejected(Some(id), ProblemKind::Result, number),
+        Some(number) => reject_with(Some(id), ProblemKind::Result, number),
         None => RoseTaken::Result { id, value },
     }
 }
@@ -50,14 +50,14 @@ pub(crate) fn hear_error(
         (carried_in parameter) }
 {
     let Some(called) = calls.called(true, &id) else {
-        return rejected(Some(id), ProblemKind::Error, 0);
+        return reject_with(Some(id), ProblemKind::Error, 0);
     };
     let error = basis.tables.error_with(code);
     let problem = error_problem(basis, called.operation, error, &parameter);
     calls.close_own(&id);
     match (problem, error) {
-        (Some(number), _) => rejected(Some(id), ProblemKind::Error, number),
-        (None, None) => rejected(Some(id), ProblemKind::Error, 2),
+        (Some(number), _) => reject_with(Some(id), ProblemKind::Error, number),
+        (None, None) => reject_with(Some(id), ProblemKind::Error, 2),
         (None, Some(error)) => RoseTaken::Error {
             id,
             error,

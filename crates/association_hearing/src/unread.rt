@@ -10,7 +10,7 @@ use association_state::Ground;
 use ber_spelling::{are_octets, hold_octets};
 use open_invocations::Invocations;
 use osi_base::{NoMemory, Octets, Syntax};
-use rose_roles::{RoseTaken, refused};
+use rose_roles::{RoseTaken, refused_head};
 
 /// What becomes of octets on a context in a syntax: of the head that they spell, or of octets that
 /// spell none.
@@ -31,7 +31,7 @@ fn hear_octets(
             hold_octets(&head.rest);
             calls.take(basis.tables, syntax, context, head)
         }
-        Err(fault) => refused(fault),
+        Err(fault) => refused_head(fault),
     }
 }
 

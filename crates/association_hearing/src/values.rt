@@ -19,7 +19,7 @@ use association_words::{DataWord, Message, Value, ValueContent, Values, Word, sy
 use dialogue::Indication;
 use open_invocations::Invocations;
 use osi_base::{ListOf, NoMemory, Problem, ProblemKind};
-use rose_roles::{RoseTaken, rejected};
+use rose_roles::{RoseTaken, reject_with};
 use stub_tables::Apdu;
 
 /// Hears what a value says.
@@ -36,13 +36,13 @@ fn hear_value(
     match content {
         ValueContent::Remote(apdu) => hear_apdu(basis, calls, id, apdu),
         ValueContent::Unread(octets) => hear_unread(basis, calls, id, syntax, &octets),
-        ValueContent::Association { apdu: _, user: _ } => Ok(rejected(
+        ValueContent::Association { apdu: _, user: _ } => Ok(reject_with(
             None,
             ProblemKind::General,
             0,
         )),
-        ValueContent::Plea { priority: _ } => Ok(rejected(None, ProblemKind::General, 0)),
-        ValueContent::Part(_) => Ok(rejected(None, ProblemKind::General, 0)),
+        ValueContent::Plea { priority: _ } => Ok(reject_with(None, ProblemKind::General, 0)),
+        ValueContent::Part(_) => Ok(reject_with(None, ProblemKind::General, 0)),
     }
 }
 
@@ -60,7 +60,7 @@ pub fn data_on(basis: &Ground<'_>, body: &Body, id: u32, apdu: Apdu) -> Result<M
 }
 
 /// Puts an APDU into the queue of transfers.
-pub fn queueing(body: &mut Body, context: u32, apdu: Apdu) -> Result<(), NoMemory>
+pub fn queue_apdu(body: &mut Body, context: u32, apdu: Apdu) -> Result<(), NoMemory>
     ensures { OnOk result (seen body.new ≡ queueing context apdu (seen body.old)) }
 {
     body.sending.queue.push(Queued { context, apdu })?;
@@ -81,7 +81,7 @@ fn send_reject(
 {
     let apdu = Apdu::Reject { id, problem };
     if is_reliable(basis.config.mode) {
-        queueing(body, context, apdu)?;
+        queue_apdu(body, context, apdu)?;
         return with_indication(basis.alloc, Indication::RejectSent { id, problem });
     }
     let Some(carrier) = carrier_in(basis, body, context) else {

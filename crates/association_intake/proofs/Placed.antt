@@ -3,13 +3,13 @@ use Rattle.std.proofs.Common.{ℕ, ◌<◌, ◌^◌, List, [], ◌∷◌, ◌++�
 use Rattle.spdu_codec.specs.Places.{StandsAt}
 use Rattle.association_reading.specs.Front.{start_of}
 use Rattle.association_intake.specs.declared.front.Front.{Front}
-use Rattle.association_intake.specs.Seen.{HasPlaces, IsPlaced, ArePlaced}
+use Rattle.association_intake.specs.Seen.{HasUserPlaces, IsPlaced, ArePlaced}
 
 pub placed_on : (fronts : List Front) (front : Front) → ArePlaced fronts → IsPlaced front → ArePlaced (fronts ++ front ∷ [])
 placed_on [] front are is = (is, tt)
 placed_on (f ∷ fronts) front are is = (are.0, placed_on fronts front are.1 is)
 
-pub stands_placed : (user : Option (List ℕ)) (octets : List ℕ) (at : Option ℕ) → length octets < 2 ^ 63 → StandsAt user octets at → HasPlaces (start_of at) user
+pub stands_placed : (user : Option (List ℕ)) (octets : List ℕ) (at : Option ℕ) → length octets < 2 ^ 63 → StandsAt user octets at → HasUserPlaces (start_of at) user
 stands_placed None octets None few stands = tt
 stands_placed None octets (Some at) few stands = absurd stands
 stands_placed (Some user) octets None few stands = absurd stands

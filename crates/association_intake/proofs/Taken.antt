@@ -1,7 +1,7 @@
 -- What stands first is taken off.
 use Rattle.std.proofs.Common.{◌≡◌, List, [], ◌∷◌, Option, Some, None, refl, sym, subst, ap}
 use Rattle.std.specs.Prelude.{IsSome}
-use Rattle.osi_base.specs.declared.words.Layer.TheVariants.{Transport}
+use Rattle.osi_base.specs.declared.layer_words.Layer.TheVariants.{Transport}
 use Rattle.tpkt.specs.declared.packet.TFault.{TFault}
 use Rattle.tpkt.specs.declared.reader_state.Held.{Held}
 use Rattle.association_reading.specs.Front as reading

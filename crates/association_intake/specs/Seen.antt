@@ -1,5 +1,6 @@
 -- What stands first, as the definitions of reading speak of it.
-use Rattle.std.specs.Prelude.{◌≡◌, ℕ, ◌+◌, ◌<◌, ◌^◌, List, [], ◌∷◌, length, map, Option, Some, None}
+use Rattle.std.specs.Prelude.{◌≡◌, ℕ, List, [], ◌∷◌, map, Option, Some, None}
+use Rattle.osi_base.specs.OctetPlaces.{HasPlaces}
 use Rattle.spdu_codec.specs.Places.{user_of}
 use Rattle.association_words.specs.Seen.{seen_transport}
 use Rattle.association_reading.specs.Front as reading
@@ -16,14 +17,14 @@ abbrev pub seen_fronts : List Front → List reading.Front
 seen_fronts fronts = map seen_front fronts
 
 -- user data begin at this place, where there are some, and the places of all their octets are numbers of 63 bits
-abbrev pub HasPlaces : ℕ → Option (List ℕ) → Type 0
-HasPlaces start None = Unit {0}
-HasPlaces start (Some user) = start + length user < 2 ^ 63
+abbrev pub HasUserPlaces : ℕ → Option (List ℕ) → Type 0
+HasUserPlaces start None = Unit {0}
+HasUserPlaces start (Some user) = HasPlaces start user
 
 abbrev pub IsPlaced : Front → Type 0
 IsPlaced Short = Unit {0}
 IsPlaced (OfTransport unit) = Unit {0}
-IsPlaced (OfSession unit start) = HasPlaces start (user_of unit)
+IsPlaced (OfSession unit start) = HasUserPlaces start (user_of unit)
 IsPlaced (Faulty layer place) = Unit {0}
 
 abbrev pub ArePlaced : List Front → Type 0

@@ -7,7 +7,7 @@ ghost use Rattle.std.specs.Prelude.{IfOk, length, ◌<◌, ◌^◌};
 ghost use Rattle.spdu_codec.specs.Places.{user_places, user_of, StandsAt, HoldUser};
 ghost use Rattle.end_rules.specs.Messages as meant;
 ghost use Rattle.association_words.specs.Seen.{seen_transport};
-ghost use Rattle.association_intake.specs.Seen.{seen_front, seen_fronts, HasPlaces, IsPlaced, ArePlaced};
+ghost use Rattle.association_intake.specs.Seen.{seen_front, seen_fronts, HasUserPlaces, IsPlaced, ArePlaced};
 
 use crate::front::Front;
 use association_words::TransportUnit;

@@ -3,12 +3,13 @@ use Rattle.std.proofs.Common.{◌≡◌, ℕ, zero, suc, ◌+◌, ◌*◌, ◌<�
 use Rattle.std.proofs.lemmas.List.{append-nil, length-take}
 use Rattle.std.proofs.lemmas.Bool.Decides.{nat_tests}
 use Rattle.osi_base.specs.declared.syntax.Pair.{Pair}
-use Rattle.osi_base.specs.declared.words.SetItem.{SetItem}
+use Rattle.osi_base.specs.declared.layer_words.SetItem.{SetItem}
 use Rattle.osi_base.specs.Limits.{last_activity}
 use Rattle.dialogue.specs.declared.config.Mode.{Mode}
 use Rattle.dialogue.specs.declared.config.Mode.TheVariants.{Bare, Direct, Reliable}
 use Rattle.end_rules.specs.Base.{Base, is_reliable}
-use Rattle.end_rules.specs.Sets.{Alteration, Saved, pair_of, same_name, is_deleted_in, may_send, lowest_with, carrier}
+use Rattle.end_rules.specs.Sets.{Alteration, Saved, same_name, is_deleted_in, may_send, lowest_with, carrier}
+use Rattle.osi_base.specs.SetPlaces.{pair_of}
 use Rattle.end_rules.specs.Messages.{Message, Session, OfMarks, OfActivities, Mark, Start, End}
 use Rattle.end_rules.specs.State.{Body, Link, Sets, Calls, Receiving, Transfer, Encoded, Queued, Piece, Progress, Running, Ending, Suspended, is_empty, joined, highest}
 use Rattle.end_rules.specs.Invoking.{carrier_in}

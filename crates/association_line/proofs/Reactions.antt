@@ -1,7 +1,7 @@
 -- What the rules say of a reaction: the body that is left, and that what is answered is no CR.
 use Rattle.std.proofs.Common.{◌≡◌, ℕ, Bool, true, false, not, ◌||◌, List, Option, Some, None, Result, Ok, Err, refl, ap, subst, if◌then◌else◌}
 use Rattle.osi_base.specs.declared.session_word.SessionWord.{SessionWord}
-use Rattle.osi_base.specs.declared.words.SetItem.{SetItem}
+use Rattle.osi_base.specs.declared.layer_words.SetItem.{SetItem}
 use Rattle.dialogue.specs.declared.indication.Indication.{Indication}
 use Rattle.end_rules.specs.Base.{Base, Fault, is_bare}
 use Rattle.end_rules.specs.Messages.{Message, Transport, Session, TransportUnit, Word, unit_of}

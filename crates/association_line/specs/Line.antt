@@ -1,7 +1,7 @@
 -- One end of an association with its octets: those that wait to be given out, what came and isn't reacted to yet, and how
 -- many octets a DT of it has at most.
 use Rattle.std.specs.Prelude.{ℕ, List, [], ◌∷◌, ◌++◌, drop, Bool, true, false, if◌then◌else◌, Option, Some, None, option_map}
-use Rattle.tpkt.specs.Wire.{unit_least, unit_most}
+use Rattle.osi_base.specs.Limits.{unit_least, unit_most}
 use Rattle.end_rules.specs.Base.{Base}
 use Rattle.end_rules.specs.Messages.{Message, Transport, Session, TransportUnit, ConnectionRequest, ConnectionConfirm, DisconnectRequest, TransportError}
 use Rattle.end_rules.specs.State.{Body, new_body, passes_over}

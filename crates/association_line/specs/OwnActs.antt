@@ -1,7 +1,7 @@
 -- How much is left of what an end does by itself, and that each thing that it does leaves less (X.228 7.2, 7.3).
 use Rattle.std.specs.Prelude.{◌≡◌, ℕ, ◌+◌, ◌*◌, ◌<◌, List, [], ◌∷◌, length, Bool, true, false, Option, Some, None}
 use Rattle.end_rules.specs.Base.{Base}
-use Rattle.end_rules.specs.Sets.{pair_of}
+use Rattle.osi_base.specs.SetPlaces.{pair_of}
 use Rattle.end_rules.specs.State.{Body, Transfer, Encoded, Queued, Progress, Running, Ending, Suspended}
 use Rattle.end_rules.specs.Invoking.{carrier_in}
 use Rattle.end_rules.specs.ByItself.{OwnAct, ends_in_octets, left_of, item_on, encoded_as, next_own}

@@ -2,7 +2,7 @@
 use Rattle.std.proofs.Common.{◌≡◌, ℕ, List, Bool, Option, Result, Ok, Err, ap, sym, subst}
 use Rattle.std.specs.Result.{IsErrAnd}
 use Rattle.osi_base.specs.declared.syntax.Pair.{Pair}
-use Rattle.osi_base.specs.declared.words.SetItem.{SetItem}
+use Rattle.osi_base.specs.declared.layer_words.SetItem.{SetItem}
 use Rattle.osi_base.specs.declared.acse_word.Acse.{Acse}
 use Rattle.osi_base.specs.declared.session_word.SessionConnect.{SessionConnect}
 use Rattle.osi_base.specs.declared.presentation_word.Pdv.{Pdv}
@@ -13,7 +13,7 @@ use Rattle.osi_base.specs.declared.presentation_word.PresentationWord.{Presentat
 use Rattle.stub_tables.specs.declared.tables.Tables.{Tables}
 use Rattle.end_rules.specs.Base.{Base, Fault}
 use Rattle.end_rules.specs.Messages.{DataValue, ValueContent, Information, Accepting, AbortData, Word}
-use Rattle.association_reading.specs.declared.carried.Carriage.{Carriage}
+use Rattle.association_reading.specs.declared.layer_of_values.Carriage.{Carriage}
 use Rattle.association_reading.specs.Places.{PdvPlaces}
 use Rattle.association_reading.specs.Values.{with_content, with_user, and_informed}
 use Rattle.association_reading.specs.Meaning.{with_values}

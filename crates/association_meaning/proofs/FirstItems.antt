@@ -1,7 +1,7 @@
 -- User information of which the first item is read.
 use Rattle.std.proofs.Common.{◌≡◌, ℕ, List, [], ◌∷◌, Bool, true, false, Option, Some, None, Result, Ok, Err, refl, sym, subst}
 use Rattle.std.specs.Prelude.{slice_get, if◌then◌else◌}
-use Rattle.osi_base.specs.declared.words.SetItem.{SetItem}
+use Rattle.osi_base.specs.declared.layer_words.SetItem.{SetItem}
 use Rattle.osi_base.specs.declared.acse_word.Acse.{Acse}
 use Rattle.osi_base.specs.declared.rtse_word.Rtse.{Rtse}
 use Rattle.fixed_tables.specs.declared.pdu.PduFault.{PduFault}

@@ -4,15 +4,15 @@ use Rattle.std.specs.Prelude.{if◌then◌else◌}
 use Rattle.osi_base.specs.declared.syntax.Pair.{Pair}
 use Rattle.osi_base.specs.declared.syntax.Syntax.TheVariants.{Ber}
 use Rattle.osi_base.specs.declared.presentation_word.Pdv.{Pdv}
-use Rattle.osi_base.specs.declared.words.Proposal.{Proposal}
-use Rattle.osi_base.specs.declared.words.SetItem.{SetItem}
+use Rattle.osi_base.specs.declared.layer_words.Proposal.{Proposal}
+use Rattle.osi_base.specs.declared.layer_words.SetItem.{SetItem}
 use Rattle.stub_tables.specs.declared.tables.Tables.{Tables}
 use Rattle.end_rules.specs.Base.{Base, Fault, Arrived, acse_name}
-use Rattle.end_rules.specs.Sets.{pair_of}
+use Rattle.osi_base.specs.SetPlaces.{pair_of}
 use Rattle.end_rules.specs.Messages as meant
 use Rattle.pdv_places.specs.declared.places.PdvField.{PdvField}
 use Rattle.pdv_places.specs.Seen.{place_in}
-use Rattle.association_reading.specs.declared.carried.Carriage.{Carriage}
+use Rattle.association_reading.specs.declared.layer_of_values.Carriage.{Carriage}
 use Rattle.association_reading.specs.Places.{PdvPlaces}
 use Rattle.association_reading.specs.Contexts.{name_carried, invalid_at, pdv_fault, form_fault, first_fault}
 use Rattle.association_reading.specs.Values.{unless_fault, all_values, value_in, values_under}

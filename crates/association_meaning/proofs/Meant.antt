@@ -1,7 +1,7 @@
 -- What units mean, as the code reads them.
 use Rattle.std.proofs.Common.{◌≡◌, ℕ, ℤ, List, Option, Some, None, Result, Ok, Err, refl, ap, subst}
 use Rattle.std.specs.Prelude.{pos, negsuc, option_map}
-use Rattle.osi_base.specs.declared.words.SetItem.{SetItem}
+use Rattle.osi_base.specs.declared.layer_words.SetItem.{SetItem}
 use Rattle.osi_base.specs.declared.session_word.SessionConnect.{SessionConnect}
 use Rattle.osi_base.specs.declared.session_word.SessionWord.{SessionWord}
 use Rattle.osi_base.specs.declared.session_word.SessionWord.TheVariants as units
@@ -15,8 +15,8 @@ use Rattle.presentation_pdus.specs.Units.{ppdu_at}
 use Rattle.end_rules.specs.Base.{Base, Fault}
 use Rattle.end_rules.specs.State.{Body}
 use Rattle.end_rules.specs.Messages.{DataValue, Accepting, ProviderReason, UserValues, Word, OfAssociation, Finish, Disconnect, Abort, OfData, Values, OfMarks, Please}
-use Rattle.association_reading.specs.declared.carried.Carriage.{Carriage}
-use Rattle.association_reading.specs.declared.carried.Carriage.TheVariants as carriage
+use Rattle.association_reading.specs.declared.layer_of_values.Carriage.{Carriage}
+use Rattle.association_reading.specs.declared.layer_of_values.Carriage.TheVariants as carriage
 use Rattle.association_reading.specs.Places.{pdv_places}
 use Rattle.association_reading.specs.Association.{abort_values}
 use Rattle.association_reading.specs.Meaning as reading

@@ -1,6 +1,6 @@
 -- User information step by step, as the code reads it. No public clause cites this module.
 use Rattle.std.specs.Prelude.{ℕ, List, map, slice_set, Bool, true, false, Option, Some, None, option_map, Result, Ok, Err}
-use Rattle.osi_base.specs.declared.words.SetItem.{SetItem}
+use Rattle.osi_base.specs.declared.layer_words.SetItem.{SetItem}
 use Rattle.osi_base.specs.declared.acse_word.Acse.{Acse}
 use Rattle.osi_base.specs.declared.rtse_word.Rtse.{Rtse}
 use Rattle.fixed_tables.specs.declared.pdu.PduFault.{PduFault}
@@ -12,8 +12,8 @@ use Rattle.association_reading.specs.Values.{unreadable_rtse}
 use Rattle.association_reading.specs.Association.{is_aarq, is_acceptance, is_response, is_abort}
 use Rattle.association_words.specs.declared.values.Information.{Information}
 use Rattle.association_words.specs.Seen.{seen_information}
-use Rattle.association_meaning.specs.declared.informed.AcseKind.{AcseKind}
-use Rattle.association_meaning.specs.declared.informed.AcseKind.TheVariants.{Request, Acceptance, Response, Abort}
+use Rattle.association_meaning.specs.declared.user_information.AcseKind.{AcseKind}
+use Rattle.association_meaning.specs.declared.user_information.AcseKind.TheVariants.{Request, Acceptance, Response, Abort}
 
 abbrev pub kind_of : AcseKind → Acse → Bool
 kind_of Request = is_aarq

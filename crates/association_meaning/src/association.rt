@@ -1,7 +1,8 @@
 //! Values in openings, refusals, releases and aborts (X.226 6.1, 6.4; X.227 7; X.228 7.1).
 
-ghost use Rattle.std.specs.Prelude.{◌≡◌, ◌+◌, ◌<◌, ◌^◌, length, IfOk, if◌then◌else◌};
+ghost use Rattle.std.specs.Prelude.{◌≡◌, IfOk, if◌then◌else◌};
 ghost use Rattle.osi_base.specs.declared.syntax.Syntax.TheVariants as syntaxes;
+ghost use Rattle.osi_base.specs.OctetPlaces.{HasPlaces};
 ghost use Rattle.acse.specs.Fields.{acse_at};
 ghost use Rattle.end_rules.specs.Base as rules;
 ghost use Rattle.end_rules.specs.Connecting as connecting;
@@ -14,18 +15,18 @@ ghost use Rattle.association_meaning.specs.Steps as steps;
 
 use crate::basis::{Halt, ReadingGround};
 use crate::contexts::{Carrier, Wrong, check, form_wrong, pdv_wrong};
-use crate::informed::{AcseKind, and_informed};
-use crate::layers::{acse_content, associated};
+use crate::layer_apdus::{acse_content, associated};
 use crate::names::{acse_name, rtse_name};
+use crate::user_information::{AcseKind, and_informed};
 use crate::values::{value_in, values_under};
 use acse::AcseFault;
 use association_ground::{is_reliable, same_name};
 use association_reading::Carriage;
-use association_sets::{fit_proposals, pair_of};
+use association_sets::fit_proposals;
 use association_words::{Value, ValueContent, Values};
 use osi_base::{
     Acse, ListOf, NoMemory, Octets, Oid, Pair, Pdv, PresentationAccept, PresentationConnect,
-    PresentationReject, Proposal, SetItem, SetList, Syntax,
+    PresentationReject, Proposal, SetItem, SetList, Syntax, pair_of,
 };
 use set_rules::{
     accepted_for, has_context_of, is_faulty_proposal, proposals, set_accepted, set_for,
@@ -101,7 +102,7 @@ fn left_values(
     carrier: &Carrier<'_>,
     pdvs: &[Pdv],
 ) -> Result<Values, Halt>
-    requires { carrier.now.start + length carrier.now.user.now < 2 ^ 63 }
+    requires { HasPlaces carrier.now.start carrier.now.user.now }
     ensures { GivesAs seen_values result (reading.left_values (association_base basis.now.tables.now
         basis.now.config.now) definitions.now set.now (pdv_places carrier.now.place
         carrier.now.start carrier.now.user.now) pdvs.now) }
@@ -140,7 +141,7 @@ fn values_associated(
     set: &[SetItem],
     carrier: &Carrier<'_>,
 ) -> Result<Values, Halt>
-    requires { carrier.now.start + length carrier.now.user.now < 2 ^ 63 }
+    requires { HasPlaces carrier.now.start carrier.now.user.now }
     ensures { GivesAs seen_values result (steps.values_associated (association_base
         basis.now.tables.now basis.now.config.now) presentation.now set.now (pdv_places
         carrier.now.place carrier.now.start carrier.now.user.now)) }
@@ -162,7 +163,7 @@ fn values_for(
     set: &[SetItem],
     carrier: &Carrier<'_>,
 ) -> Result<Values, Halt>
-    requires { carrier.now.start + length carrier.now.user.now < 2 ^ 63 }
+    requires { HasPlaces carrier.now.start carrier.now.user.now }
     ensures { GivesAs seen_values result (steps.values_for (association_base basis.now.tables.now
         basis.now.config.now) presentation.now set.now (pdv_places carrier.now.place
         carrier.now.start carrier.now.user.now)) }
@@ -187,7 +188,7 @@ pub(crate) fn connect_values(
     presentation: &PresentationConnect,
     carrier: &Carrier<'_>,
 ) -> Result<Values, Halt>
-    requires { carrier.now.start + length carrier.now.user.now < 2 ^ 63 }
+    requires { HasPlaces carrier.now.start carrier.now.user.now }
     ensures { GivesAs seen_values result (reading.connect_values (association_base
         basis.now.tables.now basis.now.config.now) presentation.now (pdv_places carrier.now.place
         carrier.now.start carrier.now.user.now)) }
@@ -224,7 +225,7 @@ fn accepted_values(
     accepted: &[SetItem],
     carrier: &Carrier<'_>,
 ) -> Result<Values, Halt>
-    requires { carrier.now.start + length carrier.now.user.now < 2 ^ 63 }
+    requires { HasPlaces carrier.now.start carrier.now.user.now }
     ensures { GivesAs seen_values result (steps.accepted_values (association_base
         basis.now.tables.now basis.now.config.now) presentation.now accepted.now (pdv_places
         carrier.now.place carrier.now.start carrier.now.user.now)) }
@@ -240,7 +241,7 @@ pub(crate) fn accept_values(
     presentation: &PresentationAccept,
     carrier: &Carrier<'_>,
 ) -> Result<Values, Halt>
-    requires { carrier.now.start + length carrier.now.user.now < 2 ^ 63 }
+    requires { HasPlaces carrier.now.start carrier.now.user.now }
     ensures { GivesAs seen_values result (reading.accept_values (association_base
         basis.now.tables.now basis.now.config.now) presentation.now (pdv_places carrier.now.place
         carrier.now.start carrier.now.user.now)) }
@@ -287,7 +288,7 @@ fn unasked_values(
     carrier: &Carrier<'_>,
     pdvs: &[Pdv],
 ) -> Result<Values, Halt>
-    requires { carrier.now.start + length carrier.now.user.now < 2 ^ 63 }
+    requires { HasPlaces carrier.now.start carrier.now.user.now }
     ensures { GivesAs seen_values result (reading.unasked_values (pdv_places carrier.now.place
         carrier.now.start carrier.now.user.now) pdvs.now) }
 {
@@ -324,7 +325,7 @@ pub(crate) fn refuse_values(
     presentation: &PresentationReject,
     carrier: &Carrier<'_>,
 ) -> Result<Values, Halt>
-    requires { carrier.now.start + length carrier.now.user.now < 2 ^ 63 }
+    requires { HasPlaces carrier.now.start carrier.now.user.now }
     ensures { GivesAs seen_values result (reading.refuse_values (association_base
         basis.now.tables.now basis.now.config.now) presentation.now (pdv_places carrier.now.place
         carrier.now.start carrier.now.user.now)) }
@@ -341,7 +342,7 @@ pub(crate) fn abort_values(
     carrier: &Carrier<'_>,
     pdvs: &[Pdv],
 ) -> Result<Values, Halt>
-    requires { carrier.now.start + length carrier.now.user.now < 2 ^ 63 }
+    requires { HasPlaces carrier.now.start carrier.now.user.now }
     ensures { GivesAs seen_values result (reading.abort_values (association_base
         basis.now.tables.now basis.now.config.now) accepted.now (pdv_places carrier.now.place
         carrier.now.start carrier.now.user.now) pdvs.now) }

@@ -1,7 +1,8 @@
 //! Whether presentation data values may stand where they came (X.226 8.4.2).
 
-ghost use Rattle.std.specs.Prelude.{◌≡◌, ◌+◌, ◌<◌, ◌^◌, length};
+ghost use Rattle.std.specs.Prelude.{◌≡◌};
 ghost use Rattle.std.specs.Option.{option_copied};
+ghost use Rattle.osi_base.specs.OctetPlaces.{HasPlaces};
 ghost use Rattle.association_reading.specs.Places.{pdv_places};
 ghost use Rattle.association_reading.specs.Contexts as reading;
 ghost use Rattle.association_meaning.specs.Grounds.{GivesAs};
@@ -10,8 +11,7 @@ ghost use Rattle.association_meaning.specs.Steps as steps;
 use crate::basis::{Halt, ReadingGround, fault_at};
 use crate::names::acse_name;
 use association_ground::same_name;
-use association_sets::pair_of;
-use osi_base::{Layer, Oid, Pair, Pdv, PdvContent, SetItem, Syntax};
+use osi_base::{Layer, Oid, Pair, Pdv, PdvContent, SetItem, Syntax, pair_of};
 use pdv_places::{PdvField, field_place};
 use presentation_pdus::PpduPlace;
 
@@ -110,7 +110,7 @@ pub(crate) fn check(
     carrier: &Carrier<'_>,
     wrong: Option<Wrong>,
 ) -> Result<(), Halt>
-    requires { carrier.now.start + length carrier.now.user.now < 2 ^ 63 }
+    requires { HasPlaces carrier.now.start carrier.now.user.now }
     ensures { GivesAs (λ _. tt) result (steps.checked (steps.told_wrong (pdv_places
         carrier.now.place carrier.now.start carrier.now.user.now) wrong)) }
 {

@@ -5,14 +5,14 @@
 mod association;
 mod basis;
 mod contexts;
-mod informed;
-mod layers;
+mod layer_apdus;
 mod names;
-mod parts;
 mod transfers;
+mod unit_meanings;
 mod units;
+mod user_information;
 mod values;
 
 pub use basis::{Halt, ReadingGround};
 pub use transfers::arrived_at;
-pub use units::meaning;
+pub use units::meaning_of_unit;

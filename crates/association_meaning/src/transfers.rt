@@ -12,12 +12,11 @@ ghost use Rattle.association_meaning.specs.Steps as steps;
 
 use crate::basis::{Halt, ReadingGround, fault_at};
 use crate::contexts::pdv_wrong;
-use crate::layers::content_under;
+use crate::layer_apdus::content_under;
 use association_reading::Carriage;
-use association_sets::pair_of;
 use association_words::{Arrived, TransferItem, ValueContent};
 use fixed_tables::PduFault;
-use osi_base::{Copied, Layer, Pair, Pdv, SetItem};
+use osi_base::{Copied, Layer, Pair, Pdv, SetItem, pair_of};
 use pdv_places::{PdvField, transfer_place};
 
 /// An invalid unit (6) at the place of a field of the value, counted in the octets of the transfer.

@@ -7,10 +7,10 @@ ghost use Rattle.association_reading.specs.Meaning as reading;
 ghost use Rattle.association_words.specs.Seen.{seen_accepting, seen_word};
 ghost use Rattle.association_meaning.specs.Grounds.{association_base, GivesAs};
 ghost use Rattle.association_meaning.specs.Words as words;
-ghost use Rattle.association_intake.specs.Seen.{HasPlaces};
+ghost use Rattle.association_intake.specs.Seen.{HasUserPlaces};
 
 use crate::basis::{Halt, ReadingGround};
-use crate::parts::{
+use crate::unit_meanings::{
     aborted_with, accept_meaning, connect_meaning, data_meaning, disconnect_meaning,
     finish_meaning, pleaded_with, refused_with, restart_acked_with, restarted_with, typed_meaning,
 };
@@ -72,7 +72,7 @@ fn carried_word(
     unit: &SessionWord,
     start: usize,
 ) -> Result<Word, Halt>
-    requires { HasPlaces start (user_of unit.now) }
+    requires { HasUserPlaces start (user_of unit.now) }
     ensures { GivesAs seen_word result (words.carried_word (association_base basis.now.tables.now
         basis.now.config.now) accepted.now held.now unit.now start) }
 {
@@ -132,7 +132,7 @@ fn accepting(
     }
 }
 
-/// As `meaning`, step by step.
+/// As `meaning_of_unit`, step by step.
 fn unit_meaning(
     basis: &ReadingGround<'_>,
     accepted: &[SetItem],
@@ -140,7 +140,7 @@ fn unit_meaning(
     unit: &SessionWord,
     start: usize,
 ) -> Result<Word, Halt>
-    requires { HasPlaces start (user_of unit.now) }
+    requires { HasUserPlaces start (user_of unit.now) }
     ensures { GivesAs seen_word result (words.unit_meant (association_base basis.now.tables.now
         basis.now.config.now) accepted.now held.now unit.now start) }
 {
@@ -154,14 +154,14 @@ fn unit_meaning(
 /// set, or the fault that ends the association: its unit of the presentation, then contexts and
 /// forms of values, then their APDUs. Its user data begin at this place of its TSDU. `NoMemory`
 /// where memory runs out; the unit is left as it is.
-pub fn meaning(
+pub fn meaning_of_unit(
     basis: &ReadingGround<'_>,
     accepted: &[SetItem],
     held: &[SetItem],
     unit: &SessionWord,
     start: usize,
 ) -> Result<Word, Halt>
-    requires { HasPlaces start (user_of unit.now) }
+    requires { HasUserPlaces start (user_of unit.now) }
     ensures { (body : Body) → body.link.accepted ≡ accepted.now → body.sets.held ≡ held.now →
         GivesAs seen_word result (reading.meaning (association_base basis.now.tables.now
         basis.now.config.now) body unit.now start) }

@@ -1,7 +1,8 @@
 //! What presentation data values mean, each under the pair of its context.
 
-ghost use Rattle.std.specs.Prelude.{◌≡◌, ◌+◌, ◌<◌, ◌^◌, length, IfOk};
+ghost use Rattle.std.specs.Prelude.{◌≡◌, IfOk};
 ghost use Rattle.std.specs.Option.{option_copied};
+ghost use Rattle.osi_base.specs.OctetPlaces.{HasPlaces};
 ghost use Rattle.association_reading.specs.Places.{pdv_places};
 ghost use Rattle.association_reading.specs.Values as reading;
 ghost use Rattle.association_words.specs.Seen.{seen_value, seen_values};
@@ -9,12 +10,11 @@ ghost use Rattle.association_meaning.specs.Grounds.{GivesAs};
 
 use crate::basis::{Halt, ReadingGround};
 use crate::contexts::{Carrier, check, first_wrong};
-use crate::layers::content_by;
+use crate::layer_apdus::content_by;
 use crate::names::name_carried;
 use association_reading::Carriage;
-use association_sets::pair_of;
 use association_words::{Value, Values};
-use osi_base::{Copied, ListOf, NoMemory, Pair, Pdv, SetItem};
+use osi_base::{Copied, ListOf, NoMemory, Pair, Pdv, SetItem, pair_of};
 use std::alloc::Global;
 
 /// A pair, where there is one.
@@ -85,7 +85,7 @@ pub(crate) fn values_under(
     carrier: &Carrier<'_>,
     pdvs: &[Pdv],
 ) -> Result<Values, Halt>
-    requires { carrier.now.start + length carrier.now.user.now < 2 ^ 63 }
+    requires { HasPlaces carrier.now.start carrier.now.user.now }
     ensures { GivesAs seen_values result (reading.values_under basis.now.tables.now set.now
         carried (pdv_places carrier.now.place carrier.now.start carrier.now.user.now) pdvs.now) }
 {

@@ -8,7 +8,7 @@ ghost use Rattle.association_state.specs.Seen.{base_in, seen};
 ghost use Rattle.association_reacting.specs.ActivityEnds.{is_end_word};
 ghost use Rattle.association_reacting.specs.Reacts.{ReactsAs};
 
-use association_answers::{Reaction, fails};
+use association_answers::{Reaction, fail_association};
 use association_connecting::association_fault;
 use association_place::is_in_place;
 use association_sets::copy_set;
@@ -34,7 +34,7 @@ pub fn fails_on_accepted(
         (seen_fault fault)) (seen body.old) (seen body.new)) }
 {
     let accepted = copy_set(basis.alloc, body.link.accepted.as_slice())?;
-    fails(basis, body, accepted.as_slice(), fault)
+    fail_association(basis, body, accepted.as_slice(), fault)
 }
 
 /// What is wrong above the session, of any unit but the end of an activity.

@@ -9,7 +9,7 @@ ghost use Rattle.association_reacting.specs.ActivityEnds.{is_end_word};
 ghost use Rattle.association_reacting.specs.Reacts.{ReactsAs};
 
 use crate::faults::word_fault;
-use association_answers::{Brought, Reaction, fails};
+use association_answers::{Brought, Reaction, fail_association};
 use association_connecting::{contexts_for, take_association};
 use association_sets::copy_set;
 use association_state::{Body, Ground};
@@ -59,7 +59,7 @@ fn fail_word(
         (seen body.new)) }
 {
     let accepted = contexts_of(basis, body, word)?;
-    fails(basis, body, accepted.as_slice(), fault)
+    fail_association(basis, body, accepted.as_slice(), fault)
 }
 
 /// Takes a unit, or ends the association for what is faulty in it. The unit is let go by a call.

@@ -2,7 +2,7 @@
 use Rattle.std.proofs.Common.{◌≡◌, refl, sym, ap, subst, ◌∙◌, ℕ, true, false, List, [], ◌∷◌, map, Option, Some, None, Ok, if◌then◌else◌}
 use Rattle.std.specs.Prelude.{pos, Bool, option_map, Result}
 use Rattle.osi_base.specs.declared.syntax.Pair.{Pair}
-use Rattle.osi_base.specs.declared.words.SetItem.{SetItem}
+use Rattle.osi_base.specs.declared.layer_words.SetItem.{SetItem}
 use Rattle.osi_base.specs.declared.acse_word.Acse.{Acse}
 use Rattle.osi_base.specs.declared.acse_word.Acse.TheVariants as acse
 use Rattle.osi_base.specs.declared.rtse_word.Rtse.{Rtse}
@@ -25,7 +25,7 @@ use Rattle.presentation_pdus.specs.Words.{written_ppdu}
 use Rattle.presentation_pdus.specs.Units.{ppdu_at}
 use Rattle.stub_tables.specs.declared.tables.Tables.{Tables}
 use Rattle.end_rules.specs.Base.{Base, Fault, acse_name, is_reliable}
-use Rattle.end_rules.specs.Sets.{pair_of}
+use Rattle.osi_base.specs.SetPlaces.{pair_of}
 use Rattle.end_rules.specs.State.{Body}
 use Rattle.end_rules.specs.Faults.{or_fault}
 use Rattle.end_rules.specs.Messages.{Information, Transferring, Other, ValueContent, Association, DataValue, Accepting, UserValues, ProviderReason, Word, OfAssociation, Connect, Accept, Refuse, Abort}
@@ -33,7 +33,7 @@ use Rattle.end_rules.specs.Writing.{acse_pair}
 use Rattle.end_rules.specs.Connecting.{set_for, set_accepted, has_acse}
 use Rattle.end_rules.specs.Policy.{is_faulty_proposal}
 use Rattle.association_wire.specs.Values.{with_user as user_put, external_of, pdv_of, pdvs_of}
-use Rattle.association_reading.specs.declared.carried.Carriage.TheVariants as carriage
+use Rattle.association_reading.specs.declared.layer_of_values.Carriage.TheVariants as carriage
 use Rattle.association_reading.specs.Places.{PdvPlaces, pdv_places}
 use Rattle.association_reading.specs.Contexts.{pdv_fault, first_place}
 use Rattle.association_reading.specs.Values.{without_user, externals_of, other, acse_content, with_content, value_by, before_values, unless_fault, values_under, informed, first_informed, with_user, informed_value, and_informed}

@@ -16,7 +16,7 @@ use Rattle.osi_base.specs.PdvContent.{octets_of}
 use Rattle.osi_base.specs.declared.syntax.Pair.{Pair}
 use Rattle.osi_base.specs.declared.syntax.Syntax.{Syntax}
 use Rattle.osi_base.specs.declared.syntax.Syntax.TheVariants.{Ber, Der, Packed}
-use Rattle.osi_base.specs.declared.words.SetItem.{SetItem}
+use Rattle.osi_base.specs.declared.layer_words.SetItem.{SetItem}
 use Rattle.osi_base.specs.declared.presentation_word.Pdv.{Pdv}
 use Rattle.osi_base.specs.declared.presentation_word.PresentationWord.{PresentationWord}
 use Rattle.osi_base.specs.declared.presentation_word.PresentationWord.TheVariants as ppdus
@@ -29,16 +29,16 @@ use Rattle.presentation_pdus.specs.declared.place.PpduFault.{PpduFault}
 use Rattle.presentation_pdus.specs.Words.{written_ppdu}
 use Rattle.ppdu_laws.proofs.UnitsBack.{written_ppdu_is_read}
 use Rattle.presentation_pdus.specs.Units.{ppdu_at}
-use Rattle.end_rules.specs.Base.{Base, Fault, Head}
+use Rattle.end_rules.specs.Base.{Base, Fault, HeardHead}
 use Rattle.end_rules.specs.Hearing.{syntax_of}
 use Rattle.end_wire.specs.Heads.{apdu_of}
-use Rattle.end_rules.specs.Sets.{pair_of}
+use Rattle.osi_base.specs.SetPlaces.{pair_of}
 use Rattle.end_rules.specs.Faults.{or_fault}
 use Rattle.end_rules.specs.State.{Body}
 use Rattle.end_wire.specs.Values.{content_of}
 use Rattle.end_wire.proofs.ContentLaws.{said_is, spelled_said}
-use Rattle.association_reading.specs.declared.carried.Carriage.{Carriage}
-use Rattle.association_reading.specs.declared.carried.Carriage.TheVariants as carriage
+use Rattle.association_reading.specs.declared.layer_of_values.Carriage.{Carriage}
+use Rattle.association_reading.specs.declared.layer_of_values.Carriage.TheVariants as carriage
 use Rattle.association_reading.specs.Places.{PdvPlaces, pdv_places}
 use Rattle.association_reading.specs.Contexts.{is_form, name_carried, pdv_fault, first_place, other_places, first_fault}
 use Rattle.association_reading.specs.Meaning.{on_ppdu, with_values, data_meaning, carried_by_data, typed_meaning, restart_meaning, restart_ack_meaning}
@@ -168,7 +168,7 @@ pub remote_content : RemoteIsReadBack
 remote_content tables pair apdu readable writable of_module =
     let octets : List ℕ = written_apdu tables pair.transfer apdu in
     let s = written_spelled tables readable pair.transfer apdu writable in
-    let found = ap (λ (h : Head). content_of octets (apdu_of tables h)) (spelled_said tables pair.transfer readable apdu octets s) ∙ ap (content_of octets) (said_is tables pair.transfer readable apdu s.head s.says) in
+    let found = ap (λ (h : HeardHead). content_of octets (apdu_of tables h)) (spelled_said tables pair.transfer readable apdu octets s) ∙ ap (content_of octets) (said_is tables pair.transfer readable apdu s.head s.says) in
     rw of_module (ap (λ (c : ValueContent). let x : Result ValueContent Fault = Ok c in x) found)
 
 without_none : (apdu : Acse) → user_put [] (without_user apdu) ≡ without_user apdu

@@ -1,7 +1,7 @@
 -- Openings, acceptances, refusals and aborts are read back as themselves, where their units of the presentation may be
 -- written and they carry one APDU of association control (X.226 8.2, X.227 9, X.228 7.1).
 use Rattle.std.specs.Prelude.{◌≡◌, ℕ, List, [], ◌∷◌, Bool, true, false, ◌&&◌, Option, Some, None, option_map, pos, Ok}
-use Rattle.osi_base.specs.declared.words.SetItem.{SetItem}
+use Rattle.osi_base.specs.declared.layer_words.SetItem.{SetItem}
 use Rattle.osi_base.specs.declared.acse_word.Acse.{Acse}
 use Rattle.osi_base.specs.declared.session_word.SessionConnect.{SessionConnect}
 use Rattle.osi_base.specs.declared.presentation_word.PresentationConnect.{PresentationConnect}
@@ -12,7 +12,7 @@ use Rattle.acse.specs.Written.{IsWritable as IsWritableAcse}
 use Rattle.rtse_apdus.specs.Written.{IsWritable as IsWritableRtse}
 use Rattle.presentation_pdus.specs.declared.place.PpduPlace.TheVariants as place
 use Rattle.end_rules.specs.Base.{Base, is_reliable}
-use Rattle.end_rules.specs.Sets.{pair_of}
+use Rattle.osi_base.specs.SetPlaces.{pair_of}
 use Rattle.end_rules.specs.State.{Body}
 use Rattle.end_rules.specs.Messages.{Information, Transferring, Other, Association, DataValue, Accepting, ProviderReason, UserValues, Word, OfAssociation, Connect, Accept, Refuse, Abort, unit_of}
 use Rattle.end_rules.specs.Policy.{is_faulty_proposal}

@@ -3,8 +3,8 @@ use Rattle.std.specs.Prelude.{ℕ, List, [], Bool, true, false, not, ◌&&◌, �
 use Rattle.std.specs.List.{list_any}
 use Rattle.osi_base.specs.PdvContent.{octets_of}
 use Rattle.osi_base.specs.declared.syntax.Syntax.TheVariants.{Ber}
-use Rattle.osi_base.specs.declared.words.Proposal.{Proposal}
-use Rattle.osi_base.specs.declared.words.SetItem.{SetItem}
+use Rattle.osi_base.specs.declared.layer_words.Proposal.{Proposal}
+use Rattle.osi_base.specs.declared.layer_words.SetItem.{SetItem}
 use Rattle.osi_base.specs.declared.acse_word.Acse.{Acse}
 use Rattle.osi_base.specs.declared.acse_word.Acse.TheVariants as acse
 use Rattle.osi_base.specs.declared.presentation_word.Pdv.{Pdv}
@@ -14,12 +14,13 @@ use Rattle.osi_base.specs.declared.presentation_word.PresentationReject.{Present
 use Rattle.fixed_tables.specs.declared.pdu.PduFault.{PduFault}
 use Rattle.acse.specs.Fields.{acse_at}
 use Rattle.end_rules.specs.Base.{Base, Fault, acse_name, is_reliable}
-use Rattle.end_rules.specs.Sets.{same_name, pair_of, accepted_set, fit_proposals}
+use Rattle.end_rules.specs.Sets.{same_name, accepted_set, fit_proposals}
+use Rattle.osi_base.specs.SetPlaces.{pair_of}
 use Rattle.end_rules.specs.Messages.{ValueContent, Unread, DataValue}
 use Rattle.end_rules.specs.Policy.{is_faulty_proposal}
 use Rattle.end_rules.specs.Writing.{proposals, acse_pair}
 use Rattle.end_rules.specs.Connecting.{Associated, is_request, is_accepting, set_for, set_accepted, has_acse, has_rtse}
-use Rattle.association_reading.specs.declared.carried.Carriage.TheVariants as carriage
+use Rattle.association_reading.specs.declared.layer_of_values.Carriage.TheVariants as carriage
 use Rattle.association_reading.specs.Places.{PdvPlaces}
 use Rattle.association_reading.specs.Contexts.{pdv_fault, form_fault, first_fault}
 use Rattle.association_reading.specs.Values.{associated, acse_content, with_content, value_in, all_values, unless_fault, values_under, and_informed}

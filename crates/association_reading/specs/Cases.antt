@@ -1,6 +1,6 @@
 -- Worked messages of direct mode as they are read, and faulty ones.
 use Rattle.std.specs.Prelude.{ℕ, pos, List, [], ◌∷◌, length, true, Option, Some, None, Result, Ok, Err}
-use Rattle.osi_base.specs.declared.words.SetItem.{SetItem}
+use Rattle.osi_base.specs.declared.layer_words.SetItem.{SetItem}
 use Rattle.dialogue.specs.declared.config.Mode.TheVariants.{Direct}
 use Rattle.dialogue.specs.declared.config.Phase.TheVariants.{Up}
 use Rattle.asn1_types.specs.Value.{integer}

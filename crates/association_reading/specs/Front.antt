@@ -1,8 +1,8 @@
 -- What stands first in what came, told without any set of contexts: a transport unit (X.224 13), or one unit of the
 -- session (X.225 8.3) with its user data.
 use Rattle.std.specs.Prelude.{ℕ, List, [], ◌∷◌, ◌++◌, Option, Some, None, unwrap_or, Result, Ok, Err}
-use Rattle.osi_base.specs.declared.words.Layer.{Layer}
-use Rattle.osi_base.specs.declared.words.Layer.TheVariants as layers
+use Rattle.osi_base.specs.declared.layer_words.Layer.{Layer}
+use Rattle.osi_base.specs.declared.layer_words.Layer.TheVariants as layers
 use Rattle.osi_base.specs.declared.session_word.SessionWord.{SessionWord}
 use Rattle.osi_base.specs.declared.session_word.SessionWord.TheVariants as units
 use Rattle.tpkt.specs.declared.packet.Packet.{Packet}

@@ -1,7 +1,7 @@
 -- What a unit of the session means to an end, or the fault that ends the association: its unit of the presentation
 -- protocol, then contexts and forms of values, then their APDUs (X.225 8.3, X.226 8.2 to 8.4).
 use Rattle.std.specs.Prelude.{ℕ, ℤ, pos, negsuc, ◌+◌, List, [], if◌then◌else◌, Option, Some, None, option_map, Result, Ok, Err}
-use Rattle.osi_base.specs.declared.words.Layer.TheVariants as layers
+use Rattle.osi_base.specs.declared.layer_words.Layer.TheVariants as layers
 use Rattle.osi_base.specs.declared.session_word.SessionConnect.{SessionConnect}
 use Rattle.osi_base.specs.declared.session_word.SessionWord.{SessionWord}
 use Rattle.osi_base.specs.declared.session_word.SessionWord.TheVariants as units
@@ -16,8 +16,8 @@ use Rattle.end_rules.specs.Base.{Base, Fault, is_reliable}
 use Rattle.end_rules.specs.Messages.{DataValue, Accepting, NoData, ProviderReason, UserValues, Word, OfAssociation, Connect, Accept, Refuse, Finish, Disconnect, Abort, AbortAccept, OfData, Values, AlterContext, AlterContextAck, OfMarks, Mark, MarkAck, Restart, RestartAck, Give, Please, GiveConfirm, GiveAck, OfActivities, Start, Resume, End, EndAck, Interrupt, InterruptAck, Discard, DiscardAck}
 use Rattle.end_rules.specs.State.{Body}
 use Rattle.end_rules.specs.Faults.{fault_at, invalid_ppdu}
-use Rattle.association_reading.specs.declared.carried.Carriage.{Carriage}
-use Rattle.association_reading.specs.declared.carried.Carriage.TheVariants as carriage
+use Rattle.association_reading.specs.declared.layer_of_values.Carriage.{Carriage}
+use Rattle.association_reading.specs.declared.layer_of_values.Carriage.TheVariants as carriage
 use Rattle.association_reading.specs.Places.{pdv_places}
 use Rattle.association_reading.specs.Values.{values_under}
 use Rattle.association_reading.specs.Association.{connect_values, accept_values, refuse_values, abort_values}

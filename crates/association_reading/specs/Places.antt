@@ -1,7 +1,7 @@
 -- Where the fields of presentation data values stand in the octets of a unit that carries them (X.226 8.4.2).
 use Rattle.std.specs.Prelude.{ℕ, zero, suc, ◌+◌, ◌-◌, ◌||◌, List, [], ◌∷◌, length, drop, map, unwrap_or, nat_eq, nat_le, slice_index, if◌then◌else◌}
 use Rattle.std.specs.List.{flat_map, filter}
-use Rattle.asn1_types.specs.Limits.{most_levels}
+use Rattle.osi_base.specs.Limits.{most_levels}
 use Rattle.asn1_types.specs.Whole.{behind_identifier, behind_whole, is_ended}
 use Rattle.ber_spelling.specs.Reading.{Spot}
 use Rattle.presentation_pdus.specs.declared.place.PpduPlace.{PpduPlace}

@@ -1,9 +1,9 @@
 -- What an end does with what stands first: the transport, the grammar of session units, the purge, the session, then the
 -- presentation, association control and reliable transfer.
 use Rattle.std.specs.Prelude.{ℕ, List, Bool, not, ◌||◌, if◌then◌else◌, Option, Some, None, Result, Ok, Err}
-use Rattle.osi_base.specs.declared.words.Layer.{Layer}
-use Rattle.osi_base.specs.declared.words.Layer.TheVariants as layers
-use Rattle.osi_base.specs.declared.words.SetItem.{SetItem}
+use Rattle.osi_base.specs.declared.layer_words.Layer.{Layer}
+use Rattle.osi_base.specs.declared.layer_words.Layer.TheVariants as layers
+use Rattle.osi_base.specs.declared.layer_words.SetItem.{SetItem}
 use Rattle.osi_base.specs.declared.session_word.SessionWord.{SessionWord}
 use Rattle.osi_base.specs.declared.session_word.SessionWord.TheVariants as units
 use Rattle.osi_base.specs.declared.presentation_word.PresentationWord.{PresentationWord}

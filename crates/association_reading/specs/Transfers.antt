@@ -3,18 +3,18 @@
 use Rattle.std.specs.Prelude.{ℕ, List, Option, Some, None, Result, Ok, Err}
 use Rattle.osi_base.specs.PdvContent.{octets_of}
 use Rattle.osi_base.specs.declared.syntax.Pair.{Pair}
-use Rattle.osi_base.specs.declared.words.SetItem.{SetItem}
+use Rattle.osi_base.specs.declared.layer_words.SetItem.{SetItem}
 use Rattle.osi_base.specs.declared.presentation_word.Pdv.{Pdv}
 use Rattle.fixed_tables.specs.declared.pdu.PduFault.{PduFault}
 use Rattle.rtse_apdus.specs.Transfer.{transfer_at, written_transfer}
 use Rattle.stub_tables.specs.declared.tables.Tables.{Tables}
 use Rattle.end_rules.specs.Base.{Item, Fault, Arrived, Whole, Raw, Spellings}
-use Rattle.end_rules.specs.Sets.{pair_of}
+use Rattle.osi_base.specs.SetPlaces.{pair_of}
 use Rattle.end_rules.specs.Messages.{ValueContent, Remote, Unread, Association, Plea, Part, DataValue}
 use Rattle.end_rules.specs.Faults.{acse_fault, rtse_fault}
 use Rattle.end_wire.specs.Values.{spellings_with}
 use Rattle.association_wire.specs.Values.{pdv_of}
-use Rattle.association_reading.specs.declared.carried.Carriage.TheVariants as carriage
+use Rattle.association_reading.specs.declared.layer_of_values.Carriage.TheVariants as carriage
 use Rattle.association_reading.specs.Places.{PdvPlaces, places_of, spot_at}
 use Rattle.association_reading.specs.Contexts.{invalid_at, pdv_fault}
 use Rattle.association_reading.specs.Values.{content_under}

@@ -2,7 +2,7 @@
 
 ghost use Rattle.std.specs.Prelude.{◌≡◌, [], ◌∷◌, Some, None, Ok, Err, true, false};
 ghost use Rattle.osi_base.specs.declared.syntax.Syntax.TheVariants.{Ber, Packed};
-ghost use Rattle.osi_base.specs.declared.words.Layer.TheVariants as layers;
+ghost use Rattle.osi_base.specs.declared.layer_words.Layer.TheVariants as layers;
 ghost use Rattle.dialogue.specs.declared.config.Mode.TheVariants.{Direct};
 ghost use Rattle.end_rules.specs.Messages.{Mark, Please, Restart, RestartAck, OfMarks, Session};
 ghost use Rattle.end_rules.specs.TakesTransport.{answer_to_request};

@@ -28,7 +28,7 @@ fn broken_phase(mode: Mode, phase: Phase) -> Phase
 
 /// The connection broke: nothing went over the next one, and nothing is awaited; a transfer in
 /// progress is suspended; out of reliable mode the open invocations are cut.
-pub fn broke(basis: &Ground<'_>, body: &mut Body)
+pub fn connection_broke(basis: &Ground<'_>, body: &mut Body)
     ensures { seen body.new ≡ after_broke (base_in basis.now) (seen body.old) }
 {
     suspend(body);

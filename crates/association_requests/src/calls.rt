@@ -11,7 +11,7 @@ ghost use Rattle.association_state.specs.Seen.{base_in, seen};
 ghost use Rattle.association_requests.specs.Called.{CalledAs, Makes};
 
 use crate::call_outcome::CallOutcome;
-use crate::due::due;
+use crate::messages_due::due;
 use crate::operations::{answer, invoke, refuse};
 use crate::sent::after_sent;
 use association_answers::end_association;
@@ -90,7 +90,11 @@ fn make(basis: &Ground<'_>, body: &mut Body, call: &Call) -> Result<CallOutcome,
 }
 
 /// Makes a call. A refused one changes nothing, unless memory was refused.
-pub fn call(basis: &Ground<'_>, body: &mut Body, call: &Call) -> Result<CallOutcome, CallRefusal>
+pub fn make_call(
+    basis: &Ground<'_>,
+    body: &mut Body,
+    call: &Call,
+) -> Result<CallOutcome, CallRefusal>
     ensures { CalledAs (base_in basis.now) (seen body.old) (seen body.new) call.now result }
 {
     match check_phase(basis, body, call) {

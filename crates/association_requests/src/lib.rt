@@ -5,13 +5,13 @@
 mod broken;
 mod call_outcome;
 mod calls;
-mod due;
+mod messages_due;
 mod operations;
-mod own;
+mod own_messages;
 mod sent;
 
-pub use broken::broke;
+pub use broken::connection_broke;
 pub use call_outcome::CallOutcome;
-pub use calls::call;
-pub use own::{Own, next_own};
+pub use calls::make_call;
+pub use own_messages::{OwnAct, next_own};
 pub use sent::after_sent;

@@ -20,7 +20,7 @@ ghost use Rattle.association_requests.specs.Called.{Makes, sent_by};
 use crate::call_outcome::CallOutcome;
 use asn1_types::Val;
 use association_calls::{Making, carrier_in, check_answer, check_invoke, check_refuse};
-use association_hearing::{data_on, queueing};
+use association_hearing::{data_on, queue_apdu};
 use association_state::{Body, Ground};
 use association_words::Message;
 use dialogue::{CallRefusal, Mode};
@@ -60,7 +60,7 @@ fn hand_in(
 {
     match basis.config.mode {
         Mode::Reliable => {
-            queueing(body, context, apdu)?;
+            queue_apdu(body, context, apdu)?;
             Ok(None)
         }
         Mode::Direct => at_once(basis, body, carrier, apdu),

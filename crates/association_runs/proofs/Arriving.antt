@@ -1,8 +1,8 @@
 -- Each transfer of a run arrives whole.
 use Rattle.std.proofs.Common.{◌≡◌, refl, ◌∙◌, sym, ap, subst, List, [], ◌∷◌, map, true, false, Ok}
 use Rattle.std.specs.Prelude.{Bool, Some}
-use Rattle.osi_base.specs.declared.words.Side.{Side}
-use Rattle.osi_base.specs.declared.words.Side.TheVariants.{A, B}
+use Rattle.osi_base.specs.declared.layer_words.Side.{Side}
+use Rattle.osi_base.specs.declared.layer_words.Side.TheVariants.{A, B}
 use Rattle.dialogue.specs.declared.indication.Indication.{Indication}
 use Rattle.end_rules.specs.Messages.{Message, Session, OfActivities, End}
 use Rattle.end_rules.specs.State.{Body}

@@ -1,6 +1,6 @@
 -- No step of a run is a fault or an abort of an end by itself.
 use Rattle.std.proofs.Common.{List, [], ◌∷◌, map, Ok}
-use Rattle.osi_base.specs.declared.words.Side.{Side}
+use Rattle.osi_base.specs.declared.layer_words.Side.{Side}
 use Rattle.end_rules.specs.Messages.{Message}
 use Rattle.end_rules.specs.Requesting.{due_of}
 use Rattle.end_rules.specs.ByItself.{OwnAct, SendsNow, EncodesOn}

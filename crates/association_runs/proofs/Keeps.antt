@@ -1,7 +1,7 @@
 -- What else is kept between moments and messages, whatever it is, where each kind of step keeps it.
 use Rattle.std.proofs.Common.{◌≡◌, List, [], ◌∷◌, map, Ok, Err}
 use Rattle.std.specs.Prelude.{Option, Some, ℤ}
-use Rattle.osi_base.specs.declared.words.Side.TheVariants.{A, B}
+use Rattle.osi_base.specs.declared.layer_words.Side.TheVariants.{A, B}
 use Rattle.dialogue.specs.declared.call.Call.{Call}
 use Rattle.dialogue.specs.declared.indication.Indication.{Indication}
 use Rattle.end_rules.specs.Messages.{Message}

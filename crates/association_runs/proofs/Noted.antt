@@ -2,9 +2,9 @@
 use Rattle.std.proofs.Common.{◌≡◌, refl, true, false, ◌∙◌, sym, ap, subst, ℕ, List, [], ◌∷◌, ◌++◌, map, inl, inr, ◌⊎◌}
 use Rattle.std.specs.Prelude.{ℤ, Bool, not, ◌&&◌, Option, Some, None, is_some, if◌then◌else◌}
 use Rattle.asn1_types.specs.declared.value.Val.{Val}
-use Rattle.osi_base.specs.declared.words.Answers.{Answers}
-use Rattle.osi_base.specs.declared.words.Problem.{Problem}
-use Rattle.osi_base.specs.declared.words.ProblemKind.TheVariants as problems
+use Rattle.osi_base.specs.declared.layer_words.Answers.{Answers}
+use Rattle.osi_base.specs.declared.layer_words.Problem.{Problem}
+use Rattle.osi_base.specs.declared.layer_words.ProblemKind.TheVariants as problems
 use Rattle.stub_tables.specs.declared.tables.Tables.{Tables}
 use Rattle.stub_tables.specs.declared.operation.Code.{Code}
 use Rattle.stub_tables.specs.declared.operation.Use.{Use}
@@ -20,7 +20,7 @@ use Rattle.dialogue.specs.declared.config.Mode.{Mode}
 use Rattle.dialogue.specs.declared.config.Mode.TheVariants.{Bare, Direct, Reliable}
 use Rattle.dialogue.specs.declared.indication.Indication.{Indication}
 use Rattle.dialogue.specs.declared.indication.Indication.TheVariants as indications
-use Rattle.end_rules.specs.Base.{Base, Head, is_reliable}
+use Rattle.end_rules.specs.Base.{Base, HeardHead, is_reliable}
 use Rattle.end_rules.specs.Sets.{Alteration}
 use Rattle.end_rules.specs.Messages.{ValueContent, Remote, DataValue, Message, Transport, Session, Word, OfAssociation, OfData, OfMarks, OfActivities, TransportUnit, ConnectionRequest, ConnectionConfirm, DisconnectRequest, TransportError}
 use Rattle.end_rules.specs.Messages.{AssociationWord, Connect, Accept, Refuse, Finish, Disconnect, Abort, AbortAccept, Values, AlterContext, AlterContextAck}
@@ -430,7 +430,7 @@ module _ (base : Base) (own made : List Invocation) (given : List ToldOutcome) w
   value-noted : (asked : List Asked) (body : Body) (value : DataValue) (before : List Indication) → AreMade base.tables own asked → Once base.tables asked body.calls before → HoldsOurs base.tables made given value.content → AreNoted base.tables own made given (take_head base body value.id (head_of base value)).shown
   value-noted asked body value before m once h =
       let says_so : head_of base value ≡ head_of_apdu h.apdu = ap (λ (c : ValueContent). head_of base (record { id = value.id; pair = value.pair; content = c })) h.is_it in
-      subst (λ (head : Head). AreNoted base.tables own made given (take_head base body value.id head).shown) (sym says_so)
+      subst (λ (head : HeardHead). AreNoted base.tables own made given (take_head base body value.id head).shown) (sym says_so)
       (let heard = hear base body.calls value.id (head_of_apdu h.apdu) in
       let with_it = with_reject base (record body { calls = heard.calls }) value.id heard.reject in
       noted-append base.tables own made given heard.shown with_it.shown (apdu-noted asked m body.calls before once value.id h.apdu h.is_ours)

@@ -2,8 +2,8 @@
 use Rattle.std.proofs.Common.{◌≡◌, refl, subst, ℕ, List, [], ◌∷◌, length, true, false, None, Ok, Err}
 use Rattle.std.specs.Prelude.{Bool, not, ◌&&◌, nat_lt, nat_le, Option, Some, is_some, ℤ, if◌then◌else◌}
 use Rattle.asn1_types.specs.declared.value.Val.{Val}
-use Rattle.osi_base.specs.declared.words.Proposal.{Proposal}
-use Rattle.osi_base.specs.Limits.{most_marks, last_invocation}
+use Rattle.osi_base.specs.declared.layer_words.Proposal.{Proposal}
+use Rattle.osi_base.specs.Limits.{most_marks, last_invocation, most_open, most_alterations}
 use Rattle.stub_tables.specs.declared.operation.Operation.{Operation}
 use Rattle.stub_tables.specs.declared.operation.ErrorRow.{ErrorRow}
 use Rattle.stub_tables.specs.declared.apdu.Apdu.{Apdu}
@@ -14,8 +14,9 @@ use Rattle.dialogue.specs.declared.call.Call.{Call}
 use Rattle.dialogue.specs.declared.call.Call.TheVariants as the_calls
 use Rattle.dialogue.specs.declared.call.CallRefusal.{CallRefusal}
 use Rattle.dialogue.specs.declared.call.CallRefusal.TheVariants as refusals
-use Rattle.end_rules.specs.Base.{Base, is_bare, is_direct, is_reliable, most_open, most_alterations}
-use Rattle.end_rules.specs.Sets.{Alteration, next_number, is_deleted_in, is_named_in, has_parity, pair_of, is_fixed, is_among}
+use Rattle.end_rules.specs.Base.{Base, is_bare, is_direct, is_reliable}
+use Rattle.end_rules.specs.Sets.{Alteration, next_number, is_deleted_in, is_named_in, has_parity, is_fixed, is_among}
+use Rattle.osi_base.specs.SetPlaces.{pair_of}
 use Rattle.end_rules.specs.State.{Body, OpenCall, is_free, is_none, is_empty, is_current, is_ending, is_suspended, opened_with, opens_of}
 use Rattle.end_rules.specs.Units.{has_marks, has_restarts, has_token}
 use Rattle.end_rules.specs.Invoking.{Reply, invoke_apdu, result_apdu, error_apdu, is_stopped, is_queue_full, is_on_module, is_too_long, next_id, is_linked_to, link_refusal, linking_refusal, can_send_invoke, unless_refused, can_invoke_operation, lacks_carrier, can_send_outcome, can_answer_open, operation_of, can_refuse_open}

@@ -1,6 +1,6 @@
 -- Events have one run.
 use Rattle.std.proofs.Common.{◌≡◌, refl, sym, ap, subst, List, [], ◌∷◌, length}
-use Rattle.osi_base.specs.declared.words.Side.TheVariants.{A, B}
+use Rattle.osi_base.specs.declared.layer_words.Side.TheVariants.{A, B}
 use Rattle.dialogue.specs.declared.event.Event.{Event}
 use Rattle.dialogue.specs.declared.event.Entry.{Entry}
 use Rattle.dialogue.specs.declared.event.Entry.TheVariants as entries

@@ -1,7 +1,7 @@
 -- What the end of a transfer brings, at each moment at which it is taken: the item that the other end started as the activity of that
 -- number, as it was encoded last (X.228 7.3; the numbers are this project's own rule).
 use Rattle.std.specs.Prelude.{◌≡◌, [], ◌∷◌, Bool, true, false, Some, Ok}
-use Rattle.osi_base.specs.declared.words.Side.{Side}
+use Rattle.osi_base.specs.declared.layer_words.Side.{Side}
 use Rattle.end_rules.specs.Base.{Item, Whole}
 use Rattle.end_rules.specs.Messages.{Session, OfActivities, End}
 use Rattle.end_rules.specs.TakesActivities.{arrived_now}

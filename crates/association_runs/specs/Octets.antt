@@ -1,6 +1,6 @@
 -- Nothing whole waits: an end that isn't over took each message whose last octet was given to it, and no other.
 use Rattle.std.specs.Prelude.{◌≡◌, ℕ, suc, ◌+◌, ◌-◌, nat_le, List, [], ◌∷◌, ◌++◌, map, length, false, if◌then◌else◌, Some}
-use Rattle.osi_base.specs.declared.words.Side.{Side}
+use Rattle.osi_base.specs.declared.layer_words.Side.{Side}
 use Rattle.end_rules.specs.State.{passes_over}
 use Rattle.end_rules.specs.History.{Step, gave, broke}
 use Rattle.end_rules.specs.World.{World, Ends, base_at, is_side, other}

@@ -2,17 +2,16 @@
 
 ghost use Rattle.std.specs.Prelude.{◌≡◌, IfOk};
 ghost use Rattle.std.specs.Option.{option_copied};
-ghost use Rattle.end_rules.specs.Sets.{pair_of};
+ghost use Rattle.osi_base.specs.SetPlaces.{pair_of};
 ghost use Rattle.end_rules.specs.Writing.{give_message, rtse_value, please_message, part_message};
 ghost use Rattle.association_words.specs.Seen.{seen_message, seen_value, seen_content};
 ghost use Rattle.association_state.specs.Seen.{seen};
 
 use crate::values::rtse_context;
-use association_sets::pair_of;
 use association_state::Body;
 use association_words::{DataWord, MarkWord, Message, Value, ValueContent, Values, Word};
 use dialogue::Mode;
-use osi_base::{Copied, ListOf, NoMemory, Octets, Pair, SetItem};
+use osi_base::{Copied, ListOf, NoMemory, Octets, Pair, SetItem, pair_of};
 use std::alloc::Global;
 
 /// GT with the minor token, GTC of all tokens.

@@ -4,11 +4,11 @@ ghost use Rattle.std.specs.Prelude.{◌≡◌, ◌++◌, IfOk, OnOk, [], ◌∷�
 ghost use Rattle.end_rules.specs.Sets.{proposed_ids, named_ids, accepted_pair, named_syntax, pair_accepted, put_accepted, with_added, with_deleted, altered, accepted_set};
 
 use crate::alteration::Alteration;
-use crate::sets::{put_context, without_context};
+use crate::sets::put_context;
 use association_ground::syntax_named;
 use osi_base::{
     AddAnswer, Answers, Copied, Ids, ListOf, NoMemory, Oid, Pair, Proposal, SetItem, SetList,
-    Syntax,
+    Syntax, remove_context,
 };
 use std::alloc::Global;
 
@@ -112,7 +112,7 @@ fn delete_accepted(set: &mut Vec<SetItem>, id: u32, answer: u8)
     ensures { set.new.items ≡ with_deleted (id ∷ []) (answer ∷ []) set.old.items }
 {
     if answer == 0 {
-        without_context(set, id);
+        remove_context(set, id);
     }
 }
 
@@ -130,7 +130,7 @@ fn delete(set: &mut Vec<SetItem>, ids: &[u32], answers: &[u8])
 }
 
 /// Alters a set as was asked for and answered: additions first.
-pub fn alter(
+pub fn alter_set(
     alloc: Global,
     set: SetList,
     alteration: &Alteration,

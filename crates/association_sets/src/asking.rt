@@ -2,9 +2,9 @@
 
 ghost use Rattle.std.specs.Prelude.{◌≡◌, IfOk, min, ◌||◌, length, nat_eq, ◌+◌};
 ghost use Rattle.std.specs.List.{list_any};
+ghost use Rattle.osi_base.specs.Limits.{most_contexts};
 ghost use Rattle.end_rules.specs.Sets.{is_named_in, is_deleted_in, is_among, named_ids, proposed_ids, count_added, has_parity};
 ghost use Rattle.end_rules.specs.Altering.{has_double, is_no_context, has_bad_transfers, is_bad};
-ghost use Rattle.end_rules.specs.Base.{most_contexts};
 
 use crate::alteration::Alteration;
 use crate::altering::named_ids;
@@ -139,7 +139,7 @@ fn is_badly_offered(add: &[Proposal]) -> bool
 
 /// Whether nothing is asked for, an identifier comes twice or is none, or an addition offers no or
 /// too many transfer syntaxes.
-pub fn is_bad(alloc: Global, alteration: &Alteration) -> Result<bool, NoMemory>
+pub fn is_bad_alteration(alloc: Global, alteration: &Alteration) -> Result<bool, NoMemory>
     ensures { IfOk result (λ bad. bad ≡ is_bad alteration.now) }
 {
     let ids = named_ids(alloc, alteration)?;

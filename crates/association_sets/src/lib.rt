@@ -9,13 +9,12 @@ mod restored;
 mod sets;
 
 pub use alteration::Alteration;
-pub use altering::{accepted_set, alter, named_ids, proposed_ids};
+pub use altering::{accepted_set, alter_set, named_ids, proposed_ids};
 pub use asking::{
-    count_added, has_double, has_parity, is_bad, is_deleted_in, is_named_in, is_proposed,
+    count_added, has_double, has_parity, is_bad_alteration, is_deleted_in, is_named_in, is_proposed,
 };
 pub use fitting::{fit_alteration, fit_proposals, is_listed};
-pub use restored::{listed, same_lists};
+pub use restored::{restored_list, same_lists};
 pub use sets::{
-    carrier, copy_set, has_abstract, has_name, is_fixed, lowest_with, may_send, pair_of,
-    put_context, without_context,
+    carrier, copy_set, has_abstract, has_name, is_fixed, lowest_with, may_send, put_context,
 };

@@ -18,7 +18,7 @@ fn listed_item(alloc: Global, item: &SetItem) -> Result<RestoredItem, NoMemory>
 }
 
 /// A set as a restart carries it: identifiers with their transfer syntaxes.
-pub fn listed(alloc: Global, set: &[SetItem]) -> Result<RestoredList, NoMemory>
+pub fn restored_list(alloc: Global, set: &[SetItem]) -> Result<RestoredList, NoMemory>
     ensures { IfOk result (λ list. list ≡ listed set.now) }
 {
     let mut list = ListOf::new(alloc);

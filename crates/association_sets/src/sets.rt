@@ -2,25 +2,13 @@
 
 ghost use Rattle.std.specs.Prelude.{◌≡◌, IfOk, OnOk, is_some};
 ghost use Rattle.std.specs.Option.{option_copied};
-ghost use Rattle.end_rules.specs.Sets.{pair_of, put, without_context, may_send, has_abstract, lowest_with, carrier, same_name, is_fixed};
+ghost use Rattle.end_rules.specs.Sets.{put, may_send, has_abstract, lowest_with, carrier, same_name, is_fixed};
 
 use crate::alteration::Alteration;
 use crate::asking::is_deleted_in;
 use association_ground::{is_acse, is_rtse, same_name};
-use osi_base::{Copied, ListOf, NoMemory, Pair, SetItem, SetList, place_of};
+use osi_base::{Copied, ListOf, NoMemory, Pair, SetItem, SetList, pair_of, place_of};
 use std::alloc::Global;
-
-/// The pair that the set gives an identifier (X.216 3.3.15).
-pub fn pair_of(items: &[SetItem], id: u32) -> Option<&Pair>
-    ensures { option_copied result ≡ pair_of items.now id }
-{
-    for item in items {
-        if item.id == id {
-            return Some(&item.pair);
-        }
-    }
-    None
-}
 
 /// Puts a context into a set, in the place of one with its identifier.
 pub fn put_context(items: &mut Vec<SetItem>, id: u32, pair: Pair) -> Result<(), NoMemory>
@@ -37,13 +25,6 @@ pub fn put_context(items: &mut Vec<SetItem>, id: u32, pair: Pair) -> Result<(), 
             Ok(())
         }
     }
-}
-
-/// Takes the context with this identifier out of a set.
-pub fn without_context(items: &mut Vec<SetItem>, id: u32)
-    ensures { items.new.items ≡ without_context id items.old.items }
-{
-    items.retain(|item| item.id != id);
 }
 
 /// Whether the pair has this abstract syntax.

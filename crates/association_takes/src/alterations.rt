@@ -10,9 +10,9 @@ ghost use Rattle.association_words.specs.Seen.{seen_fault};
 ghost use Rattle.association_state.specs.Seen.{base_in, seen};
 ghost use Rattle.association_answers.specs.Reacted.{TakenAs};
 
-use association_answers::{Brought, policy, with_indication, with_nothing};
+use association_answers::{Brought, alteration_answers, with_indication, with_nothing};
 use association_ground::is_reliable;
-use association_sets::{Alteration, alter, fit_alteration, proposed_ids};
+use association_sets::{Alteration, alter_set, fit_alteration, proposed_ids};
 use association_state::{Body, Ground, take_oldest};
 use association_words::{DataWord, Fault, Message, Word};
 use dialogue::Indication;
@@ -75,7 +75,7 @@ fn altered_set(
     ensures { IfOk result (λ set. set ≡ altered asked.now answers.now (seen body.now).sets.held) }
 {
     let held = body.sets.held.copy(basis.alloc)?;
-    alter(basis.alloc, held, asked, answers)
+    alter_set(basis.alloc, held, asked, answers)
 }
 
 /// What is told of an alteration that was taken.
@@ -139,7 +139,7 @@ pub fn take_alter(
         add delete))) }
 {
     let asked = Alteration::new(add, delete);
-    let answers = policy(basis, body, &asked)?;
+    let answers = alteration_answers(basis, body, &asked)?;
     let held = altered_set(basis, body, &asked, &answers)?;
     let taken = alter_answered(basis, &asked, answers)?;
     body.sets.held = held;

@@ -15,7 +15,7 @@ use crate::parts::has_associated;
 use association_answers::{
     Brought, push_cuts, push_losses, with_answer, with_indication, with_nothing,
 };
-use association_sets::{copy_set, listed, same_lists};
+use association_sets::{copy_set, restored_list, same_lists};
 use association_state::{Awaited, Body, Ground};
 use association_words::{Fault, MarkWord, Message, Value, ValueContent, Word};
 use dialogue::{Indication, Indications, Mode};
@@ -106,7 +106,7 @@ fn list_fault(
         return Ok(None);
     };
     let kept = body.saved.set_below(n);
-    let restored = listed(basis.alloc, kept)?;
+    let restored = restored_list(basis.alloc, kept)?;
     if same_lists(list.as_slice(), restored.as_slice()) {
         return Ok(None);
     }
@@ -213,7 +213,7 @@ fn restart_answer(basis: &Ground<'_>, body: &Body, n: u32) -> Result<Message, No
 {
     Ok(Message::Session(Word::OfMarks(MarkWord::RestartAck {
         number: n,
-        list: Some(listed(basis.alloc, body.saved.set_below(n))?),
+        list: Some(restored_list(basis.alloc, body.saved.set_below(n))?),
     })))
 }
 

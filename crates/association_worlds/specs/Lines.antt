@@ -1,6 +1,6 @@
 -- An end of an association with its line: the octets that wait to be given out, and what came and isn't reacted to yet.
 use Rattle.std.specs.Prelude.{ℕ, ◌≤◌, List, [], ◌∷◌, ◌++◌, Option, Some, None}
-use Rattle.tpkt.specs.Wire.{unit_least, unit_most}
+use Rattle.osi_base.specs.Limits.{unit_least, unit_most}
 use Rattle.stub_tables.specs.declared.tables.Tables.{Tables}
 use Rattle.end_rules.specs.Base.{Base}
 use Rattle.end_rules.specs.Messages.{Message}

@@ -3,9 +3,9 @@
 #![tactic(auto)]
 
 mod message;
+mod presentation_units;
 mod session;
 mod transport;
-mod units;
 mod values;
 
 pub use message::{write_message, write_tsdu_of};

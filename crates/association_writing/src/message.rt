@@ -1,14 +1,14 @@
 //! Messages in octets.
 
 ghost use Rattle.std.specs.Prelude.{◌≡◌, ◌≤◌, IfOk};
-ghost use Rattle.tpkt.specs.Wire.{unit_least, unit_most};
+ghost use Rattle.osi_base.specs.Limits.{unit_least, unit_most};
 ghost use Rattle.association_words.specs.Seen.{seen_word, seen_message};
 ghost use Rattle.association_wire.specs.Written.{tsdu_of, written};
 ghost use Rattle.association_writing.specs.Room.{MayStand};
 
+use crate::presentation_units::user_octets;
 use crate::session::session_units;
 use crate::transport::written_unit;
-use crate::units::user_octets;
 use association_codecs::Codecs;
 use association_words::{Message, Word};
 use osi_base::{NoMemory, Octets};

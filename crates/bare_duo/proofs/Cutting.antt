@@ -2,7 +2,7 @@
 use Rattle.std.proofs.Common.{◌≡◌, ℕ, ◌≤◌, Bool, true, false, List, [], ◌∷◌, ◌++◌, map, length, take, Ok, refl, sym, ap, subst, ◌∙◌, arith, append_assoc}
 use Rattle.std.specs.Prelude.{Option, Some, None, if◌then◌else◌}
 use Rattle.std.proofs.lemmas.List.{append-nil, take-append-le, drop-append-le}
-use Rattle.osi_base.specs.declared.words.Layer.TheVariants.{Rose}
+use Rattle.osi_base.specs.declared.layer_words.Layer.TheVariants.{Rose}
 use Rattle.asn1_types.specs.Value.{Value}
 use Rattle.ber_spelling.specs.Fields.{identifier_at}
 use Rattle.ber_spelling.specs.Reading.{Reading}
@@ -21,7 +21,7 @@ use Rattle.end_rules.specs.Messages.{Message, ValueContent, DataValue}
 use Rattle.end_rules.specs.State.{Body, Link, passes_over}
 use Rattle.end_rules.specs.Invoking.{carrier_in}
 use Rattle.end_rules.specs.Hearing.{Rejecting, Heard, hear, head_of, with_reject, sent_on, syntax_of}
-use Rattle.end_rules.specs.Sets.{pair_of}
+use Rattle.osi_base.specs.SetPlaces.{pair_of}
 use Rattle.end_rules.specs.History.{Step, fed, took, answered, fault, feed_end, after_taken}
 use Rattle.end_wire.specs.Values.{IsContent}
 use Rattle.end_wire.specs.Bare.{Whole, first_of, first_at, front, behind, bare_base, bare_value, bare_message}

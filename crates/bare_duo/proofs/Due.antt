@@ -1,11 +1,11 @@
 -- What an accepted call sends in bare mode, and that a refusal changes nothing.
 use Rattle.std.proofs.Common.{◌≡◌, refl, true, false, ◌∙◌, sym, ap, subst, ℕ, nat_eq, eqb-true, List, [], ◌∷◌, ◌++◌, if◌then◌else◌}
 use Rattle.std.specs.Prelude.{ℤ, Bool, not, ◌&&◌, Option, Some, None, Ok, Err, nat_le, length}
-use Rattle.osi_base.specs.declared.words.Problem.{Problem}
-use Rattle.osi_base.specs.declared.words.SetItem.{SetItem}
+use Rattle.osi_base.specs.declared.layer_words.Problem.{Problem}
+use Rattle.osi_base.specs.declared.layer_words.SetItem.{SetItem}
 use Rattle.osi_base.specs.declared.syntax.Pair.{Pair}
 use Rattle.osi_base.specs.declared.syntax.Syntax.TheVariants.{Ber}
-use Rattle.osi_base.specs.Limits.{last_invocation}
+use Rattle.osi_base.specs.Limits.{last_invocation, most_open}
 use Rattle.asn1_types.specs.declared.value.Val.{Val}
 use Rattle.stub_tables.specs.declared.tables.Tables.{Tables}
 use Rattle.stub_tables.specs.declared.operation.Operation.{Operation}
@@ -21,8 +21,9 @@ use Rattle.dialogue.specs.declared.call.Call.{Call}
 use Rattle.dialogue.specs.declared.call.Call.TheVariants as the_calls
 use Rattle.dialogue.specs.declared.call.CallRefusal.{CallRefusal}
 use Rattle.dialogue.specs.declared.call.CallRefusal.TheVariants as refusals
-use Rattle.end_rules.specs.Base.{Base, is_bare, most_open}
-use Rattle.end_rules.specs.Sets.{pair_of, is_deleted_in}
+use Rattle.end_rules.specs.Base.{Base, is_bare}
+use Rattle.end_rules.specs.Sets.{is_deleted_in}
+use Rattle.osi_base.specs.SetPlaces.{pair_of}
 use Rattle.end_rules.specs.Messages.{Message, DataValue, Session, OfData, Values, Remote}
 use Rattle.end_rules.specs.State.{Body, OpenCall, bare_set, opened_with, opens_of}
 use Rattle.end_rules.specs.Invoking.{Reply, is_too_long, invoke_apdu, result_apdu, error_apdu, is_stopped, is_on_module, linking_refusal, link_refusal, is_linked_to, can_send_invoke, can_invoke_operation, unless_refused, carrier_in, can_send_outcome, lacks_carrier, is_queue_full, can_answer_open, can_refuse_open, operation_of, next_id}

@@ -5,7 +5,7 @@ use Rattle.std.proofs.lemmas.List.{append-nil}
 use Rattle.std.proofs.lemmas.Grind.{flat_map-append}
 use Rattle.std.specs.Prelude.{ℤ, Bool, not, ◌&&◌, Option, Some, Ok, Err}
 use Rattle.stub_tables.specs.declared.tables.Tables.{Tables}
-use Rattle.osi_base.specs.declared.words.Problem.{Problem}
+use Rattle.osi_base.specs.declared.layer_words.Problem.{Problem}
 use Rattle.stub_tables.specs.declared.apdu.Apdu.{Apdu}
 use Rattle.stub_tables.specs.declared.apdu.Apdu.TheVariants as apdus
 use Rattle.stub_tables.specs.Readable.{IsReadable}
@@ -18,7 +18,7 @@ use Rattle.dialogue.specs.declared.call.Call.{Call}
 use Rattle.dialogue.specs.declared.call.CallRefusal.{CallRefusal}
 use Rattle.dialogue.specs.declared.indication.Indication.{Indication}
 use Rattle.end_rules.specs.Base.{Base, is_bare}
-use Rattle.end_rules.specs.Sets.{pair_of}
+use Rattle.osi_base.specs.SetPlaces.{pair_of}
 use Rattle.end_rules.specs.Messages.{Message, Word, OfData, Values, ValueContent, Remote}
 use Rattle.end_rules.specs.State.{Body, bare_set, passes_over}
 use Rattle.dialogue.specs.declared.call.Call.TheVariants as the_calls
@@ -26,7 +26,7 @@ use Rattle.end_rules.specs.Invoking.{Reply}
 use Rattle.end_rules.specs.Calling.{can_call, is_phase_for, is_of_bare_mode}
 use Rattle.end_rules.specs.Requesting.{after_call, after_sent, after_refused, due_of}
 use Rattle.end_rules.specs.Hearing.{Heard, hear, head_of_apdu, syntax_of}
-use Rattle.osi_base.specs.declared.words.SetItem.{SetItem}
+use Rattle.osi_base.specs.declared.layer_words.SetItem.{SetItem}
 use Rattle.end_rules.specs.Reacting.{Passes, Takes, react, after_word, answers_to_word, shown_of_word}
 use Rattle.end_rules.specs.History.{Step, called, sent, fed, took, feed_end, gave, broke, after_broke, after_taken, broken_phase}
 use Rattle.end_wire.specs.Bare.{Short, Whole, first_at, front, behind, bare_message, written}

@@ -1,5 +1,6 @@
 -- What may be taken while invocations are open (X.880 8.2 to 8.4).
 use Rattle.std.specs.Prelude.{◌≡◌, ℕ, ℤ, [], ◌∷◌, length, Bool, true, false, not, ◌&&◌, ◌||◌, nat_lt, is_some, Option, Some, None}
+use Rattle.osi_base.specs.Limits.{most_open}
 use Rattle.asn1_types.specs.declared.value.Val.{Val}
 use Rattle.stub_tables.specs.declared.tables.Tables.{Tables}
 use Rattle.stub_tables.specs.declared.operation.Operation.{Operation}
@@ -14,7 +15,6 @@ use Rattle.end_rules.specs.Invoking.{is_linked_to}
 use Rattle.end_rules.specs.Hearing.{is_place}
 use Rattle.end_rules.specs.History.{Step, called, sent, encoded, fed, took, answered, passed, fault, aborted, feed_end, gave, broke}
 use Rattle.end_rules.specs.World.{World, Ends}
-use Rattle.end_rules.specs.Base.{most_open}
 use Rattle.bare_duo.specs.Shows.{apdu_in}
 use Rattle.bare_duo.specs.Worlds.{end_at}
 use Rattle.run_laws.specs.Outcomes.{has_result, has_error}

@@ -1,7 +1,7 @@
 -- Worked rows: what the definitions compute of a transcript, of what comes, and of messages one behind the other.
 use Rattle.std.specs.Prelude.{ℕ, ℤ, pos, List, [], ◌∷◌, true, false, Option, Some, None, Ok}
-use Rattle.osi_base.specs.declared.words.Side.TheVariants.{A, B}
-use Rattle.osi_base.specs.declared.words.ProblemKind.TheVariants as problems
+use Rattle.osi_base.specs.declared.layer_words.Side.TheVariants.{A, B}
+use Rattle.osi_base.specs.declared.layer_words.ProblemKind.TheVariants as problems
 use Rattle.stub_tables.specs.declared.apdu.Apdu.{Apdu}
 use Rattle.stub_tables.specs.declared.apdu.Apdu.TheVariants as apdus
 use Rattle.stub_tables.specs.declared.operation.Code.TheVariants.{Local}

@@ -1,6 +1,6 @@
 -- The laws of every run of two ends in bare mode.
 use Rattle.std.specs.Prelude.{◌≡◌, List, [], ◌∷◌, false}
-use Rattle.osi_base.specs.declared.words.Side.{Side}
+use Rattle.osi_base.specs.declared.layer_words.Side.{Side}
 use Rattle.stub_tables.specs.declared.tables.Tables.{Tables}
 use Rattle.stub_tables.specs.Readable.{IsReadable}
 use Rattle.dialogue.specs.declared.setup.Setup.{Setup}

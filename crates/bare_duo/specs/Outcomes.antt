@@ -2,7 +2,7 @@
 -- what the other end invoked and answered.
 use Rattle.std.specs.Prelude.{◌≡◌, ℕ, ◌+◌, pos, List, [], ◌∷◌, flat_map}
 use Rattle.std.specs.List.{AllByRecursion}
-use Rattle.osi_base.specs.declared.words.Side.{Side}
+use Rattle.osi_base.specs.declared.layer_words.Side.{Side}
 use Rattle.stub_tables.specs.declared.tables.Tables.{Tables}
 use Rattle.dialogue.specs.declared.event.Entry.{Entry}
 use Rattle.dialogue.specs.declared.indication.Indication.{Indication}

@@ -1,6 +1,6 @@
 -- What two ends of a run send, take and are shown.
 use Rattle.std.specs.Prelude.{◌≡◌, List, [], ◌∷◌, ◌++◌, map, if◌then◌else◌, Option}
-use Rattle.osi_base.specs.declared.words.Side.{Side}
+use Rattle.osi_base.specs.declared.layer_words.Side.{Side}
 use Rattle.osi_base.specs.declared.syntax.Pair.{Pair}
 use Rattle.stub_tables.specs.declared.tables.Tables.{Tables}
 use Rattle.dialogue.specs.declared.event.Entry.{Entry}

@@ -1,7 +1,7 @@
 //! The worked rows: each is a contract of a function with an empty body.
 
 ghost use Rattle.std.specs.Prelude.{◌≡◌, [], ◌∷◌, Some, None, pos, true, false};
-ghost use Rattle.osi_base.specs.declared.words.Side.TheVariants.{A, B};
+ghost use Rattle.osi_base.specs.declared.layer_words.Side.TheVariants.{A, B};
 ghost use Rattle.end_rules.specs.Cases.{calc};
 ghost use Rattle.bare_duo.specs.Allowed.{may_take};
 ghost use Rattle.bare_duo.specs.Carrying.{whole_within};

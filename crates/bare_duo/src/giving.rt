@@ -1,6 +1,7 @@
 //! Octets that an end gives out.
 
 ghost use Rattle.std.specs.Prelude.{◌≡◌, ◌++◌, ◌∷◌, [], min, length, take, IfOk};
+ghost use Rattle.osi_base.specs.Limits.{most_given};
 ghost use Rattle.bare_duo.specs.Steps.{given_out};
 ghost use Rattle.bare_duo.specs.Worlds.{first_octets};
 
@@ -13,7 +14,8 @@ const BLOCK: usize = 256;
 
 /// Gives out at most so many octets, but not more than a block, and answers how many.
 fn give_block(end: &mut End<'_>, octets: &mut Octets, most: usize) -> Result<usize, NoMemory>
-    ensures count { IfOk result (λ count. count ≡ min (min most 256) (length end.old.waiting)) }
+    ensures count { IfOk result (λ count. count
+        ≡ min (min most most_given) (length end.old.waiting)) }
     ensures octets { IfOk result (λ count. octets.new ≡ octets.old ++ take count end.old.waiting) }
     ensures end { IfOk result (λ count. end.new ≡ given_out count end.old) }
 {

@@ -8,7 +8,7 @@ use Rattle.apdu_spelling.specs.declared.head.ApduHead.{ApduHead}
 use Rattle.apdu_codec.specs.declared.fault.HeadFault.{HeadFault}
 use Rattle.apdu_codec.specs.declared.fault.HeadFault.TheVariants as fault
 use Rattle.apdu_codec.specs.HeadsRead.{HasFields, HasNone, IsRefused}
-use Rattle.rose_roles.specs.declared.taken.RoseTaken as roses
+use Rattle.rose_roles.specs.declared.apdu_taken.RoseTaken as roses
 use Rattle.rose_roles.specs.Hearing.{heard_with, refused_as}
 use Rattle.end_rules.specs.State.{Calls}
 use Rattle.end_rules.specs.Hearing.{hear}

@@ -21,7 +21,7 @@ use Rattle.apdu_codec.specs.declared.fault.HeadFault.TheVariants as fault
 use Rattle.apdu_codec.specs.Refusals.{refusal_of}
 use Rattle.apdu_codec.specs.HeadsRead.{HasFields, HasNone}
 use Rattle.rose_roles.specs.Heads.{Carries, HeadCarries, said_by}
-use Rattle.end_rules.specs.Base.{Carried, Absent, Spelled, Unspelled, Head}
+use Rattle.end_rules.specs.Base.{Carried, Absent, Spelled, Unspelled, HeardHead}
 use Rattle.end_rules.specs.Messages.{Unread}
 use Rattle.end_wire.specs.Heads.{whole_value, value_at, typed_at, carried_at, value_or_lack, said, refused, said_or_refused, head_at, apdu_of}
 use Rattle.end_wire.specs.Values.{IsContent, content_of, content_at}
@@ -81,7 +81,7 @@ carries_at types sound room used (Some os) are = carries_by types sound room use
 -- ---- what a head says
 
 -- what the head carries, so that it says this
-pub record HeadSays (tables : Tables) (fields : ApduHead) (head : Head) : Type 0 where
+pub record HeadSays (tables : Tables) (fields : ApduHead) (head : HeardHead) : Type 0 where
   pub carried : Carried
   pub carries : HeadCarries tables Ber fields carried
   pub says : said_by fields carried ≡ head
@@ -121,7 +121,7 @@ module _ (tables : Tables) (readable : IsReadable tables) (text : List ℕ) wher
     pub fields_say : HeadSays tables fields (head_at tables Ber text)
     fields_say =
         subst (λ (f : ApduHead). HeadSays tables f (head_at tables Ber text)) (sym p.are)
-        (subst (λ (h : Head). HeadSays tables (fields_in Ber p.head) h) head_is (says_so tables readable p.head at_fields))
+        (subst (λ (h : HeardHead). HeadSays tables (fields_in Ber p.head) h) head_is (says_so tables readable p.head at_fields))
 
     pub fields_carry : SomeCarried tables Ber fields
     fields_carry = let s = fields_say in record { carried = s.carried; carries = s.carries }
@@ -141,5 +141,5 @@ module _ (tables : Tables) (readable : IsReadable tables) (text : List ℕ) wher
 
     pub refused_mean : IsContent tables Ber text (content_at tables Ber text)
     refused_mean =
-        let same : content_at tables Ber text ≡ Unread text = ap (λ (h : Head). content_of text (apdu_of tables h)) (sym (refused_read (refusal_of Ber text) refl)) ∙ kept (refusal_of Ber text) in
+        let same : content_at tables Ber text ≡ Unread text = ap (λ (h : HeardHead). content_of text (apdu_of tables h)) (sym (refused_read (refusal_of Ber text) refl)) ∙ kept (refusal_of Ber text) in
         subst (IsContent tables Ber text) (sym same) (content_kept tables readable Ber text none)

@@ -17,7 +17,8 @@ use Rattle.dialogue.specs.declared.call.Call.TheVariants as the_calls
 use Rattle.osi_base.specs.declared.syntax.Pair.{Pair}
 use Rattle.ber_spelling.proofs.Steady.{eqb_itself}
 use Rattle.end_rules.specs.Messages.{Message}
-use Rattle.end_rules.specs.Sets.{same_name, has_abstract, lowest_with, pair_of}
+use Rattle.end_rules.specs.Sets.{same_name, has_abstract, lowest_with}
+use Rattle.osi_base.specs.SetPlaces.{pair_of}
 use Rattle.end_rules.specs.State.{OpenCall, bare_set, opened_with, close}
 use Rattle.end_rules.specs.Hearing.{data_on, syntax_of, opening}
 use Rattle.end_rules.specs.Invoking.{invoke_apdu, result_apdu, error_apdu, carrier_in}

@@ -4,7 +4,7 @@ use Rattle.std.proofs.lemmas.List.{append-nil}
 use Rattle.osi_base.specs.declared.syntax.Syntax.TheVariants.{Ber}
 use Rattle.stub_tables.specs.Readable.{IsReadable}
 use Rattle.dialogue.specs.declared.indication.Indication.{Indication}
-use Rattle.end_rules.specs.Base.{Head}
+use Rattle.end_rules.specs.Base.{HeardHead}
 use Rattle.end_rules.specs.State.{Body, Calls, bare_set, passes_over}
 use Rattle.end_rules.specs.Messages.{ValueContent, Remote, Unread, Association, Plea, Part, Message}
 use Rattle.end_rules.specs.Hearing.{Heard, Taken, hear, on_heard, take_head, head_of, reject_apdu}
@@ -43,7 +43,7 @@ module _ (e : EndView) where
   reacts c octets readable up p =
       ap (λ (b : Bool). if b then Passes else react_alive (base e) (body e) (bare_message (bare_set e.tables) c)) up
       ∙ alive_remote c octets p
-      ∙ ap (λ (h : Head). takes_as (take_head (base e) (body e) 0 h)) (content_says e.tables e.config (bare_set e.tables) octets c readable p)
+      ∙ ap (λ (h : HeardHead). takes_as (take_head (base e) (body e) 0 h)) (content_says e.tables e.config (bare_set e.tables) octets c readable p)
 
   -- what is heard, as it is taken
   pub on_taken : (c : Calls) (t : takens.Taken) → takes_as (on_heard (base e) (body e) 0 (heard_as c t)) ≡ Takes (bare_body (base e) e.phase c) (answers_by e t) (told_by t)

@@ -1,13 +1,13 @@
 -- What a call that may be made sends, and why one that may not is refused.
 use Rattle.std.specs.Prelude.{◌≡◌, ℕ, ◌<◌, ℤ, true, false, List, length, Option, Some, None, Ok, Err, if◌then◌else◌}
 use Rattle.osi_base.specs.declared.syntax.Syntax.TheVariants.{Ber}
-use Rattle.osi_base.specs.Limits.{last_invocation}
+use Rattle.osi_base.specs.Limits.{last_invocation, most_open}
 use Rattle.stub_tables.specs.declared.apdu.Apdu.{Apdu}
 use Rattle.stub_tables.specs.declared.operation.Operation.{Operation}
 use Rattle.stub_tables.specs.Codes.{is_silent}
 use Rattle.dialogue.specs.declared.call.CallRefusal.{CallRefusal}
 use Rattle.dialogue.specs.declared.call.CallRefusal.TheVariants as refusals
-use Rattle.end_rules.specs.Base.{Base, most_open}
+use Rattle.end_rules.specs.Base.{Base}
 use Rattle.end_rules.specs.State.{Calls, opens_of}
 use Rattle.end_rules.specs.Invoking.{Reply, is_too_long}
 use Rattle.bare_end.specs.declared.sending.Checked as checkeds

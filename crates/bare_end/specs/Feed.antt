@@ -1,12 +1,12 @@
 -- What a feed does.
 use Rattle.std.specs.Prelude.{◌≡◌, ℕ, ◌<◌, ◌≤◌, List, [], ◌++◌, length, drop, Bool, true, false}
-use Rattle.asn1_types.specs.Limits.{most_octets}
+use Rattle.osi_base.specs.Limits.{most_octets}
 use Rattle.dialogue.specs.declared.config.Phase.TheVariants.{Dead}
 use Rattle.dialogue.specs.declared.indication.Indication.{Indication}
 use Rattle.osi_base.specs.declared.syntax.Syntax.TheVariants.{Ber}
 use Rattle.end_rules.specs.Base.{Base}
 use Rattle.end_rules.specs.State.{Body, bare_set, passes_over}
-use Rattle.end_rules.specs.Sets.{pair_of}
+use Rattle.osi_base.specs.SetPlaces.{pair_of}
 use Rattle.end_rules.specs.Hearing.{syntax_of}
 use Rattle.end_rules.specs.Messages.{Message, ValueContent}
 use Rattle.end_rules.specs.Reacting.{react, Takes}

@@ -1,6 +1,6 @@
 -- What stands first in octets, as an end sees it.
 use Rattle.std.specs.Prelude.{◌≡◌, ℕ, ◌≤◌, ◌<◌, List, length}
-use Rattle.asn1_types.specs.Limits.{most_octets}
+use Rattle.osi_base.specs.Limits.{most_octets}
 use Rattle.stream_front.specs.declared.front.Front as fronts
 use Rattle.stream_front.specs.declared.front.Front.TheVariants as front
 use Rattle.end_wire.specs.Bare.{Short, Whole, Faulty, first_at}

@@ -7,7 +7,7 @@ use Rattle.apdu_spelling.specs.Writing.{written_apdu}
 use Rattle.dialogue.specs.declared.indication.Indication.{Indication}
 use Rattle.dialogue.specs.declared.indication.Indication.TheVariants as indications
 use Rattle.rose_roles.specs.Heads.{HeadCarries, said_by}
-use Rattle.end_rules.specs.Base.{Carried, Head}
+use Rattle.end_rules.specs.Base.{Carried, HeardHead}
 use Rattle.end_rules.specs.State.{Calls}
 use Rattle.end_rules.specs.Messages.{Message}
 use Rattle.end_rules.specs.Hearing as rules
@@ -26,7 +26,7 @@ heard_as calls (taken.Told indication) = told calls indication
 heard_as calls (taken.Rejects id problem) = record { calls = calls; shown = []; reject = Some (record { id = id; problem = problem }) }
 
 -- The end did what is heard in this head, and answers it.
-pub record Heard (old new : EndView) (head : Head) (t : takens.Taken) : Type 0 where
+pub record Heard (old new : EndView) (head : HeardHead) (t : takens.Taken) : Type 0 where
   pub heard_is : heard_as new.calls t ≡ hear (base old) old.calls 0 head
   pub end_is : new ≡ with_calls new.calls old
 

@@ -54,7 +54,8 @@ impl<'t> End<'t> {
     ghost use Rattle.dialogue.specs.Config.{config_refusal};
     ghost use Rattle.dialogue.specs.declared.config.ConfigRefusal.TheVariants as config_refusals;
     ghost use Rattle.std.specs.Option.{option_copied};
-    ghost use Rattle.end_rules.specs.Sets.{pair_of, lowest_with};
+    ghost use Rattle.end_rules.specs.Sets.{lowest_with};
+    ghost use Rattle.osi_base.specs.SetPlaces.{pair_of};
     ghost use Rattle.end_rules.specs.State.{holds_turn, opened_with};
     ghost use Rattle.end_rules.specs.History.{History, gave, broke};
     ghost use Rattle.bare_end.specs.View.{EndView, body, Stepped, StandsFor};

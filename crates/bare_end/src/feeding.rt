@@ -2,7 +2,7 @@
 
 ghost use Rattle.std.specs.Prelude.{◌≡◌, ℕ, List, ◌≤◌, ◌<◌, ◌++◌, length, drop, take, true, false, IfOk, OnOk, OnErr, MatchResult, ◌∷◌, []};
 ghost use Rattle.osi_base.specs.declared.syntax.Syntax.TheVariants as syntaxes;
-ghost use Rattle.osi_base.specs.declared.words.Layer.TheVariants.{Rose};
+ghost use Rattle.osi_base.specs.declared.layer_words.Layer.TheVariants.{Rose};
 ghost use Rattle.stub_tables.specs.Readable.{IsReadable};
 ghost use Rattle.end_rules.specs.State.{passes_over};
 ghost use Rattle.end_rules.specs.Faults.{fault_at, shown_at_fault};

@@ -20,7 +20,7 @@ use apdu_spelling::ApduHead;
 use ber_spelling::{are_octets, hold_octets};
 use dialogue::{Indication, Indications};
 use osi_base::{NoMemory, Problem, Syntax};
-use rose_roles::{RoseTaken, refused};
+use rose_roles::{RoseTaken, refused_head};
 use stub_tables::Apdu;
 
 /// What becomes of an APDU that was taken.
@@ -107,7 +107,7 @@ impl<'t> End<'t> {
                 Ok(taken)
             }
             Err(fault) => {
-                let taken = refused(fault)?;
+                let taken = refused_head(fault)?;
                 Ok(as_taken(taken))
             }
         }

@@ -2,13 +2,12 @@
 
 ghost use Rattle.std.specs.Prelude.{◌≡◌, ◌<◌, ◌≤◌, ◌+◌, ℕ, ℤ, true, false, not, ◌&&◌, nat_le, length, Some, None, Ok, Err, pos, IfOk, OnOk, OnErr, if◌then◌else◌, suc};
 ghost use Rattle.osi_base.specs.declared.syntax.Syntax.TheVariants as syntaxes;
-ghost use Rattle.osi_base.specs.Limits.{last_invocation};
+ghost use Rattle.osi_base.specs.Limits.{last_invocation, most_open};
 ghost use Rattle.stub_tables.specs.Codes.{is_silent};
 ghost use Rattle.stub_tables.specs.Lookup.{operation_at};
 ghost use Rattle.apdu_spelling.specs.Writing.{written_apdu};
 ghost use Rattle.dialogue.specs.declared.call.Call.TheVariants as the_calls;
 ghost use Rattle.dialogue.specs.declared.call.CallRefusal.TheVariants as refusals;
-ghost use Rattle.end_rules.specs.Base.{most_open};
 ghost use Rattle.end_rules.specs.State.{opens_of};
 ghost use Rattle.end_rules.specs.Hearing.{opening};
 ghost use Rattle.end_rules.specs.Invoking.{Reply, next_id, is_on_module, is_linked_to, linking_refusal, unless_refused, invoke_apdu, can_send_invoke, can_invoke};

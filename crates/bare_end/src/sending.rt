@@ -6,7 +6,7 @@ ghost use Rattle.bare_end.specs.View.{base, with_waiting};
 ghost use Rattle.bare_end.specs.Checking.{IsShortText};
 
 use crate::end::End;
-use apdu_codec::is_too_long;
+use apdu_codec::is_too_long_with;
 use dialogue::CallRefusal;
 use osi_base::{NoMemory, Octets, Syntax};
 use stub_tables::Apdu;
@@ -33,7 +33,7 @@ impl<'t> End<'t> {
         ensures { IfOk result (IsShortText (base self.now) apdu.now) }
     {
         let used = self.tables.use_in(apdu);
-        if is_too_long(self.tables, used, apdu) {
+        if is_too_long_with(self.tables, used, apdu) {
             return Ok(None);
         }
         let text = self

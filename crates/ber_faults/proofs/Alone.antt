@@ -1,6 +1,6 @@
 -- An identifier behind which no octet stands: the fault that it has by itself is read so, whatever the table.
 use Rattle.std.proofs.Common.{◌≡◌, ℕ, suc, ◌+◌, Bool, true, List, [], ◌∷◌, ◌++◌, Option, Some, None, Err, sym, ◌∙◌, subst, arith, inl, inr}
-use Rattle.osi_base.specs.declared.words.Kind.TheVariants.{Tag, Length}
+use Rattle.osi_base.specs.declared.layer_words.Kind.TheVariants.{Tag, Length}
 use Rattle.asn1_types.specs.declared.row.Class.{Class}
 use Rattle.asn1_types.specs.declared.row.Part.{Part}
 use Rattle.asn1_types.specs.declared.row.Tag as tags

@@ -2,7 +2,7 @@
 use Rattle.std.proofs.Common.{◌≡◌, ◌≢◌, ℕ, zero, suc, ◌+◌, ◌%◌, ◌<◌, Bool, true, false, ◌||◌, cond, List, [], ◌∷◌, ◌++◌, length, Ok, Err, refl, sym, ap, ◌∙◌, subst, arith, ◌⊎◌, inl, inr}
 use Rattle.std.specs.Prelude.{nat_lt, nat_eq, slice_index}
 use Rattle.std.proofs.lemmas.Bool.{lt-ltb, ltb-true, eqb-true, ne_eqb}
-use Rattle.osi_base.specs.declared.words.Kind.TheVariants.{Tag}
+use Rattle.osi_base.specs.declared.layer_words.Kind.TheVariants.{Tag}
 use Rattle.asn1_types.specs.Tags.{capped}
 use Rattle.ber_spelling.specs.declared.fault.ReadFault.{ReadFault}
 use Rattle.ber_spelling.specs.declared.fault.ReadFault.TheVariants.{NotSpelled, Short, TooDeep}
@@ -12,10 +12,10 @@ use Rattle.ber_spelling.specs.Reading.{Spot, Opened, Reading, refuse, within}
 use Rattle.ber_spelling.specs.Fields.{digits_at, opened_at, is_lax, high_at, identifier_at}
 use Rattle.ber_spelling.specs.Spelling.{AreDigits, number_128}
 use Rattle.ber_spelling.proofs.Numbers.{octets_tail}
-use Rattle.ber_spelling.proofs.Identifiers.{identifier_found, identifier_again}
+use Rattle.ber_spelling.proofs.Identifiers.{digits_found, digits_again, identifier_found, identifier_again}
 use Rattle.ber_faults.specs.Fields.{IsWithin, DigitsFault, IdentifierFault, IsLax, Opens}
 use Rattle.ber_faults.proofs.Steps.{bind_err, bind_fails, bind_goes, cond_err, cond_yes, cond_no, failed, err_is, not_err, within_err, crosses_err, within_ok, within_goes, in_within, within_in}
-use Rattle.ber_faults.proofs.Digits.{digits_err, digits_cross, digits_found, digits_again}
+use Rattle.ber_faults.proofs.Digits.{digits_err, digits_cross}
 
 or_cases : (a b : Bool) → (a || b) ≡ true → (a ≡ true) ⊎ (b ≡ true)
 or_cases true b e = inl refl

@@ -3,7 +3,7 @@ use Rattle.std.proofs.Common.{◌≡◌, ◌≢◌, ℕ, ◌+◌, ◌-◌, ◌<�
 use Rattle.std.specs.Prelude.{nat_lt, nat_le, nat_eq, slice_index}
 use Rattle.std.proofs.lemmas.Bool.{lt-ltb, le-ltb, ltb-false, ltb-true, eqb-true, eqb-false, ne_eqb, and_parts, lt-leb}
 use Rattle.std.proofs.lemmas.List.{take_at, drop_at, take-append-drop, length-take}
-use Rattle.osi_base.specs.declared.words.Kind.TheVariants.{Length, Form}
+use Rattle.osi_base.specs.declared.layer_words.Kind.TheVariants.{Length, Form}
 use Rattle.asn1_types.specs.Whole.{number_256}
 use Rattle.ber_spelling.specs.declared.fault.ReadFault.{ReadFault}
 use Rattle.ber_spelling.specs.declared.fault.ReadFault.TheVariants.{NotSpelled, Short}

@@ -9,7 +9,6 @@ pub mod Items
 pub mod Strings
 pub mod Lists
 pub mod Sequences
-pub mod SetSteps
 pub mod Sets
 pub mod Wholes
 pub mod Rows

@@ -1,7 +1,7 @@
 -- SEQUENCE OF, SET OF and explicit tags: a fault of reading is one by the grammar, and the other way round (X.690 8.10, 8.12, 8.14).
 use Rattle.std.proofs.Common.{◌≡◌, ℕ, ◌+◌, Bool, true, false, not, ◌&&◌, List, [], ◌∷◌, ◌++◌, length, Ok, Err, refl, sym, ap, ◌∙◌, subst, inl, inr}
 use Rattle.std.proofs.lemmas.Bool.{and_parts}
-use Rattle.osi_base.specs.declared.words.Kind.TheVariants.{Missing, Extra, Form}
+use Rattle.osi_base.specs.declared.layer_words.Kind.TheVariants.{Missing, Extra, Form}
 use Rattle.asn1_types.specs.declared.row.Class.{Class}
 use Rattle.asn1_types.specs.declared.row.Tag as tags
 use Rattle.asn1_types.specs.Rising.{behind_last}

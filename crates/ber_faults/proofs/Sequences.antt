@@ -1,7 +1,7 @@
 -- SEQUENCE and CHOICE: a fault of reading is one by the grammar, and the other way round (X.690 8.9, 8.13).
 use Rattle.std.proofs.Common.{◌≡◌, ℕ, suc, Bool, true, false, cond, List, [], ◌∷◌, Option, None, Ok, Err, refl, sym, ap, ◌∙◌, subst, inl, inr, ℤ}
-use Rattle.osi_base.specs.declared.words.Kind.{Kind}
-use Rattle.osi_base.specs.declared.words.Kind.TheVariants.{Tag, Missing, Extra}
+use Rattle.osi_base.specs.declared.layer_words.Kind.{Kind}
+use Rattle.osi_base.specs.declared.layer_words.Kind.TheVariants.{Tag, Missing, Extra}
 use Rattle.asn1_types.specs.declared.row.Class.{Class}
 use Rattle.asn1_types.specs.declared.row.Part.{Part}
 use Rattle.asn1_types.specs.Defaults.{may_be_absent, kept}

@@ -2,8 +2,8 @@
 use Rattle.std.proofs.Common.{◌≡◌, ℕ, suc, ◌+◌, Bool, true, false, ◌&&◌, List, [], ◌∷◌, Option, Ok, Err, refl, sym, ap, ◌∙◌, subst, arith, ◌⊎◌, inl, inr, ℤ}
 use Rattle.std.specs.Prelude.{slice_get, nat_lt}
 use Rattle.std.proofs.lemmas.Bool.{and_parts}
-use Rattle.osi_base.specs.declared.words.Kind.{Kind}
-use Rattle.osi_base.specs.declared.words.Kind.TheVariants.{Tag, Missing, Extra, Length, Content, Form}
+use Rattle.osi_base.specs.declared.layer_words.Kind.{Kind}
+use Rattle.osi_base.specs.declared.layer_words.Kind.TheVariants.{Tag, Missing, Extra, Length, Content, Form}
 use Rattle.asn1_types.specs.declared.row.Class.{Class}
 use Rattle.asn1_types.specs.declared.row.Part.{Part}
 use Rattle.asn1_types.specs.Rows.{Opening}
@@ -26,7 +26,7 @@ use Rattle.ber_faults.proofs.Steps.{bind_err, bind_fails, cond_err, cond_yes, co
 use Rattle.ber_faults.proofs.Readers.{Finds, Tells, BodyFinds, BodyTells, step_finds, step_tells, refused, refusal_is}
 use Rattle.ber_faults.proofs.Alone.{TellsAlone, no_octets}
 use Rattle.ber_faults.proofs.Items.{all_finds, all_tells}
-use Rattle.ber_faults.proofs.SetSteps.{slot_found, slot_only}
+use Rattle.ber_spelling.proofs.Sets.{slot_found, slot_only}
 
 -- ---- a part that may not stand here
 

@@ -1,6 +1,6 @@
 -- Strings: a fault of reading is one by the grammar, and the other way round (X.690 8.6, 8.7, 8.23).
 use Rattle.std.proofs.Common.{◌≡◌, ℕ, zero, suc, ◌+◌, Bool, true, false, not, ◌&&◌, cond, List, ◌++◌, length, Option, Some, None, Ok, Err, refl, sym, ap, ◌∙◌, subst, arith, append_assoc, length-append, inl, inr}
-use Rattle.osi_base.specs.declared.words.Kind.TheVariants.{Tag, Content, Form}
+use Rattle.osi_base.specs.declared.layer_words.Kind.TheVariants.{Tag, Content, Form}
 use Rattle.asn1_types.specs.declared.row.Tag as tags
 use Rattle.asn1_types.specs.Value.{Value}
 use Rattle.ber_spelling.specs.declared.fault.ReadFault.{ReadFault}

@@ -1,7 +1,7 @@
 -- One whole value of any type: a fault of reading is one by the grammar, and the other way round (X.690 8.1).
 use Rattle.std.proofs.Common.{◌≡◌, ℕ, zero, suc, Bool, true, false, ◌&&◌, List, length, take, refl, ◌-◌, inl, inr}
 use Rattle.std.proofs.lemmas.Bool.{and_parts}
-use Rattle.osi_base.specs.declared.words.Kind.TheVariants.{Tag}
+use Rattle.osi_base.specs.declared.layer_words.Kind.TheVariants.{Tag}
 use Rattle.asn1_types.specs.Rows.{is_no_tag}
 use Rattle.asn1_types.specs.Value.{Value, any}
 use Rattle.asn1_types.specs.Whole.{is_marked}

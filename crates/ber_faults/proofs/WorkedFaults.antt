@@ -1,7 +1,7 @@
 -- The worked first faults: the tables are sound, and reading gives them.
 use Rattle.std.proofs.Common.{ℕ, zero, suc, ◌<◌, true, false, List, [], ◌∷◌, refl, arith}
 use Rattle.std.specs.Prelude.{slice_index}
-use Rattle.osi_base.specs.declared.words.Kind.TheVariants.{Tag, Length, Form}
+use Rattle.osi_base.specs.declared.layer_words.Kind.TheVariants.{Tag, Length, Form}
 use Rattle.asn1_types.specs.Rows.{openings}
 use Rattle.asn1_types.specs.Writing.{integer_octets, writes, written}
 use Rattle.ber_spelling.specs.declared.fault.ReadFault.TheVariants.{NotSpelled, TooDeep, TooLong}

@@ -1,6 +1,6 @@
 -- The first fault of single fields (X.690 8.1). A field begins at `place`; the octets are all that stand from there on.
 use Rattle.std.specs.Prelude.{◌≡◌, ◌≢◌, ℕ, ◌+◌, ◌-◌, ◌%◌, ◌≤◌, ◌<◌, ◌⊎◌, Bool, true, false, List, [], ◌∷◌, ◌++◌, length, slice_index}
-use Rattle.osi_base.specs.declared.words.Kind.TheVariants.{Tag, Length, Form}
+use Rattle.osi_base.specs.declared.layer_words.Kind.TheVariants.{Tag, Length, Form}
 use Rattle.asn1_types.specs.Tags.{capped}
 use Rattle.asn1_types.specs.Whole.{number_256}
 use Rattle.ber_spelling.specs.declared.fault.ReadFault.{ReadFault}

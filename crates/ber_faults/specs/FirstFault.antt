@@ -1,8 +1,8 @@
 -- The first fault of octets that are to begin with a value of a row of a table (X.690 8 and 10).
 use Rattle.std.specs.Prelude.{ℕ, zero, suc, ◌⊎◌, Bool, true, false, List, length, Option, Some, None, slice_get}
-use Rattle.osi_base.specs.declared.words.Kind.TheVariants.{Tag}
+use Rattle.osi_base.specs.declared.layer_words.Kind.TheVariants.{Tag}
+use Rattle.osi_base.specs.Limits.{most_octets}
 use Rattle.asn1_types.specs.declared.row.TypeRow.{TypeRow}
-use Rattle.asn1_types.specs.Limits.{most_octets}
 use Rattle.asn1_types.specs.Rows.{begins}
 use Rattle.asn1_types.specs.Writing.{written}
 use Rattle.ber_spelling.specs.declared.fault.ReadFault.{ReadFault}

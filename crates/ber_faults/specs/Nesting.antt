@@ -1,10 +1,10 @@
 -- Values that stand open around a place: constructed values whose identifiers and lengths stand before it, and whose contents
 -- go on there (X.690 8.1).
 use Rattle.std.specs.Prelude.{◌≡◌, ℕ, zero, suc, ◌+◌, ◌≤◌, ◌<◌, ◌⊎◌, true, false, List, [], ◌∷◌, ◌++◌, length, Some, slice_get}
+use Rattle.osi_base.specs.Limits.{most_levels}
 use Rattle.asn1_types.specs.declared.row.Class.{Class}
 use Rattle.asn1_types.specs.declared.row.TypeRow.{TypeRow}
 use Rattle.asn1_types.specs.declared.row.TypeRow.TheVariants.{Any}
-use Rattle.asn1_types.specs.Limits.{most_levels}
 use Rattle.ber_spelling.specs.Spelling.{IsIdentifier, IsLength, AreAll}
 use Rattle.ber_laws.specs.Values.{IsValue}
 

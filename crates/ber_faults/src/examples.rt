@@ -1,6 +1,6 @@
 //! Worked first faults, each the contract of a function that does nothing.
 
-ghost use Rattle.osi_base.specs.declared.words.Kind.TheVariants.{Tag, Length, Form};
+ghost use Rattle.osi_base.specs.declared.layer_words.Kind.TheVariants.{Tag, Length, Form};
 ghost use Rattle.ber_faults.specs.Examples.{with_default, set_of_integers, string_table, number_and_flag, default_written, falling_items, cut_by_its_end, half_a_mark, twice_and_constructed, nested_strings};
 ghost use Rattle.ber_faults.specs.FirstFault.{FirstFault, BerFault, DerFault};
 ghost use Rattle.ber_spelling.specs.declared.fault.ReadFault.TheVariants.{NotSpelled, TooLong, TooDeep};

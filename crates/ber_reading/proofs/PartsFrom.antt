@@ -2,7 +2,7 @@
 use Rattle.std.proofs.Common.{◌≡◌, ℕ, ◌+◌, ◌<◌, ◌≤◌, Bool, true, false, length, drop, get_or, add-one, drop-cons, List, [], ◌∷◌, ◌++◌, Option, Some, None, Ok, Err, refl, sym, ap, ◌∙◌, append_assoc, append-nil}
 use Rattle.std.specs.Prelude.{if◌then◌else◌}
 use Rattle.std.proofs.lemmas.List.{drop_all}
-use Rattle.osi_base.specs.declared.words.Kind.TheVariants.{Missing}
+use Rattle.osi_base.specs.declared.layer_words.Kind.TheVariants.{Missing}
 use Rattle.asn1_types.specs.Value.{Value, parts}
 use Rattle.asn1_types.specs.ValueView.{parts_of}
 use Rattle.asn1_types.specs.declared.row.Class.{Class}

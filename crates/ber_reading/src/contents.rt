@@ -1,12 +1,14 @@
 //! Contents of constructed values: where they begin and end, and any one value in them.
 
-ghost use Rattle.std.specs.Prelude.{◌≡◌, ◌+◌, ◌<◌, ◌^◌, length, IfOk};
+ghost use Rattle.std.specs.Prelude.{◌≡◌, length, IfOk};
+ghost use Rattle.osi_base.specs.OctetPlaces.{HasPlaces};
 ghost use Rattle.ber_spelling.specs.Reading.{Gives, spot_of, opened_of, GoesOn};
 ghost use Rattle.ber_spelling.specs.Rules.{open_at, close_at, any_at, explicit_at};
 
 use asn1_types::{Node, Val};
 use ber_spelling::{
-    Ahead, Opened, ReadFault, Scope, Spot, Tag, expect, extent, look, refusal, whole_value,
+    Ahead, Opened, ReadFault, Scope, Spot, Tag, expect_tag, extent, look_ahead, refusal,
+    whole_value,
 };
 use osi_base::{Kind, Octets};
 use std::alloc::Global;
@@ -19,15 +21,15 @@ pub(crate) fn open<'a>(
     opened: &Opened<'a>,
     spot: Spot<'a>,
 ) -> Result<(Scope, Opened<'a>, Spot<'a>), ReadFault>
-    requires { spot.place + length spot.rest.now < 2 ^ 63 }
+    requires { HasPlaces spot.place spot.rest.now }
     ensures gives { Gives (λ x. (x.0, opened_of x.1, spot_of x.2)) result
         (open_at tag scope.now (opened_of opened.now) (spot_of spot.entry)) }
     ensures stops { IfOk result (λ x. GoesOn x.1.start.place (length x.1.start.rest.now) x.2) }
     ensures onward { IfOk result (λ x. GoesOn spot.entry.place (length spot.entry.rest.now) x.2) }
 {
-    expect(tag, true, opened)?;
+    expect_tag(tag, true, opened)?;
     let (inside, spot) = extent(scope, spot)?;
-    match look(&inside, spot)? {
+    match look_ahead(&inside, spot)? {
         Ahead::Ended { place, .. } => Err(refusal(place, Kind::Missing)),
         Ahead::Begun(first, after) => Ok((inside, first, after)),
     }
@@ -37,7 +39,7 @@ pub(crate) fn open<'a>(
 #[tactic(auto, unfolding(ber_spelling::specs::Rules::close_at, ber_spelling::specs::Fields::look_at))]
 #[inline(always)]
 pub(crate) fn close<'a>(scope: &Scope, spot: Spot<'a>) -> Result<Spot<'a>, ReadFault>
-    requires { spot.place + length spot.rest.now < 2 ^ 63 }
+    requires { HasPlaces spot.place spot.rest.now }
     ensures gives { Gives (λ x. spot_of x) result (close_at scope.now (spot_of spot.entry)) }
     ensures stops { IfOk result (λ x. GoesOn spot.entry.place (length spot.entry.rest.now) x) }
 {
@@ -53,11 +55,11 @@ pub(crate) fn close<'a>(scope: &Scope, spot: Spot<'a>) -> Result<Spot<'a>, ReadF
 #[tactic(auto, unfolding(ber_spelling::specs::Rules::close_at))]
 #[inline(never)]
 pub(crate) fn close_behind<'a>(scope: &Scope, spot: Spot<'a>) -> Result<Spot<'a>, ReadFault>
-    requires { spot.place + length spot.rest.now < 2 ^ 63 }
+    requires { HasPlaces spot.place spot.rest.now }
     ensures gives { Gives (λ x. spot_of x) result (close_at scope.now (spot_of spot.entry)) }
     ensures stops { IfOk result (λ x. GoesOn spot.entry.place (length spot.entry.rest.now) x) }
 {
-    match look(scope, spot)? {
+    match look_ahead(scope, spot)? {
         Ahead::Ended { after, .. } => Ok(after),
         Ahead::Begun(opened, _) => Err(refusal(opened.start.place, Kind::Extra)),
     }
@@ -72,7 +74,7 @@ pub fn any_value<'a>(
     opened: &Opened<'a>,
     spot: Spot<'a>,
 ) -> Result<(Val, Spot<'a>), ReadFault>
-    requires whole { spot.place + length spot.rest.now < 2 ^ 63 }
+    requires whole { HasPlaces spot.place spot.rest.now }
     requires start { GoesOn opened.now.start.place (length opened.now.start.rest.now) spot }
     ensures gives { Gives (λ x. (x.0, spot_of x.1)) result
         (any_at scope.now (opened_of opened.now) (spot_of spot.entry)) }
@@ -98,7 +100,7 @@ pub(crate) fn tagged_any<'a>(
     opened: &Opened<'a>,
     spot: Spot<'a>,
 ) -> Result<(Val, Spot<'a>), ReadFault>
-    requires { spot.place + length spot.rest.now < 2 ^ 63 }
+    requires { HasPlaces spot.place spot.rest.now }
     ensures gives { Gives (λ x. (x.0, spot_of x.1)) result
         (explicit_at any_at tag scope.now (opened_of opened.now) (spot_of spot.entry)) }
     ensures stops { IfOk result (λ x. GoesOn spot.entry.place (length spot.entry.rest.now) x.1) }

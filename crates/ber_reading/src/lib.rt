@@ -3,11 +3,11 @@
 
 mod contents;
 mod parts;
-mod read;
+mod reading;
 mod short_parts;
 mod whole_values;
 
 pub use ber_spelling::ReadFault;
 pub use contents::any_value;
-pub use read::value;
+pub use reading::value;
 pub use whole_values::{LIMIT, Read, ber_read, ber_read_within, der_read};

@@ -1,9 +1,10 @@
 //! Parts whose identifier and length have one octet each, read without the cycle of rows: INTEGERs,
 //! CHOICEs of one, and parts that are not there. What isn't read so is left to the cycle.
 
-ghost use Rattle.std.specs.Prelude.{◌≡◌, ◌+◌, ◌-◌, ◌≤◌, ◌<◌, ◌^◌, true, false, length, drop, Bool, Some, None, option_map, slice_get, IfSome, Ok};
+ghost use Rattle.std.specs.Prelude.{◌≡◌, ◌+◌, ◌-◌, ◌≤◌, ◌<◌, true, false, length, drop, Bool, Some, None, option_map, slice_get, IfSome, Ok};
 ghost use Rattle.std.specs.List.{AllByRecursion};
 ghost use Rattle.std.specs.Vec.{vec_len, vec_capacity};
+ghost use Rattle.osi_base.specs.OctetPlaces.{HasPlaces};
 ghost use Rattle.asn1_types.specs.Rows.{begins, rows_of_parts};
 ghost use Rattle.asn1_types.specs.Table.{AreSoundRows};
 ghost use Rattle.asn1_types.specs.Value as tree;
@@ -24,7 +25,7 @@ use std::alloc::Global;
 /// end-of-contents octets or no level is left.
 #[inline(always)]
 pub(crate) fn reach(scope: &Scope, spot: Spot) -> usize
-    requires { spot.place + length spot.rest.now < 2 ^ 63 }
+    requires { HasPlaces spot.place spot.rest.now }
     ensures { IsReach scope.now (spot.entry.place + length spot.entry.rest.now) result }
 {
     if scope.marked || scope.levels == 0 {
@@ -86,7 +87,7 @@ pub(crate) fn integer_ahead<'a>(
     reach: usize,
     spot: Spot<'a>,
 ) -> Option<(i64, Spot<'a>)>
-    requires whole { spot.place + length spot.rest.now < 2 ^ 63 }
+    requires whole { HasPlaces spot.place spot.rest.now }
     requires reach { IsReach scope.now (spot.place + length spot.rest.now) reach }
     ensures looks { IfSome result (λ x. look_at scope.now spot.entry.place spot.entry.rest.now
         ≡ Ok (begun (integer_opened (spot_of spot.entry)) (behind (spot_of spot.entry)))) }
@@ -117,7 +118,7 @@ fn first_ahead<'a>(
     spot: Spot<'a>,
 ) -> Option<(i64, Spot<'a>)>
     requires below { AllByRecursion (λ m. m < length table.now) (rows_of_parts alternatives.now) }
-    requires whole { spot.place + length spot.rest.now < 2 ^ 63 }
+    requires whole { HasPlaces spot.place spot.rest.now }
     requires reach { IsReach scope.now (spot.place + length spot.rest.now) reach }
     ensures looks { IfSome result (λ x. look_at scope.now spot.entry.place spot.entry.rest.now
         ≡ Ok (begun (integer_opened (spot_of spot.entry)) (behind (spot_of spot.entry)))) }
@@ -167,7 +168,7 @@ fn is_absent(
 ) -> bool
     requires row { slice_get table.now part.now.inner.0 ≡ Some row.now }
     requires sound { AreSoundRows table.now }
-    requires whole { spot.place + length spot.rest.now < 2 ^ 63 }
+    requires whole { HasPlaces spot.place spot.rest.now }
     requires reach { IsReach scope.now (spot.place + length spot.rest.now) reach }
     ensures { result ≡ true → part_from (begins table.now) (reads table.now part.now.inner.0)
         part.now scope.now (spot_of spot.entry) ≡ Ok (None, spot_of spot.entry) }
@@ -199,7 +200,7 @@ pub(crate) fn parts_at_once<'a>(
     found: &mut MaybeVals,
 ) -> Spot<'a>
     requires below { AllByRecursion (λ m. m < length table.now) (rows_of_parts parts.now) }
-    requires whole { spot.place + length spot.rest.now < 2 ^ 63 }
+    requires whole { HasPlaces spot.place spot.rest.now }
     requires room { vec_len found.old + length parts.now ≤ vec_capacity found.old }
     ensures some { vec_len found.old ≤ vec_len found.new }
     ensures few { vec_len found.new ≤ vec_len found.old + length parts.now }

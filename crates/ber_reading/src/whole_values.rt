@@ -1,8 +1,9 @@
 //! Reading whole values.
 
-ghost use Rattle.std.specs.Prelude.{◌≡◌, ℕ, ◌+◌, ◌≤◌, ◌<◌, ◌^◌, false, true, length, take, IfOk, IfSome};
+ghost use Rattle.std.specs.Prelude.{◌≡◌, ℕ, ◌≤◌, ◌<◌, false, true, length, take, IfOk, IfSome};
 ghost use Rattle.std.specs.List.{AllByRecursion};
-ghost use Rattle.asn1_types.specs.Limits.{most_octets};
+ghost use Rattle.osi_base.specs.Limits.{most_octets};
+ghost use Rattle.osi_base.specs.OctetPlaces.{HasPlaces};
 ghost use Rattle.asn1_types.specs.Rows.{begins, rows_of_parts};
 ghost use Rattle.asn1_types.specs.Value as tree;
 ghost use Rattle.ber_spelling.specs.Reading.{Gives, GoesOn, opened_of, spot_of};
@@ -10,10 +11,10 @@ ghost use Rattle.ber_spelling.specs.Rules.{plain, outermost, reads, sequence_at,
 ghost use Rattle.ber_spelling.specs.Spelling.{Spells};
 ghost use Rattle.ber_reading.specs.Calls.{IsRead, GivesRead};
 
-use crate::read::{sequence, value};
+use crate::reading::{sequence, value};
 use crate::short_parts::first_identifier;
 use asn1_types::{Class, Parts, TypeId, TypeRow, TypeTable, Val};
-use ber_spelling::{Opened, ReadFault, Scope, Spot, Tag, identifier};
+use ber_spelling::{Opened, ReadFault, Scope, Spot, Tag, identifier_octets};
 use std::alloc::Global;
 
 /// How many octets a value may have.
@@ -143,7 +144,7 @@ fn read_from(
         place: 0,
         rest: bytes,
     };
-    let (opened, spot) = identifier(&scope, start)?;
+    let (opened, spot) = identifier_octets(&scope, start)?;
     read_behind(alloc, table, of, &scope, &opened, spot)
 }
 
@@ -200,7 +201,7 @@ fn read_sequence<'a>(
     requires below { AllByRecursion (λ m. m < row.0) (rows_of_parts parts.now) }
     requires is { reads table.now of.0 plain ≡ sequence_at (begins table.now) (reads table.now)
         parts.now tag }
-    requires whole { spot.place + length spot.rest.now < 2 ^ 63 }
+    requires whole { HasPlaces spot.place spot.rest.now }
     ensures gives { Gives (λ x. (x.0, spot_of x.1)) result
         (reads table.now of.0 plain scope.now (opened_of opened.now) (spot_of spot.entry)) }
     ensures stops { IfOk result (λ x. GoesOn spot.entry.place (length spot.entry.rest.now) x.1) }
@@ -219,7 +220,7 @@ fn read_behind<'a>(
     spot: Spot<'a>,
 ) -> Result<Read, ReadFault>
     requires row { of.0 < length table.now }
-    requires whole { spot.place + length spot.rest.now < 2 ^ 63 }
+    requires whole { HasPlaces spot.place spot.rest.now }
     requires start { GoesOn opened.now.start.place (length opened.now.start.rest.now) spot }
     ensures { GivesRead result (reads table.now of.0 plain scope.now (opened_of opened.now)
         (spot_of spot.entry)) }

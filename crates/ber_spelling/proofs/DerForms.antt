@@ -1,6 +1,6 @@
 -- Octets are read in DER as in BER, or a form is at fault.
 use Rattle.std.proofs.Common.{◌≡◌, ◌⊎◌, ℕ, true, false, List, length, Ok, Err, refl, sym, ap, inl, inr}
-use Rattle.osi_base.specs.declared.words.Kind.TheVariants.{Form}
+use Rattle.osi_base.specs.declared.layer_words.Kind.TheVariants.{Form}
 use Rattle.asn1_types.specs.declared.row.TypeRow.{TypeRow}
 use Rattle.asn1_types.specs.Value.{Value}
 use Rattle.ber_spelling.specs.declared.fault.ReadFault.TheVariants as faults

@@ -3,7 +3,7 @@ use Rattle.std.proofs.Common.{◌≡◌, ℕ, ◌+◌, ◌-◌, ◌≤◌, Bool,
 use Rattle.std.specs.Prelude.{nat_lt, nat_eq}
 use Rattle.std.proofs.lemmas.Bool.{cases_lt, lt-ltb, le-ltb, ltb-false, leb-true}
 use Rattle.std.proofs.lemmas.List.{take-append-le, drop-append-le}
-use Rattle.osi_base.specs.declared.words.Kind.TheVariants.{Length}
+use Rattle.osi_base.specs.declared.layer_words.Kind.TheVariants.{Length}
 use Rattle.asn1_types.specs.Whole.{number_256}
 use Rattle.ber_spelling.specs.declared.fault.ReadFault.{ReadFault}
 use Rattle.ber_spelling.specs.declared.fault.ReadFault.TheVariants as faults

@@ -3,7 +3,7 @@ use Rattle.std.proofs.Common.{◌≡◌, ◌≢◌, ℕ, zero, suc, ◌+◌, ◌
 use Rattle.std.specs.Prelude.{nat_lt, nat_eq, slice_index}
 use Rattle.std.proofs.lemmas.Bool.{lt-ltb, le-ltb, ltb-false, ltb-true, eqb-true, eqb-false, ne_eqb, or_parts}
 use Rattle.std.proofs.lemmas.Bool.Decides.{nat_tests}
-use Rattle.osi_base.specs.declared.words.Kind.TheVariants.{Tag}
+use Rattle.osi_base.specs.declared.layer_words.Kind.TheVariants.{Tag}
 use Rattle.asn1_types.specs.declared.row.Class.{Class}
 use Rattle.asn1_types.specs.declared.row.Class.TheVariants.{Universal, Application, Context, Private}
 use Rattle.asn1_types.specs.Tags.{class_of, capped, leading}
@@ -109,17 +109,17 @@ pub record DigitsFound (scope : Scope) (a from : ℕ) (ds : List ℕ) (n : ℕ) 
   pub number : n ≡ capped (number_128 a text)
   pub is_in : IsIn scope s.place
 
-low_small : (d : ℕ) → d < 128 → low_bits d ≡ d
+pub low_small : (d : ℕ) → d < 128 → low_bits d ≡ d
 low_small d lt = rw (lt-ltb d 128 lt) refl
 
-low_large : (d : ℕ) → 128 ≤ d → low_bits d ≡ d - 128
+pub low_large : (d : ℕ) → 128 ≤ d → low_bits d ≡ d - 128
 low_large d le = rw (le-ltb d 128 le) refl
 
 pub digits_more : (d : ℕ) (text : List ℕ) → 128 ≤ d → d < 256 → AreDigits text → AreDigits (d ∷ text)
 digits_more d [] le lt h = absurd h
 digits_more d (e ∷ text) le lt h = (le, lt, h)
 
-digits_found : (scope : Scope) (place a from : ℕ) (ds : List ℕ) (n : ℕ) (s : Spot) → AreOctets ds → digits_at scope place (capped a) from ds ≡ Ok (n, s) → DigitsFound scope a from ds n s
+pub digits_found : (scope : Scope) (place a from : ℕ) (ds : List ℕ) (n : ℕ) (s : Spot) → AreOctets ds → digits_at scope place (capped a) from ds ≡ Ok (n, s) → DigitsFound scope a from ds n s
 unfolding digits_at
 digits_found scope place a from [] n s octets e = absurd (lacking_not_ok scope place from (n, s) e)
 digits_found scope place a from (d ∷ ds) n s octets e =
@@ -150,7 +150,7 @@ digits_found scope place a from (d ∷ ds) n s octets e =
           }
     ]
 
-digits_again : (scope : Scope) (place a from : ℕ) (text rest : List ℕ) → AreDigits text → IsIn scope (from + length text) → digits_at scope place (capped a) from (text ++ rest) ≡ Ok (capped (number_128 a text), record { place = from + length text; rest = rest })
+pub digits_again : (scope : Scope) (place a from : ℕ) (text rest : List ℕ) → AreDigits text → IsIn scope (from + length text) → digits_at scope place (capped a) from (text ++ rest) ≡ Ok (capped (number_128 a text), record { place = from + length text; rest = rest })
 unfolding digits_at
 digits_again scope place a from [] rest h in_here = absurd h
 digits_again scope place a from (d ∷ []) rest h in_here =

@@ -13,10 +13,10 @@ use Rattle.ber_spelling.specs.Primitives.{signed_of}
 pub octets_tail : (o : ℕ) (os : List ℕ) → AreOctets (o ∷ os) → AreOctets os
 octets_tail o os h = record { each = λ i. h.each (suc i) }
 
-regroup : (n o p : ℕ) → (256 * n + o) * p ≡ 256 * (n * p) + o * p
+pub regroup : (n o p : ℕ) → (256 * n + o) * p ≡ 256 * (n * p) + o * p
 regroup n o p = add-mul (256 * n) o p ∙ ap (λ (k : ℕ). k + o * p) (mul_assoc 256 n p)
 
-out : (n p : ℕ) → n * (p * 256) ≡ 256 * (n * p)
+pub out : (n p : ℕ) → n * (p * 256) ≡ 256 * (n * p)
 out n p = sym (mul_assoc n p 256) ∙ mul_comm (n * p) 256
 
 low_step : (n o p : ℕ) → n * (p * 256) ≤ (256 * n + o) * p

@@ -9,15 +9,15 @@ use Rattle.asn1_types.specs.Writing.{subidentifiers}
 use Rattle.ber_spelling.specs.Octets.{AreOctets}
 use Rattle.ber_spelling.specs.Primitives.{sized, push_front, subidentifiers_of, arcs_from, is_arc, judged_arcs, arcs_of}
 use Rattle.ber_spelling.specs.Rules.{object_id_rule}
-use Rattle.ber_spelling.specs.Spelling.{AreDigits, low_bits, number_128, IsBase128, AreSubidentifiers, IsObjectId, ObjectIdIs}
+use Rattle.ber_spelling.specs.Spelling.{AreDigits, number_128, IsBase128, AreSubidentifiers, IsObjectId, ObjectIdIs}
 use Rattle.ber_spelling.proofs.Numbers.{octets_tail}
-use Rattle.ber_spelling.proofs.Identifiers.{digits_more}
+use Rattle.ber_spelling.proofs.Identifiers.{low_small, low_large, digits_more}
 
 sized_digit : (a d : ℕ) → sized (128 * sized a + d) ≡ sized (128 * a + d)
 sized_digit a d = omega arith
 
 -- as they are read: numbers that are no arc are all one
-abbrev AreSized : List ℕ → List ℕ → Type 0
+abbrev pub AreSized : List ℕ → List ℕ → Type 0
 AreSized [] contents = contents ≡ []
 AreSized (n ∷ ns) contents = (first : List ℕ) × (others : List ℕ) × (m : ℕ) × (contents ≡ first ++ others) × IsBase128 first m × (n ≡ sized m) × AreSized ns others
 
@@ -35,12 +35,6 @@ record Goes (a : ℕ) (digits ns : List ℕ) : Type 0 where
 pushed : (n : ℕ) (o : Option (List ℕ)) (ns : List ℕ) → push_front n o ≡ Some ns → (more : List ℕ) × (o ≡ Some more) × (ns ≡ n ∷ more)
 pushed n None ns e = absurd cc
 pushed n (Some more) ns e = (more, refl, (let same : Some (n ∷ more) ≡ Some ns = e in cc))
-
-low_small : (d : ℕ) → d < 128 → low_bits d ≡ d
-low_small d lt = rw (lt-ltb d 128 lt) refl
-
-low_large : (d : ℕ) → 128 ≤ d → low_bits d ≡ d - 128
-low_large d le = rw (le-ltb d 128 le) refl
 
 chosen_some : {A : Type 0} (b : Bool) (r s : Option A) (y : A) → cond b r s ≡ Some y → ((b ≡ true) × (r ≡ Some y)) ⊎ ((b ≡ false) × (s ≡ Some y))
 chosen_some true r s y e = inl (refl, e)
@@ -114,12 +108,15 @@ mutual
             goes_sized d ds ns ne (digit_found 0 d ds ns are t.1 (λ b ms f. begun_found b ds ms (octets_tail d ds are) f) (λ ms f. free_found ds ms (octets_tail d ds are) f))
       ]
 
+pub subs_found : (digits ns : List ℕ) → AreOctets digits → subidentifiers_of 0 false digits ≡ Some ns → AreSized ns digits
+subs_found digits ns are e = free_found digits ns are e
+
 -- ---- the other way
 
 sized_same : (n : ℕ) → n < 2 ^ 40 → sized n ≡ n
 sized_same n lt = omega arith
 
-abbrev AllSmall : List ℕ → Type 0
+abbrev pub AllSmall : List ℕ → Type 0
 AllSmall ns = AllByRecursion (λ n. n < 2 ^ 40) ns
 
 piece_again : (a : ℕ) (piece others : List ℕ) → AreDigits piece → subidentifiers_of (sized a) true (piece ++ others) ≡ push_front (sized (number_128 a piece)) (subidentifiers_of 0 false others)
@@ -134,7 +131,7 @@ first_again (d ∷ []) others h ne = rw (ne_eqb d 128 ne, lt-ltb d 128 h) refl
 first_again (d ∷ e ∷ piece) others h ne =
     rw (ne_eqb d 128 ne, le-ltb d 128 h.0) (piece_again (128 * 0 + (d - 128)) (e ∷ piece) others h.2)
 
-subs_again : (ns contents : List ℕ) → AllSmall ns → AreSubidentifiers ns contents → subidentifiers_of 0 false contents ≡ Some ns
+pub subs_again : (ns contents : List ℕ) → AllSmall ns → AreSubidentifiers ns contents → subidentifiers_of 0 false contents ≡ Some ns
 subs_again [] contents small h = ap (subidentifiers_of 0 false) h
 subs_again (n ∷ ns) contents small h =
     let piece : List ℕ = h.0 in
@@ -144,7 +141,7 @@ subs_again (n ∷ ns) contents small h =
     let number : sized (number_128 0 piece) ≡ n = ap sized base.number ∙ sized_same n small.0 in
     ap (subidentifiers_of 0 false) h.2 ∙ read ∙ rw (number, subs_again ns others small.1 h.4) refl
 
-sized_subs : (ns contents : List ℕ) → AllSmall ns → AreSized ns contents → AreSubidentifiers ns contents
+pub sized_subs : (ns contents : List ℕ) → AllSmall ns → AreSized ns contents → AreSubidentifiers ns contents
 sized_subs [] contents small h = h
 sized_subs (n ∷ ns) contents small h =
     let same : h.2 ≡ n = let lt = small.0 in let eq = h.5 in omega arith in
@@ -216,7 +213,7 @@ subs_back [] h = refl
 subs_back (root ∷ []) h = absurd cc
 subs_back (root ∷ second ∷ arcs) h = first_from root second arcs (second_low root second (and_parts (nat_le (length (root ∷ second ∷ arcs)) 32) _ h).1)
 
-root_small : (root second : ℕ) → ((root < 2) × (second < 40)) ⊎ (root ≡ 2) → root ≤ 2
+pub root_small : (root second : ℕ) → ((root < 2) × (second < 40)) ⊎ (root ≡ 2) → root ≤ 2
 root_small root second (inl h) = let lt = h.0 in omega arith
 root_small root second (inr h) = omega arith
 

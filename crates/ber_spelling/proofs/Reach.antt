@@ -3,7 +3,7 @@ use Rattle.std.proofs.Common.{◌≡◌, ℕ, ◌+◌, ◌-◌, ◌*◌, ◌%◌
 use Rattle.std.specs.Prelude.{nat_lt, nat_eq}
 use Rattle.std.proofs.lemmas.Bool.{ltb-false, ltb-true, lt-ltb, leb-true}
 use Rattle.std.proofs.lemmas.List.{length-drop}
-use Rattle.osi_base.specs.declared.words.Kind.TheVariants.{Length}
+use Rattle.osi_base.specs.declared.layer_words.Kind.TheVariants.{Length}
 use Rattle.asn1_types.specs.Whole.{number_256}
 use Rattle.ber_spelling.specs.declared.fault.ReadFault.TheVariants as faults
 use Rattle.ber_spelling.specs.declared.spot.Scope.{Scope}

@@ -10,8 +10,8 @@ use Rattle.asn1_types.specs.Defaults.{may_be_absent}
 use Rattle.asn1_types.specs.Rows.{of_row, along, begins, text_number, is_no_tag}
 use Rattle.asn1_types.specs.Value.{Value}
 use Rattle.asn1_types.specs.Whole.{is_marked}
-use Rattle.osi_base.specs.declared.words.Kind.{Kind}
-use Rattle.osi_base.specs.declared.words.Kind.TheVariants.{Tag, Form}
+use Rattle.osi_base.specs.declared.layer_words.Kind.{Kind}
+use Rattle.osi_base.specs.declared.layer_words.Kind.TheVariants.{Tag, Form}
 use Rattle.ber_spelling.specs.declared.fault.ReadFault.TheVariants as faults
 use Rattle.ber_spelling.specs.declared.spot.Scope.{Scope}
 use Rattle.asn1_types.specs.declared.row.Tag as tags

@@ -1,7 +1,7 @@
 -- SEQUENCE and CHOICE: what is read is spelled so, and what is spelled so is read.
 use Rattle.std.proofs.Common.{◌≡◌, ℕ, suc, ◌+◌, Bool, true, cond, List, [], ◌∷◌, ◌++◌, length, Option, Some, None, Ok, Err, refl, sym, ap, ◌∙◌, subst, arith, append_assoc, length-append, inl, inr}
 use Rattle.std.specs.Prelude.{slice_get}
-use Rattle.osi_base.specs.declared.words.Kind.TheVariants.{Missing}
+use Rattle.osi_base.specs.declared.layer_words.Kind.TheVariants.{Missing}
 use Rattle.asn1_types.specs.declared.row.Class.{Class}
 use Rattle.asn1_types.specs.declared.row.Part.{Part}
 use Rattle.asn1_types.specs.Defaults.{may_be_absent, kept}

@@ -3,7 +3,7 @@ use Rattle.std.proofs.Common.{◌≡◌, ℕ, zero, suc, ◌+◌, ◌≤◌, Boo
 use Rattle.std.specs.Prelude.{slice_get, slice_set, nat_lt}
 use Rattle.std.specs.List.{list_any}
 use Rattle.std.proofs.lemmas.Bool.{ltb-false, le-ltb, or_parts}
-use Rattle.osi_base.specs.declared.words.Kind.TheVariants.{Extra, Form}
+use Rattle.osi_base.specs.declared.layer_words.Kind.TheVariants.{Extra, Form}
 use Rattle.asn1_types.specs.declared.row.Part.{Part}
 use Rattle.asn1_types.specs.Rows.{Opening}
 use Rattle.asn1_types.specs.Table.{clash, agrees_later}
@@ -68,7 +68,7 @@ module _ (begins : Begins) (inner : ℕ → Reader) (rel : ℕ → Spelled) (h :
         ];
   }
 
-  slot_found : (all ps : List Part) (which : ℕ) (before : Filled) → ((i : ℕ) (p : Part) → slice_get ps i ≡ Some p → slice_get all (which + i) ≡ Some p)
+  pub slot_found : (all ps : List Part) (which : ℕ) (before : Filled) → ((i : ℕ) (p : Part) → slice_get ps i ≡ Some p → slice_get all (which + i) ≡ Some p)
       → Found (slot_at begins inner which ps before) (SetStep rel all before)
   unfolding slot_at
   slot_found all [] which before there = record { found = λ scope place rest o s w to are opens e. absurd (let wrong : Err (faults.NotSpelled o.start.place Extra) ≡ done {A = Filled × Spot} (w, to) = e in cc) }
@@ -110,7 +110,7 @@ module _ (openings : ℕ → List Opening) (inner : ℕ → Reader) (rel : ℕ �
       rw (not_before openings inner rel h o.class o.number r ps i q t.0 g b)
       (slot_reads ps t.1 (suc which) i q g before scope o s v to b (ap (slice_get before.found) next ∙ free) order e ∙ ap (λ (n : ℕ). Ok (filled_by n o before v, to)) next)
 
-  slot_only : (ps : List Part) → agrees_later (clash openings) ps ≡ false → (before : Filled) → Only (AnyAllows openings ps) (slot_at (begins_by openings) inner 0 ps before) (SetStep rel ps before)
+  pub slot_only : (ps : List Part) → agrees_later (clash openings) ps ≡ false → (before : Filled) → Only (AnyAllows openings ps) (slot_at (begins_by openings) inner 0 ps before) (SetStep rel ps before)
   slot_only ps d before = record {
     only = λ scope place after text rest p here.
         let which : ℕ = p.0 in

@@ -1,7 +1,7 @@
 -- Reading strictly is reading, or a fault of form.
 use Rattle.std.proofs.Common.{◌≡◌, ◌≢◌, ◌⊎◌, ℕ, ◌+◌, ◌-◌, ◌*◌, ◌%◌, Bool, true, false, not, ◌&&◌, ◌||◌, cond, ltb, List, [], ◌∷◌, length, take, drop, Ok, Err, refl, inl, inr}
 use Rattle.std.specs.Prelude.{nat_lt, nat_eq}
-use Rattle.osi_base.specs.declared.words.Kind.TheVariants.{Tag, Length, Form}
+use Rattle.osi_base.specs.declared.layer_words.Kind.TheVariants.{Tag, Length, Form}
 use Rattle.asn1_types.specs.Whole.{number_256}
 use Rattle.ber_spelling.specs.declared.fault.ReadFault.TheVariants as faults
 use Rattle.ber_spelling.specs.declared.spot.Scope.{Scope}

@@ -1,6 +1,6 @@
 -- Identifiers, lengths and the ends of contents, read from the left (X.690 8.1).
 use Rattle.std.specs.Prelude.{ℕ, ◌+◌, ◌-◌, ◌*◌, ◌/◌, ◌%◌, Bool, true, false, not, ◌&&◌, ◌||◌, Option, Some, None, List, [], ◌∷◌, length, take, drop, Ok, Err, nat_lt, nat_le, nat_eq, slice_index, if◌then◌else◌}
-use Rattle.osi_base.specs.declared.words.Kind.TheVariants.{Tag, Length, Form}
+use Rattle.osi_base.specs.declared.layer_words.Kind.TheVariants.{Tag, Length, Form}
 use Rattle.asn1_types.specs.Tags.{class_of, capped}
 use Rattle.asn1_types.specs.Whole.{number_256}
 use Rattle.ber_spelling.specs.declared.fault.ReadFault.TheVariants.{Short, TooDeep}

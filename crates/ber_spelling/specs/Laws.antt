@@ -1,6 +1,6 @@
 -- The laws of reading and of spellings.
 use Rattle.std.specs.Prelude.{◌≡◌, ◌≢◌, ℕ, ◌<◌, ◌≤◌, ◌^◌, Bool, true, false, Some, List, ◌∷◌, ◌++◌, ◌-◌, ◌%◌, length, take, Ok, Err, ◌⊎◌, slice_get, slice_index}
-use Rattle.osi_base.specs.declared.words.Kind.TheVariants.{Form}
+use Rattle.osi_base.specs.declared.layer_words.Kind.TheVariants.{Form}
 use Rattle.asn1_types.specs.declared.row.TypeRow.{TypeRow}
 use Rattle.asn1_types.specs.declared.row.TypeRow.TheVariants.{BitString}
 use Rattle.asn1_types.specs.Table.{AreSoundRows}

@@ -3,6 +3,7 @@
 use Rattle.std.specs.Prelude.{◌≡◌, ◌≢◌, ℕ, zero, suc, ◌+◌, ◌-◌, ◌*◌, ◌^◌, ◌<◌, ◌≤◌, ◌⊎◌, ℤ, ◌≤ℤ◌, Bool, true, false, not, Option, Some, None, List, [], ◌∷◌, ◌++◌, length, nat_lt, nat_eq, slice_index, slice_get, slice_set, if◌then◌else◌}
 use Rattle.std.specs.List.{AllByRecursion}
 use Rattle.osi_base.specs.Oid.{IsOid}
+use Rattle.osi_base.specs.Limits.{most_levels, most_octets}
 use Rattle.asn1_types.specs.declared.row.Class.{Class}
 use Rattle.asn1_types.specs.declared.row.Class.TheVariants.{Universal}
 use Rattle.asn1_types.specs.declared.row.Part.{Part}
@@ -10,7 +11,6 @@ use Rattle.asn1_types.specs.declared.row.TypeRow.{TypeRow}
 use Rattle.asn1_types.specs.declared.row.TypeRow.TheVariants as row
 use Rattle.asn1_types.specs.declared.row.Item.{Item}
 use Rattle.asn1_types.specs.Rows.{is_no_tag, text_number}
-use Rattle.asn1_types.specs.Limits.{most_levels, most_octets}
 use Rattle.asn1_types.specs.Defaults.{is_item, may_be_absent, is_default, kept}
 use Rattle.asn1_types.specs.Value.{Value, boolean, integer, null, object_id, parts, chosen, any, MaybeValues, no_parts, absent, present}
 use Rattle.asn1_types.specs.declared.row.Tag as tags

@@ -1,6 +1,8 @@
 //! The fields of BER: identifiers, lengths, contents and their ends (X.690 8.1).
 
 ghost use Rattle.std.specs.Prelude.{◌≢◌, IfErr, ◌≡◌, ◌∷◌, ◌+◌, ◌-◌, ◌≤◌, ◌<◌, ◌^◌, length, take, IfOk, Err};
+ghost use Rattle.osi_base.specs.OctetPlaces.{HasPlaces};
+ghost use Rattle.osi_base.specs.Limits.{past_places};
 ghost use Rattle.asn1_types.specs.Whole.{number_256};
 ghost use Rattle.ber_spelling.specs.Reading.{Gives, within, spot_of, opened_of, ahead_of, is_past, LiesIn, GoesOn, Opens};
 ghost use Rattle.ber_spelling.specs.Fields.{is_constructed, digits_at, high_at, identifier_at, announced_at, long_at, definite_at, extent_at, contents_at, begin_at, mark_at, look_at, is_end, lacking_from, cut_off, sure_reach};
@@ -83,7 +85,7 @@ fn is_constructed(first: u8) -> bool
 /// The number that digits of seven bits are, from the place behind `place` on.
 #[tactic(auto, unfolding(crate::specs::Fields::digits_at))]
 fn digits<'a>(scope: &Scope, place: usize, digits: &'a [u8]) -> Result<(u64, Spot<'a>), ReadFault>
-    requires { place + length digits.now + 1 < 2 ^ 63 }
+    requires { place + length digits.now + 1 < past_places }
     ensures gives { Gives (λ x. (x.0, spot_of x.1)) result
         (digits_at scope.now place 0 (place + 1) digits.now) }
     ensures no_memory { IfErr result (λ e. e ≢ ReadFault.NoMemory) }
@@ -117,7 +119,7 @@ fn high<'a>(
     first: u8,
     digits_of: &'a [u8],
 ) -> Result<(Opened<'a>, Spot<'a>), ReadFault>
-    requires whole { start.place + length digits_of.now + 1 < 2 ^ 63 }
+    requires whole { start.place + length digits_of.now + 1 < past_places }
     requires first { start.rest.now ≡ first ∷ digits_of.now }
     ensures gives { Gives (λ x. (opened_of x.0, spot_of x.1)) result
         (high_at scope.now start.entry.place first digits_of.now) }
@@ -141,8 +143,11 @@ fn high<'a>(
 /// The identifier at this spot (X.690 8.1.2), and where reading goes on; or the first fault in it.
 #[tactic(auto, unfolding(crate::specs::Fields::identifier_at))]
 #[inline(always)]
-pub fn identifier<'a>(scope: &Scope, start: Spot<'a>) -> Result<(Opened<'a>, Spot<'a>), ReadFault>
-    requires { start.place + length start.rest.now < 2 ^ 63 }
+pub fn identifier_octets<'a>(
+    scope: &Scope,
+    start: Spot<'a>,
+) -> Result<(Opened<'a>, Spot<'a>), ReadFault>
+    requires { HasPlaces start.place start.rest.now }
     ensures gives { Gives (λ x. (opened_of x.0, spot_of x.1)) result
         (identifier_at scope.now start.entry.place start.entry.rest.now) }
     ensures no_memory { IfErr result (λ e. e ≢ ReadFault.NoMemory) }
@@ -181,7 +186,7 @@ pub fn identifier<'a>(scope: &Scope, start: Spot<'a>) -> Result<(Opened<'a>, Spo
 #[tactic(auto, unfolding(crate::specs::Reading::within))]
 #[inline(always)]
 fn check_reach(scope: &Scope, place: usize, from: usize, count: u64) -> Result<(), ReadFault>
-    requires { from < 2 ^ 63 }
+    requires { from < past_places }
     ensures gives { Gives (λ x. x) result (within scope.now place (from + count)) }
     ensures no_memory { IfErr result (λ e. e ≢ ReadFault.NoMemory) }
     ensures reach { IfOk result (λ _. from + count ≤ scope.now.limit) }
@@ -202,7 +207,7 @@ fn announced<'a>(
     minimal: bool,
     spot: Spot<'a>,
 ) -> Result<(u64, Spot<'a>), ReadFault>
-    requires { spot.place < 2 ^ 63 }
+    requires { spot.place < past_places }
     ensures gives { Gives (λ x. (x.0, spot_of x.1)) result
         (announced_at scope.now place count minimal spot.entry.place spot.entry.rest.now) }
     ensures no_memory { IfErr result (λ e. e ≢ ReadFault.NoMemory) }
@@ -225,7 +230,7 @@ fn long<'a>(
     size: u8,
     rest: &'a [u8],
 ) -> Result<(u64, Spot<'a>), ReadFault>
-    requires { place + 1 + length rest.now < 2 ^ 63 }
+    requires { place + 1 + length rest.now < past_places }
     ensures gives { Gives (λ x. (x.0, spot_of x.1)) result (long_at scope.now place size rest.now) }
     ensures no_memory { IfErr result (λ e. e ≢ ReadFault.NoMemory) }
     ensures stops { IfOk result (λ x. GoesOn (place + 1) (length rest.now) x.1) }
@@ -259,7 +264,7 @@ fn long<'a>(
 #[tactic(auto, unfolding(crate::specs::Reading::within))]
 #[inline(never)]
 fn lacking(scope: &Scope, place: usize, from: usize) -> ReadFault
-    requires { from < 2 ^ 63 }
+    requires { from < past_places }
     ensures is { lacking_from {A = Unit {0}} scope.now place from ≡ Err result }
     ensures no_memory { result ≢ ReadFault.NoMemory }
 {
@@ -304,7 +309,7 @@ fn cut_off(scope: &Scope, place: usize, until: usize) -> ReadFault
 #[tactic(auto, unfolding(crate::specs::Fields::definite_at))]
 #[inline(always)]
 fn definite<'a>(scope: &Scope, spot: Spot<'a>) -> Result<(u64, Spot<'a>), ReadFault>
-    requires { spot.place + length spot.rest.now < 2 ^ 63 }
+    requires { HasPlaces spot.place spot.rest.now }
     ensures gives { Gives (λ x. (x.0, spot_of x.1)) result
         (definite_at scope.now spot.entry.place spot.entry.rest.now) }
     ensures no_memory { IfErr result (λ e. e ≢ ReadFault.NoMemory) }
@@ -335,7 +340,7 @@ pub(crate) fn contents<'a>(
     scope: &Scope,
     spot: Spot<'a>,
 ) -> Result<(usize, &'a [u8], Spot<'a>), ReadFault>
-    requires { spot.place + length spot.rest.now < 2 ^ 63 }
+    requires { HasPlaces spot.place spot.rest.now }
     ensures gives { Gives (λ x. (x.0, x.1.now, spot_of x.2)) result
         (contents_at scope.now spot.entry.place spot.entry.rest.now) }
     ensures no_memory { IfErr result (λ e. e ≢ ReadFault.NoMemory) }
@@ -361,7 +366,7 @@ pub(crate) fn contents<'a>(
 #[tactic(auto, unfolding(crate::specs::Fields::extent_at))]
 #[inline(always)]
 pub fn extent<'a>(scope: &Scope, spot: Spot<'a>) -> Result<(Scope, Spot<'a>), ReadFault>
-    requires { spot.place + length spot.rest.now < 2 ^ 63 }
+    requires { HasPlaces spot.place spot.rest.now }
     ensures gives { Gives (λ x. (x.0, spot_of x.1)) result
         (extent_at scope.now spot.entry.place spot.entry.rest.now) }
     ensures no_memory { IfErr result (λ e. e ≢ ReadFault.NoMemory) }
@@ -414,20 +419,20 @@ fn inside(scope: &Scope, end: Option<usize>, marked: bool) -> Scope
 #[tactic(auto, unfolding(crate::specs::Fields::look_at))]
 #[inline(always)]
 fn begin<'a>(scope: &Scope, spot: Spot<'a>) -> Result<Ahead<'a>, ReadFault>
-    requires { spot.place + length spot.rest.now < 2 ^ 63 }
+    requires { HasPlaces spot.place spot.rest.now }
     ensures gives { Gives (λ x. ahead_of x) result
         (begin_at scope.now spot.entry.place spot.entry.rest.now) }
     ensures no_memory { IfErr result (λ e. e ≢ ReadFault.NoMemory) }
     ensures stops { IfOk result (LiesIn spot.entry.place (length spot.entry.rest.now)) }
 {
-    let (opened, after) = identifier(scope, spot)?;
+    let (opened, after) = identifier_octets(scope, spot)?;
     Ok(Ahead::Begun(opened, after))
 }
 
 /// Whether contents end at end-of-contents octets, or what begins here.
 #[inline(never)]
 fn mark<'a>(scope: &Scope, spot: Spot<'a>) -> Result<Ahead<'a>, ReadFault>
-    requires { spot.place + length spot.rest.now < 2 ^ 63 }
+    requires { HasPlaces spot.place spot.rest.now }
     ensures gives { Gives (λ x. ahead_of x) result
         (mark_at scope.now spot.entry.place spot.entry.rest.now) }
     ensures no_memory { IfErr result (λ e. e ≢ ReadFault.NoMemory) }
@@ -463,8 +468,8 @@ fn mark<'a>(scope: &Scope, spot: Spot<'a>) -> Result<Ahead<'a>, ReadFault>
 /// Whether contents end here (X.690 8.1.5), or what begins here; or the first fault in it.
 #[tactic(auto, unfolding(crate::specs::Fields::look_at))]
 #[inline(always)]
-pub fn look<'a>(scope: &Scope, spot: Spot<'a>) -> Result<Ahead<'a>, ReadFault>
-    requires { spot.place + length spot.rest.now < 2 ^ 63 }
+pub fn look_ahead<'a>(scope: &Scope, spot: Spot<'a>) -> Result<Ahead<'a>, ReadFault>
+    requires { HasPlaces spot.place spot.rest.now }
     ensures gives { Gives (λ x. ahead_of x) result
         (look_at scope.now spot.entry.place spot.entry.rest.now) }
     ensures no_memory { IfErr result (λ e. e ≢ ReadFault.NoMemory) }

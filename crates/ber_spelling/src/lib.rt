@@ -7,7 +7,7 @@ mod fields;
 mod laws;
 mod octets;
 mod order;
-mod plain;
+mod plain_values;
 mod primitives;
 mod spot;
 mod strings;
@@ -16,7 +16,7 @@ mod whole;
 
 pub use asn1_types::Tag;
 pub use fault::ReadFault;
-pub use fields::{class_of, extent, identifier, look, refusal};
+pub use fields::{class_of, extent, identifier_octets, look_ahead, refusal};
 pub use laws::{
     beginning_is_short, der_is_ber, der_is_ber_in_form, der_is_whole, der_is_written,
     fault_is_first, fault_stays, none_begins, one_of_three, read_is_spelled, read_stays,
@@ -24,10 +24,10 @@ pub use laws::{
     wider_is_long, wider_stays, written_is_read, written_is_spelled,
 };
 pub use octets::{are_octets, hold_octets};
-pub use order::{RANKS, rank, rank_of};
-pub use plain::{boolean, enumerated, integer, is_other_number, null, object_id};
-pub use primitives::{integer_of, is_padded, ones_above};
+pub use order::{RANKS, rank_of, tag_rank};
+pub use plain_values::{boolean, enumerated, integer, is_other_number, null, object_id};
+pub use primitives::{integer_of, is_padded};
 pub use spot::{Ahead, Gathered, Opened, Scope, Spot, StringKind, StringRule};
 pub use strings::{bit_string, octet_string, text};
-pub use tag::{expect, tag_or};
+pub use tag::{expect_tag, tag_or};
 pub use whole::whole_value;

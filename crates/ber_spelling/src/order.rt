@@ -14,7 +14,7 @@ use asn1_types::{Class, Node, Parts, TypeId, TypeRow, TypeTable, Val, text_numbe
 pub const RANKS: u64 = 0x8_0000_0000;
 
 /// Where a tag stands among all tags, by class and then by number; numbers past 32 bits are one.
-pub fn rank(class: Class, number: u64) -> u64
+pub fn tag_rank(class: Class, number: u64) -> u64
     ensures value { result ≡ rank class number }
     ensures below { result < 2 ^ 35 }
 {
@@ -45,9 +45,9 @@ pub(crate) fn front_rank(octets: &[u8]) -> u64
         [] => 0,
         [first, rest @ ..] => {
             if *first % 32 == 31 {
-                rank(class_of(*first), front_number(rest))
+                tag_rank(class_of(*first), front_number(rest))
             } else {
-                rank(class_of(*first), (*first % 32) as u64)
+                tag_rank(class_of(*first), (*first % 32) as u64)
             }
         }
     }
@@ -69,20 +69,20 @@ fn rank_by(table: &TypeTable, of: TypeId, row: &TypeRow, value: &Val) -> u64
     ensures { result ≡ front_rank (write_by (writes table.now) row.now None value.now) }
 {
     match row {
-        TypeRow::Boolean => rank(Class::Universal, 1),
-        TypeRow::Integer { .. } => rank(Class::Universal, 2),
-        TypeRow::BitString => rank(Class::Universal, 3),
-        TypeRow::OctetString { .. } => rank(Class::Universal, 4),
-        TypeRow::Null => rank(Class::Universal, 5),
-        TypeRow::ObjectId => rank(Class::Universal, 6),
-        TypeRow::Enumerated(_) => rank(Class::Universal, 10),
-        TypeRow::Text(kind) => rank(Class::Universal, text_number(*kind) as u64),
-        TypeRow::Sequence(_) => rank(Class::Universal, 16),
-        TypeRow::SequenceOf(_) => rank(Class::Universal, 16),
-        TypeRow::Set(_) => rank(Class::Universal, 17),
-        TypeRow::SetOf(_) => rank(Class::Universal, 17),
+        TypeRow::Boolean => tag_rank(Class::Universal, 1),
+        TypeRow::Integer { .. } => tag_rank(Class::Universal, 2),
+        TypeRow::BitString => tag_rank(Class::Universal, 3),
+        TypeRow::OctetString { .. } => tag_rank(Class::Universal, 4),
+        TypeRow::Null => tag_rank(Class::Universal, 5),
+        TypeRow::ObjectId => tag_rank(Class::Universal, 6),
+        TypeRow::Enumerated(_) => tag_rank(Class::Universal, 10),
+        TypeRow::Text(kind) => tag_rank(Class::Universal, text_number(*kind) as u64),
+        TypeRow::Sequence(_) => tag_rank(Class::Universal, 16),
+        TypeRow::SequenceOf(_) => tag_rank(Class::Universal, 16),
+        TypeRow::Set(_) => tag_rank(Class::Universal, 17),
+        TypeRow::SetOf(_) => tag_rank(Class::Universal, 17),
         TypeRow::Choice(alternatives) => rank_of_chosen(table, of, alternatives, value),
-        TypeRow::Tagged { class, number, .. } => rank(*class, *number as u64),
+        TypeRow::Tagged { class, number, .. } => tag_rank(*class, *number as u64),
         TypeRow::Any => rank_of_any(value),
     }
 }

@@ -22,7 +22,7 @@ pub fn is_padded(octets: &[u8]) -> bool
 
 /// The ones above a number of this many octets, which complete it to 64 bits.
 #[inline(always)]
-pub fn ones_above(len: usize) -> u64
+fn ones_above(len: usize) -> u64
     requires some { 1 ≤ len }
     requires few { len ≤ 8 }
     ensures { result + 256 ^ len ≡ 2 ^ 64 }

@@ -1,14 +1,15 @@
 //! Strings, primitive or in segments (X.690 8.6, 8.7, 8.23).
 
-ghost use Rattle.std.specs.Prelude.{◌≡◌, ◌+◌, ◌<◌, ◌^◌, length, drop, slice_index, Some, IfOk};
+ghost use Rattle.std.specs.Prelude.{◌≡◌, ◌<◌, length, drop, slice_index, Some, IfOk};
+ghost use Rattle.osi_base.specs.OctetPlaces.{HasPlaces};
 ghost use Rattle.ber_spelling.specs.declared.spot.StringKind.TheVariants.{OfOctets, OfBits};
 ghost use Rattle.ber_spelling.specs.Reading.{Gives, spot_of, opened_of, GoesOn};
 ghost use Rattle.ber_spelling.specs.Rules.{always, primitive_at, constructed_at, segment_tag, is_segment, nothing, gathered, segment_rule, segment_at, all_items_at, segmented_at, string_rule, string_at, cleared, kind_of, whole_by, canonical_by, whole_octets, whole_text, whole_bits, has_zero_bits};
 
 use crate::fault::ReadFault;
-use crate::fields::{contents, extent, look, refusal};
+use crate::fields::{contents, extent, look_ahead, refusal};
 use crate::spot::{Ahead, Gathered, Opened, Scope, Spot, StringKind, StringRule};
-use crate::tag::expect;
+use crate::tag::expect_tag;
 use asn1_types::{Class, Node, Tag, TextKind, Val, are_bits, is_text};
 use osi_base::{Kind, NoMemory, Octets, power_of_2};
 use std::alloc::Global;
@@ -84,7 +85,7 @@ fn segments<'a>(
     spot: Spot<'a>,
     before: Gathered,
 ) -> Result<(Gathered, Spot<'a>), ReadFault>
-    requires { spot.place + length spot.rest.now < 2 ^ 63 }
+    requires { HasPlaces spot.place spot.rest.now }
     ensures gives { Gives (λ x. (x.0, spot_of x.1)) result
         (all_items_at (segment_at kind depth) (λ g. Some g) before scope.now (spot_of spot.entry)) }
     ensures stops { IfOk result (λ x. GoesOn spot.entry.place (length spot.entry.rest.now) x.1) }
@@ -92,7 +93,7 @@ fn segments<'a>(
     let mut spot = spot;
     let mut gathered = before;
     for _turn in 0..spot.rest.len() + 1 {
-        match look(scope, spot)? {
+        match look_ahead(scope, spot)? {
             Ahead::Ended { after, .. } => return Ok((gathered, after)),
             Ahead::Begun(opened, after) => {
                 let (more, next) = segment(kind, depth, scope, &opened, after, gathered)?;
@@ -114,7 +115,7 @@ fn segment<'a>(
     spot: Spot<'a>,
     before: Gathered,
 ) -> Result<(Gathered, Spot<'a>), ReadFault>
-    requires { spot.place + length spot.rest.now < 2 ^ 63 }
+    requires { HasPlaces spot.place spot.rest.now }
     ensures gives { Gives (λ x. (x.0, spot_of x.1)) result
         (segment_at kind depth before scope.now (opened_of opened.now) (spot_of spot.entry)) }
     ensures stops { IfOk result (λ x. GoesOn spot.entry.place (length spot.entry.rest.now) x.1) }
@@ -139,13 +140,13 @@ fn nested<'a>(
     spot: Spot<'a>,
     before: Gathered,
 ) -> Result<(Gathered, Spot<'a>), ReadFault>
-    requires { spot.place + length spot.rest.now < 2 ^ 63 }
+    requires { HasPlaces spot.place spot.rest.now }
     ensures gives { Gives (λ x. (x.0, spot_of x.1)) result
         (constructed_at (all_items_at (segment_at kind depth) (λ g. Some g) before)
         (segment_tag kind) scope.now (opened_of opened.now) (spot_of spot.entry)) }
     ensures stops { IfOk result (λ x. GoesOn spot.entry.place (length spot.entry.rest.now) x.1) }
 {
-    expect(segment_tag(kind), true, opened)?;
+    expect_tag(segment_tag(kind), true, opened)?;
     let (inside, spot) = extent(scope, spot)?;
     segments(kind, depth, &inside, spot, before)
 }
@@ -159,13 +160,13 @@ fn single<'a>(
     spot: Spot<'a>,
     before: Gathered,
 ) -> Result<(Gathered, Spot<'a>), ReadFault>
-    requires { spot.place + length spot.rest.now < 2 ^ 63 }
+    requires { HasPlaces spot.place spot.rest.now }
     ensures gives { Gives (λ x. (x.0, spot_of x.1)) result
         (primitive_at (segment_rule kind before) always (segment_tag kind) scope.now
         (opened_of opened.now) (spot_of spot.entry)) }
     ensures stops { IfOk result (λ x. GoesOn spot.entry.place (length spot.entry.rest.now) x.1) }
 {
-    expect(segment_tag(kind), false, opened)?;
+    expect_tag(segment_tag(kind), false, opened)?;
     let (place, octets, after) = contents(scope, spot)?;
     if !is_segment(kind, octets) {
         return Err(refusal(place, Kind::Content));
@@ -267,13 +268,13 @@ fn segmented<'a>(
     opened: &Opened<'a>,
     spot: Spot<'a>,
 ) -> Result<(Val, Spot<'a>), ReadFault>
-    requires { spot.place + length spot.rest.now < 2 ^ 63 }
+    requires { HasPlaces spot.place spot.rest.now }
     ensures gives { Gives (λ x. (x.0, spot_of x.1)) result
         (segmented_at (kind_of rule) (whole_by rule) tag scope.now (opened_of opened.now)
         (spot_of spot.entry)) }
     ensures stops { IfOk result (λ x. GoesOn spot.entry.place (length spot.entry.rest.now) x.1) }
 {
-    expect(tag, true, opened)?;
+    expect_tag(tag, true, opened)?;
     if scope.strict {
         return Err(refusal(opened.start.place, Kind::Form));
     }
@@ -295,13 +296,13 @@ fn primitive<'a>(
     opened: &Opened<'a>,
     spot: Spot<'a>,
 ) -> Result<(Val, Spot<'a>), ReadFault>
-    requires { spot.place + length spot.rest.now < 2 ^ 63 }
+    requires { HasPlaces spot.place spot.rest.now }
     ensures gives { Gives (λ x. (x.0, spot_of x.1)) result
         (primitive_at (string_rule (kind_of rule) (whole_by rule)) (canonical_by rule) tag scope.now
         (opened_of opened.now) (spot_of spot.entry)) }
     ensures stops { IfOk result (λ x. GoesOn spot.entry.place (length spot.entry.rest.now) x.1) }
 {
-    expect(tag, false, opened)?;
+    expect_tag(tag, false, opened)?;
     let (place, octets, after) = contents(scope, spot)?;
     match ruled(alloc, rule, octets)? {
         Some(value) => {
@@ -335,7 +336,7 @@ fn string<'a>(
     opened: &Opened<'a>,
     spot: Spot<'a>,
 ) -> Result<(Val, Spot<'a>), ReadFault>
-    requires { spot.place + length spot.rest.now < 2 ^ 63 }
+    requires { HasPlaces spot.place spot.rest.now }
     ensures gives { Gives (λ x. (x.0, spot_of x.1)) result
         (string_at (kind_of rule) (whole_by rule) (canonical_by rule) tag scope.now
         (opened_of opened.now) (spot_of spot.entry)) }
@@ -359,7 +360,7 @@ pub fn octet_string<'a>(
     opened: &Opened<'a>,
     spot: Spot<'a>,
 ) -> Result<(Val, Spot<'a>), ReadFault>
-    requires { spot.place + length spot.rest.now < 2 ^ 63 }
+    requires { HasPlaces spot.place spot.rest.now }
     ensures gives { Gives (λ x. (x.0, spot_of x.1)) result
         (string_at OfOctets (whole_octets most) always tag scope.now (opened_of opened.now)
         (spot_of spot.entry)) }
@@ -378,7 +379,7 @@ pub fn bit_string<'a>(
     opened: &Opened<'a>,
     spot: Spot<'a>,
 ) -> Result<(Val, Spot<'a>), ReadFault>
-    requires { spot.place + length spot.rest.now < 2 ^ 63 }
+    requires { HasPlaces spot.place spot.rest.now }
     ensures gives { Gives (λ x. (x.0, spot_of x.1)) result
         (string_at OfBits whole_bits has_zero_bits tag scope.now (opened_of opened.now)
         (spot_of spot.entry)) }
@@ -398,7 +399,7 @@ pub fn text<'a>(
     opened: &Opened<'a>,
     spot: Spot<'a>,
 ) -> Result<(Val, Spot<'a>), ReadFault>
-    requires { spot.place + length spot.rest.now < 2 ^ 63 }
+    requires { HasPlaces spot.place spot.rest.now }
     ensures gives { Gives (λ x. (x.0, spot_of x.1)) result
         (string_at OfOctets (whole_text kind) always tag scope.now (opened_of opened.now)
         (spot_of spot.entry)) }

@@ -24,7 +24,7 @@ pub fn tag_or(tag: Option<Tag>, class: Class, number: u32) -> Tag
 
 /// Whether this identifier is of this tag and form; else a fault of kind `Tag` at its place.
 #[inline(always)]
-pub fn expect(tag: Tag, constructed: bool, opened: &Opened) -> Result<(), ReadFault>
+pub fn expect_tag(tag: Tag, constructed: bool, opened: &Opened) -> Result<(), ReadFault>
     ensures gives { Gives (λ x. x) result (expect_at tag constructed (opened_of opened.now)) }
     ensures no_memory { IfErr result (λ e. e ≢ ReadFault.NoMemory) }
 {

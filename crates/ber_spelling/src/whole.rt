@@ -1,18 +1,19 @@
 //! One whole value of any type (X.690 8.1).
 
-ghost use Rattle.std.specs.Prelude.{◌≢◌, IfErr, ◌≡◌, ◌+◌, ◌<◌, ◌^◌, length, Some, IfOk};
+ghost use Rattle.std.specs.Prelude.{◌≢◌, IfErr, ◌≡◌, length, Some, IfOk};
+ghost use Rattle.osi_base.specs.OctetPlaces.{HasPlaces};
 ghost use Rattle.ber_spelling.specs.Reading.{Gives, spot_of, opened_of, behind_of, GoesOn};
 ghost use Rattle.ber_spelling.specs.Rules.{all_items_at, sized_at, marked_at, whole_at};
 
 use crate::fault::ReadFault;
-use crate::fields::{contents, extent, look, refusal};
+use crate::fields::{contents, extent, look_ahead, refusal};
 use crate::spot::{Ahead, Opened, Scope, Spot};
 use asn1_types::{is_marked, is_no_tag};
 use osi_base::Kind;
 
 /// A definite length, and that many octets.
 fn sized<'a>(scope: &Scope, spot: Spot<'a>) -> Result<Spot<'a>, ReadFault>
-    requires { spot.place + length spot.rest.now < 2 ^ 63 }
+    requires { HasPlaces spot.place spot.rest.now }
     ensures gives { Gives behind_of result (sized_at scope.now (spot_of spot.entry)) }
     ensures no_memory { IfErr result (λ e. e ≢ ReadFault.NoMemory) }
     ensures stops { IfOk result (λ to. GoesOn spot.entry.place (length spot.entry.rest.now) to) }
@@ -24,7 +25,7 @@ fn sized<'a>(scope: &Scope, spot: Spot<'a>) -> Result<Spot<'a>, ReadFault>
 /// Whole values up to the end of the contents.
 #[cycle(wholes)]
 fn whole_values<'a>(levels: u32, scope: &Scope, spot: Spot<'a>) -> Result<Spot<'a>, ReadFault>
-    requires { spot.place + length spot.rest.now < 2 ^ 63 }
+    requires { HasPlaces spot.place spot.rest.now }
     ensures gives { Gives behind_of result (all_items_at (whole_at levels) (λ u. Some u) tt
         scope.now (spot_of spot.entry)) }
     ensures no_memory { IfErr result (λ e. e ≢ ReadFault.NoMemory) }
@@ -32,7 +33,7 @@ fn whole_values<'a>(levels: u32, scope: &Scope, spot: Spot<'a>) -> Result<Spot<'
 {
     let mut spot = spot;
     for _turn in 0..spot.rest.len() + 1 {
-        match look(scope, spot)? {
+        match look_ahead(scope, spot)? {
             Ahead::Ended { after, .. } => return Ok(after),
             Ahead::Begun(opened, after) => spot = whole_value(levels, scope, &opened, after)?,
         }
@@ -43,7 +44,7 @@ fn whole_values<'a>(levels: u32, scope: &Scope, spot: Spot<'a>) -> Result<Spot<'
 /// An indefinite length, and whole values.
 #[cycle(wholes)]
 fn marked<'a>(levels: u32, scope: &Scope, spot: Spot<'a>) -> Result<Spot<'a>, ReadFault>
-    requires { spot.place + length spot.rest.now < 2 ^ 63 }
+    requires { HasPlaces spot.place spot.rest.now }
     ensures gives { Gives behind_of result
         (marked_at (all_items_at (whole_at levels) (λ u. Some u) tt) scope.now
         (spot_of spot.entry)) }
@@ -63,7 +64,7 @@ pub fn whole_value<'a>(
     opened: &Opened<'a>,
     spot: Spot<'a>,
 ) -> Result<Spot<'a>, ReadFault>
-    requires { spot.place + length spot.rest.now < 2 ^ 63 }
+    requires { HasPlaces spot.place spot.rest.now }
     ensures gives { Gives behind_of result (whole_at levels tt scope.now (opened_of opened.now)
         (spot_of spot.entry)) }
     ensures no_memory { IfErr result (λ e. e ≢ ReadFault.NoMemory) }

@@ -22,7 +22,7 @@ use crate::pieces::{
     leads_compared, object_ids_compared, octet_strings_compared, one_alone, texts_compared,
     truths_compared, whole,
 };
-use crate::write::next_rank;
+use crate::writing::next_rank;
 use asn1_types::{Class, Part, Parts, TypeId, TypeRow, TypeTable, Val, text_number};
 use ber_spelling::{RANKS, Tag, rank_of, tag_or};
 

@@ -13,11 +13,11 @@ mod order;
 mod pieces;
 mod size;
 mod sort;
-mod write;
+mod writing;
 
 pub use fitting::fits;
 pub use length::{arcs_len, ber_len, definite_len, integer_len};
 pub use order::is_less;
 pub use size::packed_size;
 pub use sort::{follows_last, in_order};
-pub use write::{ber_octets, ber_write};
+pub use writing::{ber_octets, ber_write};

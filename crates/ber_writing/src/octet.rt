@@ -2,9 +2,9 @@
 
 ghost use Rattle.std.specs.Prelude.{◌≡◌, [], ℕ, ◌++◌, ◌∷◌, ◌-◌, ◌^◌, ◌<◌, ◌≤◌, List, Some, None, false, true, length, slice_get, slice_index, drop, map, MatchResult};
 ghost use Rattle.std.specs.List.{AllByRecursion, flat_map};
+ghost use Rattle.osi_base.specs.Limits.{most_spelled};
 ghost use Rattle.asn1_types.specs.Rows.{rows_of_parts};
 ghost use Rattle.asn1_types.specs.Table.{AreSoundRows};
-ghost use Rattle.asn1_types.specs.Limits.{most_spelled};
 ghost use Rattle.asn1_types.specs.ValueView.{parts_of, values_of};
 ghost use Rattle.asn1_types.specs.Writing.{base_128, integer_octets, subidentifiers, identifier, length_octets, definite, boolean_contents, integer_contents, octets_contents, text_contents, bits_contents, object_id_contents, values_contents, list_contents, part_contents, parts_contents, sequence_contents, set_parts, of_rank, alternative_written, choice_written, any_written, under, write_by, writes};
 
@@ -13,7 +13,7 @@ use crate::length::{
     alternative_len, arcs_len, base_128_len, identifier_len, integer_len, length_len, part_len,
     parts_len, value_len, values_len,
 };
-use crate::write::next_rank;
+use crate::writing::next_rank;
 use asn1_types::{Class, Node, Part, Parts, TypeId, TypeRow, TypeTable, Val, text_number};
 use ber_spelling::{RANKS, Tag, rank_of, tag_or};
 

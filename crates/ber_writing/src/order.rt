@@ -1,7 +1,7 @@
 //! The order of the items of a SET OF: by their DER spellings, octet by octet (X.690 11.6).
 
 ghost use Rattle.std.specs.Prelude.{◌≡◌, ◌≤◌, ℕ, List, length, IfOk, IfSome};
-ghost use Rattle.asn1_types.specs.Limits.{most_spelled};
+ghost use Rattle.osi_base.specs.Limits.{most_spelled};
 ghost use Rattle.asn1_types.specs.ValueView.{values_of};
 ghost use Rattle.asn1_types.specs.Rising.{is_less};
 ghost use Rattle.ber_writing.specs.Comparing.{IsApart};
@@ -12,7 +12,7 @@ use crate::compare::values_compared;
 use crate::length::ber_len;
 use crate::octet::octet_at;
 use crate::pieces::{Compared, octets_compared};
-use crate::write::ber_octets;
+use crate::writing::ber_octets;
 use asn1_types::{Node, TypeId, TypeTable, Val};
 use osi_base::NoMemory;
 use std::alloc::Global;

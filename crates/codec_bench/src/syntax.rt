@@ -1,7 +1,7 @@
 //! The syntaxes that the values are spelled in.
 
 ghost use Rattle.std.specs.Prelude.{◌≡◌, ℕ, ◌≤◌, ◌<◌, List, length, min};
-ghost use Rattle.osi_base.specs.Outside.{last_count};
+ghost use Rattle.osi_base.specs.Limits.{last_count};
 ghost use Rattle.asn1_types.specs.declared.row.TypeRow.{TypeRow};
 ghost use Rattle.asn1_types.specs.Value.{Value};
 ghost use Rattle.ber_codec.specs.Writing.{written};

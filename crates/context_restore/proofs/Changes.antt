@@ -8,8 +8,9 @@ use Rattle.std.specs.List.{list_any}
 use Rattle.osi_base.specs.declared.syntax.Pair.{Pair}
 use Rattle.osi_base.specs.declared.syntax.Syntax.{Syntax}
 use Rattle.osi_base.specs.declared.syntax.Syntax.TheVariants.{Ber, Der, Packed}
-use Rattle.osi_base.specs.declared.words.SetItem.{SetItem}
-use Rattle.context_sets.specs.Sets.{ContextSet, pair_of, put, remove, IsRising, AllAbove}
+use Rattle.osi_base.specs.declared.layer_words.SetItem.{SetItem}
+use Rattle.context_sets.specs.Sets.{ContextSet, put, IsRising, AllAbove}
+use Rattle.osi_base.specs.SetPlaces.{pair_of, without_context}
 use Rattle.context_sets.specs.Syntaxes.{is_same}
 use Rattle.context_sets.specs.Alterations.{is_among}
 use Rattle.context_sets.proofs.Rising.{rising-put, rising-remove, by_test}
@@ -69,9 +70,9 @@ without_step false false x y h g = g refl
 pair_of-without : (removed : List ℕ) (set : ContextSet) (k : ℕ) → pair_of (without removed set) k ≡ (if is_among k removed then None else pair_of set k)
 pair_of-without [] set k = refl
 pair_of-without (id ∷ removed) set k =
-    pair_of-without removed (remove id set) k
-    ∙ without_step (is_among k removed) (nat_eq id k) (pair_of (remove id set) k) (pair_of set k)
-    (λ e. subst (λ i. pair_of (remove i set) k ≡ None) (sym (eqb-true id k e)) (pair_of-remove_same k set))
+    pair_of-without removed (without_context id set) k
+    ∙ without_step (is_among k removed) (nat_eq id k) (pair_of (without_context id set) k) (pair_of set k)
+    (λ e. subst (λ i. pair_of (without_context i set) k ≡ None) (sym (eqb-true id k e)) (pair_of-remove_same k set))
     (λ e. pair_of-remove_other k id set (λ x. eqb-false id k e (sym x)))
 
 -- what one look-up has that another hasn't

@@ -3,8 +3,9 @@ use Rattle.std.proofs.Common.{◌≡◌, ℕ, zero, suc, ◌+◌, ◌<◌, ◌�
 use Rattle.std.proofs.lemmas.Bool.{eqb-false}
 use Rattle.std.proofs.lemmas.Bool.Decides.{nat_tests}
 use Rattle.osi_base.specs.declared.syntax.Pair.{Pair}
-use Rattle.osi_base.specs.declared.words.SetItem.{SetItem}
-use Rattle.context_sets.specs.Sets.{ContextSet, pair_of, IsRising, AllAbove}
+use Rattle.osi_base.specs.declared.layer_words.SetItem.{SetItem}
+use Rattle.context_sets.specs.Sets.{ContextSet, IsRising, AllAbove}
+use Rattle.osi_base.specs.SetPlaces.{pair_of}
 use Rattle.context_sets.proofs.Order.{pair_of-above, pair_of-first, pair_of-later}
 use Rattle.context_restore.specs.Versions.{same_pair, is_pair, has, missing}
 use Rattle.context_restore.specs.Chain.{from_id, begins_with}

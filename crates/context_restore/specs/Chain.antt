@@ -1,7 +1,7 @@
 -- Nodes that are linked by index, from the newest to the root. No public clause cites this module.
 use Rattle.std.specs.Prelude.{◌≡◌, ℕ, zero, suc, ◌+◌, ◌<◌, ◌≤◌, Bool, true, false, ◌&&◌, nat_eq, nat_lt, if◌then◌else◌, List, [], ◌∷◌, length, Option, Some, None}
 use Rattle.slab.specs.Slab.{Slab, get, slab_len}
-use Rattle.osi_base.specs.declared.words.SetItem.{SetItem}
+use Rattle.osi_base.specs.declared.layer_words.SetItem.{SetItem}
 use Rattle.osi_base.specs.Limits.{most_marks}
 use Rattle.context_sets.specs.Sets.{ContextSet, IsRising}
 use Rattle.context_sets.specs.Alterations.{is_among}

@@ -3,8 +3,9 @@ use Rattle.std.specs.Prelude.{ℕ, Bool, true, false, not, ◌&&◌, nat_lt, if�
 use Rattle.osi_base.specs.declared.syntax.Pair.{Pair}
 use Rattle.osi_base.specs.declared.syntax.Syntax.{Syntax}
 use Rattle.osi_base.specs.declared.syntax.Syntax.TheVariants.{Ber, Der, Packed}
-use Rattle.osi_base.specs.declared.words.SetItem.{SetItem}
-use Rattle.context_sets.specs.Sets.{ContextSet, pair_of, put, remove}
+use Rattle.osi_base.specs.declared.layer_words.SetItem.{SetItem}
+use Rattle.context_sets.specs.Sets.{ContextSet, put}
+use Rattle.osi_base.specs.SetPlaces.{pair_of, without_context}
 use Rattle.context_sets.specs.Syntaxes.{is_same}
 
 pub record Version : Type 0 where
@@ -45,7 +46,7 @@ root set = record { added = set; removed = [] }
 
 abbrev pub without : List ℕ → ContextSet → ContextSet
 without [] set = set
-without (id ∷ later) set = without later (remove id set)
+without (id ∷ later) set = without later (without_context id set)
 
 abbrev pub with_all : List SetItem → ContextSet → ContextSet
 with_all [] set = set

@@ -6,8 +6,8 @@ ghost use Rattle.context_restore.specs.Versions.{same_syntax, same_pair, missing
 ghost use Rattle.context_restore.specs.Chain.{from_id, begins_with, back_of};
 
 use crate::node::VersionNode;
-use context_sets::{Contexts, put, remove};
-use osi_base::{Copied, ListOf, NoMemory, Pair, SetItem, SetList, Syntax};
+use context_sets::{Contexts, put_context};
+use osi_base::{Copied, ListOf, NoMemory, Pair, SetItem, SetList, Syntax, remove_context};
 use std::alloc::Global;
 
 fn same_syntax(a: Syntax, b: Syntax) -> bool
@@ -126,7 +126,7 @@ fn remove_all(set: &mut Vec<SetItem>, items: &[SetItem])
     ensures { set.new.items ≡ without (ids items.now) set.old.items }
 {
     for item in items {
-        remove(set, item.id);
+        remove_context(set, item.id);
     }
 }
 
@@ -136,7 +136,7 @@ fn put_all(alloc: Global, set: &mut Vec<SetItem>, items: &[SetItem]) -> Result<(
 {
     for item in items {
         set.reserve(1)?;
-        put(set, item.copy(alloc)?);
+        put_context(set, item.copy(alloc)?);
     }
     Ok(())
 }

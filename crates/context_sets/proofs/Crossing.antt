@@ -2,11 +2,12 @@
 use Rattle.std.proofs.Common.{◌≡◌, ℕ, Bool, true, false, ◌||◌, nat_eq, if◌then◌else◌, List, [], ◌∷◌, ◌++◌, Option, Some, None, refl, sym, ap, ◌∙◌}
 use Rattle.std.proofs.lemmas.Bool.{eqb-false}
 use Rattle.osi_base.specs.declared.syntax.Syntax.{Syntax}
-use Rattle.osi_base.specs.declared.words.Proposal.{Proposal}
-use Rattle.osi_base.specs.declared.words.AddAnswer.{AddAnswer}
-use Rattle.osi_base.specs.declared.words.Answers.{Answers}
+use Rattle.osi_base.specs.declared.layer_words.Proposal.{Proposal}
+use Rattle.osi_base.specs.declared.layer_words.AddAnswer.{AddAnswer}
+use Rattle.osi_base.specs.declared.layer_words.Answers.{Answers}
 use Rattle.context_sets.specs.declared.alteration.Alteration.{Alteration}
-use Rattle.context_sets.specs.Sets.{ContextSet, IsRising, put, remove}
+use Rattle.context_sets.specs.Sets.{ContextSet, IsRising, put}
+use Rattle.osi_base.specs.SetPlaces.{without_context}
 use Rattle.context_sets.specs.Alterations.{accepted_as, with_syntax, with_additions, without, without_deletions, altered, identifiers, named_by, is_among}
 use Rattle.context_sets.specs.Laws.{IsApartFrom, AreApart}
 use Rattle.context_sets.proofs.Rising.{rising-with_syntax, rising-with_additions, rising-without, rising-without_deletions}
@@ -49,13 +50,13 @@ syntax-syntax p q None (Some t) set n r = refl
 syntax-syntax p q (Some s) None set n r = refl
 syntax-syntax p q (Some s) (Some t) set n r = put-put _ _ set n r
 
-syntax-choice : (p : Proposal) (s : Option Syntax) (id : ℕ) (b : Bool) (set : ContextSet) → (p.id ≡ id → ⊥) → IsRising set → with_syntax p s (if b then remove id set else set) ≡ (if b then remove id (with_syntax p s set) else with_syntax p s set)
+syntax-choice : (p : Proposal) (s : Option Syntax) (id : ℕ) (b : Bool) (set : ContextSet) → (p.id ≡ id → ⊥) → IsRising set → with_syntax p s (if b then without_context id set else set) ≡ (if b then without_context id (with_syntax p s set) else with_syntax p s set)
 syntax-choice p None id true set n r = refl
 syntax-choice p None id false set n r = refl
 syntax-choice p (Some s) id true set n r = put-remove _ id set n r
 syntax-choice p (Some s) id false set n r = refl
 
-choice-choice : (j k : ℕ) (a b : Bool) (set : ContextSet) → IsRising set → (if a then remove j (if b then remove k set else set) else (if b then remove k set else set)) ≡ (if b then remove k (if a then remove j set else set) else (if a then remove j set else set))
+choice-choice : (j k : ℕ) (a b : Bool) (set : ContextSet) → IsRising set → (if a then without_context j (if b then without_context k set else set) else (if b then without_context k set else set)) ≡ (if b then without_context k (if a then without_context j set else set) else (if a then without_context j set else set))
 choice-choice j k true true set r = remove-remove j k set r
 choice-choice j k true false set r = refl
 choice-choice j k false true set r = refl

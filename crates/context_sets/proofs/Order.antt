@@ -2,8 +2,9 @@
 use Rattle.std.proofs.Common.{◌≡◌, ℕ, ◌<◌, ◌≤◌, Bool, true, false, nat_eq, nat_lt, [], ◌∷◌, Some, None, refl, sym, ap, ◌∙◌, arith, ap₂, le_of_lt, le_of_eq, eqb-true, nat_cmp, Ordering, Less, Equal, Greater}
 use Rattle.std.proofs.lemmas.Bool.{eqb-false}
 use Rattle.std.proofs.lemmas.Bool.Decides.{nat_tests}
-use Rattle.osi_base.specs.declared.words.SetItem.{SetItem}
-use Rattle.context_sets.specs.Sets.{ContextSet, pair_of, put, remove, IsRising, AllAbove}
+use Rattle.osi_base.specs.declared.layer_words.SetItem.{SetItem}
+use Rattle.context_sets.specs.Sets.{ContextSet, put, IsRising, AllAbove}
+use Rattle.osi_base.specs.SetPlaces.{pair_of, without_context}
 use Rattle.context_sets.proofs.Rising.{rising-put, rising-remove}
 
 pub pair_of-put_same : (new : SetItem) (set : ContextSet) → pair_of (put new set) new.id ≡ Some new.pair
@@ -14,11 +15,11 @@ pub pair_of-put_other : (j : ℕ) (new : SetItem) (set : ContextSet) → (j ≡ 
 pair_of-put_other j new [] n = grind (arith, nat_tests)
 pair_of-put_other j new (item ∷ items) n = let ih = pair_of-put_other j new items n in grind (arith, nat_tests)
 
-pub pair_of-remove_same : (k : ℕ) (set : ContextSet) → pair_of (remove k set) k ≡ None
+pub pair_of-remove_same : (k : ℕ) (set : ContextSet) → pair_of (without_context k set) k ≡ None
 pair_of-remove_same k [] = refl
 pair_of-remove_same k (item ∷ items) = let ih = pair_of-remove_same k items in grind (arith, nat_tests)
 
-pub pair_of-remove_other : (j k : ℕ) (set : ContextSet) → (j ≡ k → ⊥) → pair_of (remove k set) j ≡ pair_of set j
+pub pair_of-remove_other : (j k : ℕ) (set : ContextSet) → (j ≡ k → ⊥) → pair_of (without_context k set) j ≡ pair_of set j
 pair_of-remove_other j k [] n = refl
 pair_of-remove_other j k (item ∷ items) n = let ih = pair_of-remove_other j k items n in grind (arith, nat_tests)
 
@@ -92,27 +93,27 @@ put-put a b set n r =
         let q = eqb-false i b.id f in
         pair_of-put_other i a (put b set) p ∙ pair_of-put_other i b set q ∙ sym (pair_of-put_other i b (put a set) q ∙ pair_of-put_other i a set p)
 
-pub put-remove : (a : SetItem) (k : ℕ) (set : ContextSet) → (a.id ≡ k → ⊥) → IsRising set → put a (remove k set) ≡ remove k (put a set)
+pub put-remove : (a : SetItem) (k : ℕ) (set : ContextSet) → (a.id ≡ k → ⊥) → IsRising set → put a (without_context k set) ≡ without_context k (put a set)
 put-remove a k set n r =
     same_set _ _ (rising-put a _ (rising-remove k set r)) (rising-remove k _ (rising-put a set r)) (λ i. go i (nat_eq i a.id) refl (nat_eq i k) refl)
   where
-    go : (i : ℕ) (x : Bool) → nat_eq i a.id ≡ x → (y : Bool) → nat_eq i k ≡ y → pair_of (put a (remove k set)) i ≡ pair_of (remove k (put a set)) i
+    go : (i : ℕ) (x : Bool) → nat_eq i a.id ≡ x → (y : Bool) → nat_eq i k ≡ y → pair_of (put a (without_context k set)) i ≡ pair_of (without_context k (put a set)) i
     go i true e y f =
         let here = eqb-true i a.id e in
-        rw here (pair_of-put_same a (remove k set) ∙ sym (pair_of-remove_other a.id k (put a set) n ∙ pair_of-put_same a set))
+        rw here (pair_of-put_same a (without_context k set) ∙ sym (pair_of-remove_other a.id k (put a set) n ∙ pair_of-put_same a set))
     go i false e true f =
         let here = eqb-true i k f in
-        rw here (pair_of-put_other k a (remove k set) (λ x. n (sym x)) ∙ pair_of-remove_same k set ∙ sym (pair_of-remove_same k (put a set)))
+        rw here (pair_of-put_other k a (without_context k set) (λ x. n (sym x)) ∙ pair_of-remove_same k set ∙ sym (pair_of-remove_same k (put a set)))
     go i false e false f =
         let p = eqb-false i a.id e in
         let q = eqb-false i k f in
-        pair_of-put_other i a (remove k set) p ∙ pair_of-remove_other i k set q ∙ sym (pair_of-remove_other i k (put a set) q ∙ pair_of-put_other i a set p)
+        pair_of-put_other i a (without_context k set) p ∙ pair_of-remove_other i k set q ∙ sym (pair_of-remove_other i k (put a set) q ∙ pair_of-put_other i a set p)
 
-pub remove-remove : (j k : ℕ) (set : ContextSet) → IsRising set → remove j (remove k set) ≡ remove k (remove j set)
+pub remove-remove : (j k : ℕ) (set : ContextSet) → IsRising set → without_context j (without_context k set) ≡ without_context k (without_context j set)
 remove-remove j k set r =
     same_set _ _ (rising-remove j _ (rising-remove k set r)) (rising-remove k _ (rising-remove j set r)) (λ i. go i (nat_eq i j) refl (nat_eq i k) refl)
   where
-    go : (i : ℕ) (x : Bool) → nat_eq i j ≡ x → (y : Bool) → nat_eq i k ≡ y → pair_of (remove j (remove k set)) i ≡ pair_of (remove k (remove j set)) i
+    go : (i : ℕ) (x : Bool) → nat_eq i j ≡ x → (y : Bool) → nat_eq i k ≡ y → pair_of (without_context j (without_context k set)) i ≡ pair_of (without_context k (without_context j set)) i
     go i true e true f =
         let here = eqb-true i j e in
         let there = eqb-true i k f in
@@ -121,12 +122,12 @@ remove-remove j k set r =
     go i true e false f =
         let here = eqb-true i j e in
         let q : j ≡ k → ⊥ = λ x. eqb-false i k f (here ∙ x) in
-        rw here (pair_of-remove_same j (remove k set) ∙ sym (pair_of-remove_other j k (remove j set) q ∙ pair_of-remove_same j set))
+        rw here (pair_of-remove_same j (without_context k set) ∙ sym (pair_of-remove_other j k (without_context j set) q ∙ pair_of-remove_same j set))
     go i false e true f =
         let here = eqb-true i k f in
         let p : k ≡ j → ⊥ = λ x. eqb-false i j e (here ∙ x) in
-        rw here (pair_of-remove_other k j (remove k set) p ∙ pair_of-remove_same k set ∙ sym (pair_of-remove_same k (remove j set)))
+        rw here (pair_of-remove_other k j (without_context k set) p ∙ pair_of-remove_same k set ∙ sym (pair_of-remove_same k (without_context j set)))
     go i false e false f =
         let p = eqb-false i j e in
         let q = eqb-false i k f in
-        pair_of-remove_other i j (remove k set) p ∙ pair_of-remove_other i k set q ∙ sym (pair_of-remove_other i k (remove j set) q ∙ pair_of-remove_other i j set p)
+        pair_of-remove_other i j (without_context k set) p ∙ pair_of-remove_other i k set q ∙ sym (pair_of-remove_other i k (without_context j set) q ∙ pair_of-remove_other i j set p)

@@ -2,12 +2,13 @@
 use Rattle.std.proofs.Common.{◌≡◌, ℕ, ◌<◌, Bool, true, false, nat_eq, nat_lt, if◌then◌else◌, List, [], ◌∷◌, Option, Some, None, refl, sym, arith, subst, lt_trans, eqb-true}
 use Rattle.std.proofs.lemmas.Bool.Decides.{nat_tests}
 use Rattle.osi_base.specs.declared.syntax.Syntax.{Syntax}
-use Rattle.osi_base.specs.declared.words.SetItem.{SetItem}
-use Rattle.osi_base.specs.declared.words.Proposal.{Proposal}
-use Rattle.osi_base.specs.declared.words.AddAnswer.{AddAnswer}
-use Rattle.osi_base.specs.declared.words.Answers.{Answers}
+use Rattle.osi_base.specs.declared.layer_words.SetItem.{SetItem}
+use Rattle.osi_base.specs.declared.layer_words.Proposal.{Proposal}
+use Rattle.osi_base.specs.declared.layer_words.AddAnswer.{AddAnswer}
+use Rattle.osi_base.specs.declared.layer_words.Answers.{Answers}
 use Rattle.context_sets.specs.declared.alteration.Alteration.{Alteration}
-use Rattle.context_sets.specs.Sets.{ContextSet, AllAbove, IsRising, put, remove}
+use Rattle.context_sets.specs.Sets.{ContextSet, AllAbove, IsRising, put}
+use Rattle.osi_base.specs.SetPlaces.{without_context}
 use Rattle.context_sets.specs.Alterations.{accepted_as, with_syntax, with_additions, without, without_deletions, altered}
 
 -- what holds of both branches holds of a choice
@@ -41,12 +42,12 @@ rising-put new (item ∷ items) r =
     more : nat_lt new.id item.id ≡ false → nat_eq new.id item.id ≡ false → item.id < new.id
     more f g = grind (arith, nat_tests)
 
-above-remove : (j id : ℕ) (set : ContextSet) → AllAbove j set → AllAbove j (remove id set)
+above-remove : (j id : ℕ) (set : ContextSet) → AllAbove j set → AllAbove j (without_context id set)
 above-remove j id [] a = tt
 above-remove j id (item ∷ items) a =
     by_test (AllAbove j) (nat_eq item.id id) _ _ (λ t. above-remove j id items a.1) (λ g. (a.0, above-remove j id items a.1))
 
-pub rising-remove : (id : ℕ) (set : ContextSet) → IsRising set → IsRising (remove id set)
+pub rising-remove : (id : ℕ) (set : ContextSet) → IsRising set → IsRising (without_context id set)
 rising-remove id [] r = tt
 rising-remove id (item ∷ items) r =
     by_test IsRising (nat_eq item.id id) _ _

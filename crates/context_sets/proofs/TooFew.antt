@@ -1,6 +1,6 @@
 -- A set after answers, of which there may be too few.
 use Rattle.std.proofs.Common.{◌≡◌, ℕ, List, [], ◌∷◌, refl}
-use Rattle.osi_base.specs.declared.words.Proposal.{Proposal}
+use Rattle.osi_base.specs.declared.layer_words.Proposal.{Proposal}
 use Rattle.context_sets.specs.Sets.{ContextSet}
 use Rattle.context_sets.specs.Alterations.{with_additions, without_deletions}
 

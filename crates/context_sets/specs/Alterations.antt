@@ -2,12 +2,13 @@
 use Rattle.std.specs.Prelude.{ℕ, ◌+◌, Bool, ◌||◌, nat_eq, if◌then◌else◌, List, [], ◌∷◌, ◌++◌, length, map, Option, Some, None}
 use Rattle.std.specs.List.{list_any}
 use Rattle.osi_base.specs.declared.syntax.Syntax.{Syntax}
-use Rattle.osi_base.specs.declared.words.SetItem.{SetItem}
-use Rattle.osi_base.specs.declared.words.Proposal.{Proposal}
-use Rattle.osi_base.specs.declared.words.AddAnswer.{AddAnswer}
-use Rattle.osi_base.specs.declared.words.Answers.{Answers}
+use Rattle.osi_base.specs.declared.layer_words.SetItem.{SetItem}
+use Rattle.osi_base.specs.declared.layer_words.Proposal.{Proposal}
+use Rattle.osi_base.specs.declared.layer_words.AddAnswer.{AddAnswer}
+use Rattle.osi_base.specs.declared.layer_words.Answers.{Answers}
 use Rattle.context_sets.specs.declared.alteration.Alteration.{Alteration}
-use Rattle.context_sets.specs.Sets.{ContextSet, put, remove}
+use Rattle.context_sets.specs.Sets.{ContextSet, put}
+use Rattle.osi_base.specs.SetPlaces.{without_context}
 use Rattle.context_sets.specs.Syntaxes.{syntax_named}
 
 -- the transfer syntax with which an addition is accepted: result 0 with a syntax that is known
@@ -33,7 +34,7 @@ with_additions (proposal ∷ proposals) (answer ∷ answers) set =
 
 -- a set less one deletion, which result 0 accepts
 abbrev pub without : ℕ → ℕ → ContextSet → ContextSet
-without id result set = if nat_eq result 0 then remove id set else set
+without id result set = if nat_eq result 0 then without_context id set else set
 
 -- a set less the accepted deletions, in their order
 abbrev pub without_deletions : List ℕ → List ℕ → ContextSet → ContextSet

@@ -3,12 +3,13 @@ use Rattle.std.specs.Prelude.{◌≡◌, ◌≢◌, ℕ, ◌+◌, ◌%◌, Bool,
 use Rattle.std.specs.List.{list_any}
 use Rattle.std.specs.Option.{option_or}
 use Rattle.osi_base.specs.declared.syntax.Pair.{Pair}
-use Rattle.osi_base.specs.declared.words.Proposal.{Proposal}
-use Rattle.osi_base.specs.Limits.{highest_context}
+use Rattle.osi_base.specs.declared.layer_words.Proposal.{Proposal}
+use Rattle.osi_base.specs.Limits.{highest_context, most_contexts, most_alterations}
 use Rattle.context_sets.specs.declared.alteration.Alteration.{Alteration}
 use Rattle.context_sets.specs.declared.fault.SetRefusal.{SetRefusal}
 use Rattle.context_sets.specs.declared.fault.SetRefusal.TheVariants.{AlterPending, BadProposal, WrongParity, Named, Present, Absent, Fixed, InUse, SetFull, NoMemory}
-use Rattle.context_sets.specs.Sets.{ContextSet, pair_of}
+use Rattle.context_sets.specs.Sets.{ContextSet}
+use Rattle.osi_base.specs.SetPlaces.{pair_of}
 use Rattle.context_sets.specs.Syntaxes.{is_fixed}
 use Rattle.context_sets.specs.Alterations.{additions, named_by, is_among, is_named}
 
@@ -60,12 +61,12 @@ deletion_refusal set own used id =
 
 -- set, own additions and these would pass 64; deletions aren't taken off
 abbrev pub is_over : ContextSet → List Alteration → List Proposal → Bool
-is_over set own added = nat_lt 64 (length set + additions own + length added)
+is_over set own added = nat_lt most_contexts (length set + additions own + length added)
 
 -- why an end doesn't ask for an alteration
 abbrev pub refusal : Bool → ContextSet → List Alteration → List ℕ → Alteration → Option SetRefusal
 refusal initiator set own used asked =
-    if nat_le 4 (length own) then Some AlterPending
+    if nat_le most_alterations (length own) then Some AlterPending
     else if is_bad asked then Some BadProposal
     else option_or (first_of (addition_refusal initiator set own) asked.added)
     (option_or (first_of (deletion_refusal set own used) asked.deleted)

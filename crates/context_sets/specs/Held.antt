@@ -1,9 +1,11 @@
 -- What one end holds: its set, its own alterations that aren't answered, and the room for them.
 use Rattle.std.specs.Prelude.{ℕ, ◌+◌, ◌≤◌, Bool, ◌&&◌, not, if◌then◌else◌, List, [], ◌∷◌, length, find, Option, Some, None, is_some}
 use Rattle.std.specs.Option.{option_map}
-use Rattle.osi_base.specs.declared.words.SetItem.{SetItem}
+use Rattle.osi_base.specs.declared.layer_words.SetItem.{SetItem}
+use Rattle.osi_base.specs.Limits.{most_alterations, most_contexts}
 use Rattle.context_sets.specs.declared.alteration.Alteration.{Alteration}
-use Rattle.context_sets.specs.Sets.{ContextSet, IsRising, pair_of}
+use Rattle.context_sets.specs.Sets.{ContextSet, IsRising}
+use Rattle.osi_base.specs.SetPlaces.{pair_of}
 use Rattle.context_sets.specs.Syntaxes.{is_same}
 use Rattle.context_sets.specs.Alterations.{additions, is_deleted}
 
@@ -17,8 +19,8 @@ pub record Held : Type 0 where
 -- the set rises, at most four alterations wait, and set and own additions are at most 64 together and have their room
 pub record IsSoundHeldSet (set : ContextSet) (own : List Alteration) (room : ℕ) : Type 0 where
   pub rises : IsRising set
-  pub few : length own ≤ 4
-  pub within : length set + additions own ≤ 64
+  pub few : length own ≤ most_alterations
+  pub within : length set + additions own ≤ most_contexts
   pub has_room : additions own ≤ room
 
 -- the room is enough for the own additions

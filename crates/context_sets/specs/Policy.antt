@@ -5,16 +5,18 @@ use Rattle.osi_base.specs.Syntax.{name_of}
 use Rattle.osi_base.specs.declared.syntax.Pair.{Pair}
 use Rattle.osi_base.specs.declared.syntax.Syntax.{Syntax}
 use Rattle.osi_base.specs.declared.syntax.Syntax.TheVariants.{Ber}
-use Rattle.osi_base.specs.declared.words.Proposal.{Proposal}
-use Rattle.osi_base.specs.declared.words.AddAnswer.{AddAnswer}
-use Rattle.osi_base.specs.declared.words.Answers.{Answers}
+use Rattle.osi_base.specs.declared.layer_words.Proposal.{Proposal}
+use Rattle.osi_base.specs.declared.layer_words.AddAnswer.{AddAnswer}
+use Rattle.osi_base.specs.declared.layer_words.Answers.{Answers}
+use Rattle.osi_base.specs.Limits.{most_contexts}
 use Rattle.context_sets.specs.declared.alteration.Alteration.{Alteration}
 use Rattle.context_sets.specs.declared.fault.SetFault.{SetFault}
 use Rattle.context_sets.specs.declared.fault.SetFault.TheVariants.{PeerPresent, PeerParity, NoMemory}
 use Rattle.context_sets.specs.declared.rules.Rules.{Rules}
 use Rattle.context_sets.specs.declared.rules.Rejection.{Rejection}
 use Rattle.context_sets.specs.declared.rules.Rejection.TheVariants.{AbstractSyntax, TransferSyntaxes, LocalLimit}
-use Rattle.context_sets.specs.Sets.{ContextSet, pair_of}
+use Rattle.context_sets.specs.Sets.{ContextSet}
+use Rattle.osi_base.specs.SetPlaces.{pair_of}
 use Rattle.context_sets.specs.Syntaxes.{is_same, is_listed, syntax_named, acse_name, rtse_name, is_fixed}
 use Rattle.context_sets.specs.Alterations.{additions, is_among}
 use Rattle.context_sets.specs.Asking.{is_of}
@@ -39,7 +41,7 @@ chosen rules name (transfer ∷ transfers) = option_or (acceptable rules name tr
 -- an end that has so many contexts takes one more, up to 64 (this project's own limit)
 abbrev pub within_limit : ℕ → Option Syntax → Result Syntax Rejection
 within_limit taken None = Err TransferSyntaxes
-within_limit taken (Some syntax) = if nat_le 64 taken then Err LocalLimit else Ok syntax
+within_limit taken (Some syntax) = if nat_le most_contexts taken then Err LocalLimit else Ok syntax
 
 -- what becomes of an addition
 abbrev pub judged : Rules → ℕ → Proposal → Result Syntax Rejection

@@ -1,7 +1,6 @@
 -- Defined context sets, by rising identifier (X.216 3.4, X.226 6.2, 6.3).
-use Rattle.std.specs.Prelude.{ℕ, ◌<◌, nat_eq, nat_lt, if◌then◌else◌, List, [], ◌∷◌, Option, Some, None}
-use Rattle.osi_base.specs.declared.syntax.Pair.{Pair}
-use Rattle.osi_base.specs.declared.words.SetItem.{SetItem}
+use Rattle.std.specs.Prelude.{ℕ, ◌<◌, nat_eq, nat_lt, if◌then◌else◌, List, [], ◌∷◌}
+use Rattle.osi_base.specs.declared.layer_words.SetItem.{SetItem}
 
 abbrev pub ContextSet : Type 0
 ContextSet = List SetItem
@@ -15,11 +14,6 @@ abbrev pub IsRising : ContextSet → Type 0
 IsRising [] = Unit {0}
 IsRising (item ∷ items) = AllAbove item.id items × IsRising items
 
--- the pair that a set gives an identifier
-abbrev pub pair_of : ContextSet → ℕ → Option Pair
-pair_of [] id = None
-pair_of (item ∷ items) id = if nat_eq item.id id then Some item.pair else pair_of items id
-
 -- the set with this context in it, in the place of one with its identifier
 abbrev pub put : SetItem → ContextSet → ContextSet
 put new [] = new ∷ []
@@ -27,8 +21,3 @@ put new (item ∷ items) =
     if nat_lt new.id item.id then new ∷ item ∷ items
     else if nat_eq new.id item.id then new ∷ items
     else item ∷ put new items
-
--- the set without this identifier
-abbrev pub remove : ℕ → ContextSet → ContextSet
-remove id [] = []
-remove id (item ∷ items) = if nat_eq item.id id then remove id items else item ∷ remove id items

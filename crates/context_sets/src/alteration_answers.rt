@@ -4,15 +4,15 @@ ghost use Rattle.std.specs.Prelude.{◌≡◌, ◌≤◌, true, [], map, IfOk, I
 ghost use Rattle.std.specs.BTreeSet.{contains, Updates};
 ghost use Rattle.std.specs.Option.{option_copied};
 ghost use Rattle.std.specs.Ordering.{nat_cmp};
+ghost use Rattle.osi_base.specs.Limits.{most_contexts};
 ghost use Rattle.context_sets.specs.Policy.{is_service, accepts, acceptable, chosen, judged, reason_of, add_answer, taken_after, added_answers, is_fixed_pair, deletion_answer, next_fault, peer_fault};
 
 use crate::asking::{is_among, is_of, meets_again};
 use crate::fault::SetFault;
 use crate::rules::{Rejection, Rules};
-use crate::sets::pair_of;
 use crate::syntaxes::{is_acse, is_fixed, is_listed, is_rtse, is_same, syntax_named};
 use osi_base::{
-    AddAnswer, AddAnswers, ListOf, NoMemory, Octets, Oid, Pair, Proposal, SetItem, Syntax,
+    AddAnswer, AddAnswers, ListOf, NoMemory, Octets, Oid, Pair, Proposal, SetItem, Syntax, pair_of,
 };
 use std::alloc::Global;
 use std::collections::BTreeSet;
@@ -105,7 +105,7 @@ fn add_answer(alloc: Global, outcome: Result<Syntax, Rejection>) -> Result<AddAn
 }
 
 fn taken_after(taken: usize, outcome: &Result<Syntax, Rejection>) -> usize
-    requires { taken ≤ 64 }
+    requires { taken ≤ most_contexts }
     ensures { result ≡ taken_after taken outcome.now }
 {
     match outcome {
@@ -121,7 +121,7 @@ pub(crate) fn added_answers(
     taken: usize,
     proposals: &[Proposal],
 ) -> Result<AddAnswers, NoMemory>
-    requires { taken ≤ 64 }
+    requires { taken ≤ most_contexts }
     ensures { IfOk result (λ answers. answers ≡ added_answers rules.now taken proposals.now) }
 {
     let mut count = taken;

@@ -6,14 +6,14 @@ ghost use Rattle.std.specs.Bool.{OnFalse};
 ghost use Rattle.std.specs.List.{list_any};
 ghost use Rattle.std.specs.Option.{option_copied};
 ghost use Rattle.std.specs.Ordering.{nat_cmp};
+ghost use Rattle.osi_base.specs.Limits.{most_contexts};
 ghost use Rattle.context_sets.specs.Alterations.{additions, named_by, is_among, names, is_named, is_deleted};
 ghost use Rattle.context_sets.specs.Asking.{is_of, is_no_identifier, are_bad, is_bad_offer, is_bad, first_of, addition_refusal, pair_refusal, deletion_refusal, is_over, refusal};
 
 use crate::alteration::Alteration;
 use crate::fault::SetRefusal;
-use crate::sets::pair_of;
 use crate::syntaxes::is_fixed;
-use osi_base::{NoMemory, Pair, Proposal, SetItem};
+use osi_base::{NoMemory, Pair, Proposal, SetItem, pair_of};
 use std::alloc::Global;
 use std::collections::BTreeSet;
 
@@ -26,7 +26,7 @@ pub(crate) fn is_of(initiator: bool, id: u32) -> bool
 
 /// How many contexts the alterations would add.
 pub(crate) fn additions(alterations: &[Alteration]) -> usize
-    requires { additions alterations.now ≤ 64 }
+    requires { additions alterations.now ≤ most_contexts }
     ensures { result ≡ additions alterations.now }
 {
     let mut count = 0;
@@ -230,7 +230,7 @@ fn deletions_refusal(ground: &Ground<'_>, deleted: &[u32]) -> Option<SetRefusal>
 }
 
 fn is_over(ground: &Ground<'_>, added: &[Proposal]) -> bool
-    requires { length ground.now.items.now + additions ground.now.own.now ≤ 64 }
+    requires { length ground.now.items.now + additions ground.now.own.now ≤ most_contexts }
     ensures { result ≡ is_over ground.now.items.now ground.now.own.now added.now }
 {
     let taken = ground.items.len() + additions(ground.own);
@@ -243,7 +243,7 @@ pub(crate) fn refusal(
     ground: &Ground<'_>,
     asked: &Alteration,
 ) -> Result<Option<SetRefusal>, NoMemory>
-    requires { length ground.now.items.now + additions ground.now.own.now ≤ 64 }
+    requires { length ground.now.items.now + additions ground.now.own.now ≤ most_contexts }
     ensures { IfOk result (λ first. first ≡ refusal ground.now.initiator ground.now.items.now
         ground.now.own.now ground.now.used.now asked.now) }
 {

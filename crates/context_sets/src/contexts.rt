@@ -2,7 +2,9 @@
 
 ghost use Rattle.std.specs.Prelude.{◌≡◌, ◌+◌, ◌≤◌, not, [], ◌∷◌, ◌++◌, length, None, Err, IsOk, IfOk, OnOk, OnErr, MatchOption, MatchResult};
 ghost use Rattle.std.specs.Option.{option_copied};
-ghost use Rattle.context_sets.specs.Sets.{IsRising, pair_of};
+ghost use Rattle.context_sets.specs.Sets.{IsRising};
+ghost use Rattle.osi_base.specs.SetPlaces.{pair_of};
+ghost use Rattle.osi_base.specs.Limits.{most_contexts, most_alterations};
 ghost use Rattle.context_sets.specs.Alterations.{additions, altered, is_deleted};
 ghost use Rattle.context_sets.specs.Held.{HasRoom, oldest, later, may_send, serves, lowest, carrier};
 ghost use Rattle.context_sets.specs.Asking.{refusal, IsRefused};
@@ -15,10 +17,11 @@ use crate::asking::{Ground, additions, is_deleted, refusal};
 use crate::fault::{SetFault, SetRefusal};
 use crate::results::mismatch;
 use crate::rules::Rules;
-use crate::sets::pair_of;
 use crate::settling::{acceptances, settle};
 use crate::syntaxes::is_same;
-use osi_base::{Answers, Copied, Ids, ListOf, NoMemory, Oid, Pair, Proposals, SetItem, SetList};
+use osi_base::{
+    Answers, Copied, Ids, ListOf, NoMemory, Oid, Pair, Proposals, SetItem, SetList, pair_of,
+};
 use std::alloc::Global;
 use std::marker::Model;
 
@@ -68,7 +71,7 @@ impl Contexts {
     /// Puts a whole set in the place of this one, which waits for no answer.
     pub fn install(&mut self, list: SetList) -> Result<(), NoMemory>
         requires rises { IsRising list }
-        requires within { length list ≤ 64 }
+        requires within { length list ≤ most_contexts }
         requires none_waits { self.old.own ≡ [] }
         ensures ok { IsOk result }
         ensures initiator { self.new.initiator ≡ self.old.initiator }
@@ -224,7 +227,7 @@ impl Contexts {
     pub fn items(&self) -> &[SetItem]
         ensures value { result.now ≡ self.now.set }
         ensures rises { IsRising self.now.set }
-        ensures within { length self.now.set + additions self.now.own ≤ 64 }
+        ensures within { length self.now.set + additions self.now.own ≤ most_contexts }
     {
         &self.items
     }
@@ -244,7 +247,7 @@ impl Contexts {
     /// How many own alterations wait for their answers.
     pub fn pending(&self) -> u32
         ensures value { result ≡ length self.now.own }
-        ensures few { result ≤ 4 }
+        ensures few { result ≤ most_alterations }
     {
         self.own.len() as u32
     }

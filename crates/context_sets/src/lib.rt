@@ -20,4 +20,4 @@ pub use fault::{SetFault, SetRefusal};
 pub use laws::{agree_again, answers_fit, crossing_agrees, settle_between};
 pub use results::accepted_list;
 pub use rules::{Rejection, Rules};
-pub use sets::{pair_of, put, remove};
+pub use sets::put_context;

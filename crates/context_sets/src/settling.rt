@@ -5,9 +5,9 @@ ghost use Rattle.context_sets.specs.Alterations.{syntax_known, accepted_as, with
 ghost use Rattle.context_sets.specs.Results.{acceptances};
 
 use crate::alteration::Alteration;
-use crate::sets::{put, remove};
+use crate::sets::put_context;
 use crate::syntaxes::syntax_named;
-use osi_base::{AddAnswer, Answers, Pair, Proposal, Proposals, SetItem, Syntax};
+use osi_base::{AddAnswer, Answers, Pair, Proposal, Proposals, SetItem, Syntax, remove_context};
 
 /// The transfer syntax with which an addition is accepted.
 fn accepted_as(answer: &AddAnswer) -> Option<Syntax>
@@ -54,7 +54,7 @@ fn put_accepted(items: &mut Vec<SetItem>, proposal: Proposal, answer: &AddAnswer
             abstract_name,
             transfer,
         };
-        put(items, SetItem { id, pair });
+        put_context(items, SetItem { id, pair });
     }
 }
 
@@ -80,7 +80,7 @@ fn remove_accepted(items: &mut Vec<SetItem>, id: u32, result_of: u8)
     ensures capacity { vec_capacity items.new ≡ vec_capacity items.old }
 {
     if result_of == 0 {
-        remove(items, id);
+        remove_context(items, id);
     }
 }
 

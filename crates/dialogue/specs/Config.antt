@@ -1,26 +1,14 @@
 -- Which configurations an end refuses, and why: the first row that holds decides.
 use Rattle.std.specs.Prelude.{◌≡◌, ℕ, List, [], length, Bool, ◌||◌, not, nat_lt, nat_eq, Option, Some, None, Result, Ok, Err, if◌then◌else◌}
-use Rattle.osi_base.specs.Limits.{most_checkpoint, most_window}
+use Rattle.osi_base.specs.Limits.{most_checkpoint, most_window, most_selector, most_reference, common_octets}
 use Rattle.dialogue.specs.declared.config.Config.{Config}
 use Rattle.dialogue.specs.declared.config.Mode.TheVariants.{Bare}
 use Rattle.dialogue.specs.declared.config.ConfigRefusal.{ConfigRefusal}
 use Rattle.dialogue.specs.declared.config.ConfigRefusal.TheVariants as refusals
 
--- octets of a selector (this project's own limit)
-abbrev pub most_selector : ℕ
-most_selector = 16
-
 -- a selector has at least one octet (X.225 8.3.1.16)
 abbrev pub is_bad_selector : List ℕ → Bool
 is_bad_selector octets = nat_eq (length octets) 0 || nat_lt most_selector (length octets)
-
--- octets of a reference
-abbrev pub most_reference : ℕ
-most_reference = 64
-
--- octets of a common reference, a UTCTime
-abbrev pub common_octets : ℕ
-common_octets = 13
 
 -- a reference has at least one octet
 abbrev pub is_bad_reference : List ℕ → List ℕ → Bool

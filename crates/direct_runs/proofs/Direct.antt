@@ -9,8 +9,8 @@ use Rattle.association_runs.specs.Dealings.{own_at}
 use Rattle.outcome_laws.specs.Deals.{AreDistinct, outcomes_in}
 use Rattle.outcome_laws.specs.Outcomes.{AreAllowed, AreAnswers}
 use Rattle.agreement.specs.Sets.Role.{Initiator, Responder}
-use Rattle.osi_base.specs.declared.words.Side.{Side}
-use Rattle.osi_base.specs.declared.words.Side.TheVariants.{A, B}
+use Rattle.osi_base.specs.declared.layer_words.Side.{Side}
+use Rattle.osi_base.specs.declared.layer_words.Side.TheVariants.{A, B}
 use Rattle.end_model.specs.Pairs.{HasCodec}
 use Rattle.end_rules.specs.Base.{Spellings}
 use Rattle.end_wire.specs.Values.{spellings_with}

@@ -3,10 +3,10 @@
 use Rattle.std.proofs.Common.{◌≡◌, refl, true, false, ◌∙◌, sym, ap, subst, arith, ℕ, ◌≤◌, List, [], ◌∷◌, ◌++◌, inl, inr}
 use Rattle.std.specs.Prelude.{ℤ, Bool, not, ◌&&◌, ◌||◌, Option, Some, None, Ok, is_some, nat_eq, nat_lt, if◌then◌else◌}
 use Rattle.std.proofs.lemmas.Bool.Decides.{nat_tests}
-use Rattle.osi_base.specs.declared.words.Side.{Side}
-use Rattle.osi_base.specs.declared.words.SetItem.{SetItem}
+use Rattle.osi_base.specs.declared.layer_words.Side.{Side}
+use Rattle.osi_base.specs.declared.layer_words.SetItem.{SetItem}
 use Rattle.osi_base.specs.declared.presentation_word.PresentationAccept.{PresentationAccept}
-use Rattle.osi_base.specs.declared.words.Answers.{Answers}
+use Rattle.osi_base.specs.declared.layer_words.Answers.{Answers}
 use Rattle.asn1_types.specs.declared.value.Val.{Val}
 use Rattle.stub_tables.specs.declared.tables.Tables.{Tables}
 use Rattle.stub_tables.specs.declared.apdu.Apdu.{Apdu}
@@ -19,7 +19,8 @@ use Rattle.dialogue.specs.declared.config.Phase.TheVariants as phases
 use Rattle.dialogue.specs.declared.call.Call.{Call}
 use Rattle.dialogue.specs.declared.call.Call.TheVariants as the_calls
 use Rattle.end_rules.specs.Base.{Base, Spellings, Item}
-use Rattle.end_rules.specs.Sets.{Alteration, Saved, is_among, named_ids, proposed_ids, pair_of, is_fixed, altered, listed, below, newest, next_number}
+use Rattle.end_rules.specs.Sets.{Alteration, Saved, is_among, named_ids, proposed_ids, is_fixed, altered, listed, below, newest, next_number}
+use Rattle.osi_base.specs.SetPlaces.{pair_of}
 use Rattle.end_rules.specs.Policy.{policy, is_faulty_proposal}
 use Rattle.end_rules.specs.Messages.{Message, Transport, Session, TransportUnit, ConnectionRequest, ConnectionConfirm, DisconnectRequest, TransportError, DataValue, Accepting}
 use Rattle.end_rules.specs.Messages.{Word, OfAssociation, OfData, OfMarks, OfActivities, Connect, Accept, Refuse, Finish, Disconnect, Abort, AbortAccept, Values, AlterContext, AlterContextAck, Mark, MarkAck, Restart, RestartAck, Give, Please, GiveConfirm, GiveAck, unit_of}

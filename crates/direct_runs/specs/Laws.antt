@@ -17,7 +17,7 @@ use Rattle.association_runs.specs.Dealings.{own_at}
 use Rattle.association_runs.specs.Laws.{AreEvents, RunKeepsLaws}
 use Rattle.outcome_laws.specs.Deals.{AreDistinct, outcomes_in}
 use Rattle.outcome_laws.specs.Outcomes.{AreAllowed, AreAnswers}
-use Rattle.osi_base.specs.declared.words.Side.{Side}
+use Rattle.osi_base.specs.declared.layer_words.Side.{Side}
 
 -- transfers are spelled as in every association, though none comes in direct mode
 abbrev pub transfers_of : Tables → Transfers

@@ -1,8 +1,8 @@
 -- Which configurations an end refuses in any mode, and why: the first row that holds decides.
 use Rattle.std.specs.Prelude.{ℕ, ◌%◌, List, [], ◌∷◌, ◌++◌, length, Bool, true, false, not, ◌&&◌, ◌||◌, nat_eq, nat_lt, Option, Some, None, if◌then◌else◌}
 use Rattle.std.specs.List.{list_any}
-use Rattle.osi_base.specs.declared.words.Proposal.{Proposal}
-use Rattle.osi_base.specs.Limits.{highest_context, most_connect_data}
+use Rattle.osi_base.specs.declared.layer_words.Proposal.{Proposal}
+use Rattle.osi_base.specs.Limits.{highest_context, most_connect_data, most_proposed}
 use Rattle.dialogue.specs.declared.config.Config.{Config}
 use Rattle.dialogue.specs.declared.config.Mode.{Mode}
 use Rattle.dialogue.specs.declared.config.ConfigRefusal.{ConfigRefusal}
@@ -13,10 +13,6 @@ use Rattle.end_rules.specs.State.{is_empty}
 use Rattle.end_config.specs.Connecting.{connect_octets}
 
 -- ---- contexts
-
--- contexts that an initiator proposes beside those of association control and reliable transfer
-abbrev pub most_proposed : ℕ
-most_proposed = 62
 
 -- one of these has the identifier
 abbrev pub is_taken : ℕ → List Proposal → Bool

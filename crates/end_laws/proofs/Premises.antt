@@ -3,10 +3,10 @@ use Rattle.std.proofs.Common.{◌≡◌, refl, sym, subst, true, false, ℕ, ◌
 use Rattle.std.specs.Prelude.{Bool, ◌||◌, ℤ, pos, negsuc, Option, Some, None, option_map, nat_le, nat_lt}
 use Rattle.std.proofs.lemmas.Bool.Decides.{nat_tests}
 use Rattle.osi_base.specs.declared.syntax.Syntax.TheVariants.{Der}
-use Rattle.osi_base.specs.declared.words.SetItem.{SetItem}
+use Rattle.osi_base.specs.declared.layer_words.SetItem.{SetItem}
+use Rattle.osi_base.specs.Limits.{most_octets}
 use Rattle.asn1_types.specs.declared.row.TypeId.{TypeId}
 use Rattle.asn1_types.specs.declared.value.Val.{Val}
-use Rattle.asn1_types.specs.Limits.{most_octets}
 use Rattle.dialogue.specs.declared.config.Config.{Config}
 use Rattle.dialogue.specs.declared.config.Mode.{Mode}
 use Rattle.stub_tables.specs.declared.tables.Tables.{Tables}

@@ -1,7 +1,7 @@
 -- What two ends have in common where APDUs are spelled by the codecs; how transfers are spelled is left free, as they stand
 -- in reliable mode alone.
 use Rattle.std.specs.Prelude.{◌≡◌, ℕ, List, None, Result}
-use Rattle.osi_base.specs.declared.words.SetItem.{SetItem}
+use Rattle.osi_base.specs.declared.layer_words.SetItem.{SetItem}
 use Rattle.dialogue.specs.declared.config.Config.{Config}
 use Rattle.dialogue.specs.declared.config.Mode.TheVariants.{Direct}
 use Rattle.stub_tables.specs.declared.tables.Tables.{Tables}

@@ -1,7 +1,7 @@
 -- The laws of two ends where APDUs are spelled by the codecs: of the tables it is asked that they are readable, as those of
 -- a module are, and of the initiator's configuration that no end refuses it.
 use Rattle.std.specs.Prelude.{◌≡◌, List, [], ◌∷◌, true}
-use Rattle.osi_base.specs.declared.words.SetItem.{SetItem}
+use Rattle.osi_base.specs.declared.layer_words.SetItem.{SetItem}
 use Rattle.dialogue.specs.declared.config.Config.{Config}
 use Rattle.dialogue.specs.declared.indication.Indication.{Indication}
 use Rattle.stub_tables.specs.declared.tables.Tables.{Tables}
@@ -9,7 +9,7 @@ use Rattle.stub_tables.specs.Readable.{IsReadable}
 use Rattle.end_rules.specs.Base.{Fault}
 use Rattle.end_rules.specs.Messages.{Message, Session, OfData, Values, DataValue}
 use Rattle.end_rules.specs.State.{Body, holds_turn}
-use Rattle.end_rules.specs.Sets.{pair_of}
+use Rattle.osi_base.specs.SetPlaces.{pair_of}
 use Rattle.end_rules.specs.Reacting.{Takes, Fails, react}
 use Rattle.end_rules.specs.World.{Shared}
 use Rattle.agreement.specs.Sets.{Role}

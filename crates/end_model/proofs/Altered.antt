@@ -2,11 +2,12 @@
 use Rattle.std.proofs.Common.{◌≡◌, refl, true, false, ◌∙◌, sym, ap, ℕ, List, [], ◌∷◌, ◌++◌, map}
 use Rattle.std.specs.Prelude.{Bool, ◌&&◌, Option, Some, None, if◌then◌else◌, nat_eq, nat_lt}
 use Rattle.osi_base.specs.declared.syntax.Pair.{Pair}
-use Rattle.osi_base.specs.declared.words.SetItem.{SetItem}
-use Rattle.osi_base.specs.declared.words.Proposal.{Proposal}
-use Rattle.osi_base.specs.declared.words.AddAnswer.{AddAnswer}
-use Rattle.osi_base.specs.declared.words.Answers.{Answers}
-use Rattle.end_rules.specs.Sets.{Alteration, put, without_context, pair_accepted, put_accepted}
+use Rattle.osi_base.specs.declared.layer_words.SetItem.{SetItem}
+use Rattle.osi_base.specs.declared.layer_words.Proposal.{Proposal}
+use Rattle.osi_base.specs.declared.layer_words.AddAnswer.{AddAnswer}
+use Rattle.osi_base.specs.declared.layer_words.Answers.{Answers}
+use Rattle.end_rules.specs.Sets.{Alteration, put, pair_accepted, put_accepted}
+use Rattle.osi_base.specs.SetPlaces.{without_context}
 use Rattle.end_rules.specs.Sets.{with_added, with_deleted, altered, fits_proposal, fit_proposals}
 use Rattle.agreement.specs.Sets.{Item, Result, ContextSet, put as model_put, remove, changed}
 use Rattle.agreement.specs.Sets.{altered as model_altered}

@@ -5,18 +5,20 @@ use Rattle.std.specs.Prelude.{ℤ, Bool, not, ◌&&◌, ◌||◌, Option, Some, 
 use Rattle.std.specs.Prelude.{if◌then◌else◌, nat_eq, nat_le}
 use Rattle.std.specs.List.{list_any}
 use Rattle.std.proofs.lemmas.Bool.Decides.{nat_tests}
-use Rattle.osi_base.specs.declared.words.Proposal.{Proposal}
+use Rattle.osi_base.specs.declared.layer_words.Proposal.{Proposal}
 use Rattle.osi_base.specs.declared.syntax.Pair.{Pair}
+use Rattle.osi_base.specs.Limits.{most_alterations}
 use Rattle.dialogue.specs.declared.config.Mode.{Mode}
 use Rattle.dialogue.specs.declared.config.Mode.TheVariants.{Direct, Reliable}
 use Rattle.dialogue.specs.declared.call.Call.TheVariants as the_calls
 use Rattle.dialogue.specs.declared.call.CallRefusal.{CallRefusal}
 use Rattle.dialogue.specs.declared.call.CallRefusal.TheVariants as refusals
-use Rattle.end_rules.specs.Base.{Base, is_reliable, most_alterations}
+use Rattle.end_rules.specs.Base.{Base, is_reliable}
 use Rattle.end_rules.specs.State.{Body, OpenCall, Queued, Transfer, Encoded, Progress, Running}
 use Rattle.end_rules.specs.State.{Ending, Suspended, is_free, is_empty, is_current, is_ending}
 use Rattle.end_rules.specs.State.{is_suspended}
-use Rattle.end_rules.specs.Sets.{Alteration, pair_of, is_among, named_ids, proposed_ids}
+use Rattle.end_rules.specs.Sets.{Alteration, is_among, named_ids, proposed_ids}
+use Rattle.osi_base.specs.SetPlaces.{pair_of}
 use Rattle.end_rules.specs.Sets.{is_named_in, is_fixed, has_parity}
 use Rattle.end_rules.specs.Altering.{can_alter, used, context_of_encoding, context_of_current}
 use Rattle.end_rules.specs.Altering.{has_double, is_bad, is_no_context, has_bad_transfers}
@@ -287,7 +289,7 @@ length-map [] = refl
 length-map (a ∷ own) = ap suc (length-map own)
 
 record MayAlter (mode : Mode) (base : Base) (body : Body) (a : Alteration) : Type 0 where
-  has_place : length (seen base body).sets.own < sets.most_alterations
+  has_place : length (seen base body).sets.own < most_alterations
   once : sets.AreDistinct (sets.named ((seen base body).sets.own ++ items_seen a ∷ []))
   may_ask : sets.AllMayAsk (role_seen base.initiator) (set_seen body.sets.held) (acts.used (mode_seen mode) (seen base body)) (items_seen a)
 
@@ -300,7 +302,7 @@ may-alter mode base body a answer distinct queue h =
     let doubles : has_double (named_ids a) ≡ false = or-right (is_empty (named_ids a)) (has_double (named_ids a)) (or-left (is_empty (named_ids a) || has_double (named_ids a)) (list_any is_no_context (named_ids a)) (or-left (is_empty (named_ids a) || has_double (named_ids a) || list_any is_no_context (named_ids a)) (list_any has_bad_transfers a.add) h.good)) in
     let names : sets.named (map items_seen body.sets.own ++ items_seen a ∷ []) ≡ sets.named (map items_seen body.sets.own) ++ named_ids a = named-snoc (map items_seen body.sets.own) (items_seen a) ∙ ap (λ ks. sets.named (map items_seen body.sets.own) ++ ks) (ids-named a) in
     record {
-      has_place = subst (λ n. n < sets.most_alterations) (sym (length-map body.sets.own)) (grind (arith, nat_tests, h.count));
+      has_place = subst (λ n. n < most_alterations) (sym (length-map body.sets.own)) (grind (arith, nat_tests, h.count));
       once = subst sets.AreDistinct (sym names) (distinct-append (sets.named (map items_seen body.sets.own)) (named_ids a) distinct (no-double (named_ids a) doubles) (new-append (sets.named (map items_seen body.sets.own)) (proposed_ids a.add) a.delete adds.new deletes.new));
       may_ask = adds.may (map Deletion a.delete) (acts.used (mode_seen mode) (seen base body)) (deletes.may (acts.used (mode_seen mode) (seen base body)) (λ k. used-among mode base body k queue));
     }

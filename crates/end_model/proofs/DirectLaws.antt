@@ -6,7 +6,7 @@ use Rattle.osi_base.specs.Syntax.{name_of}
 use Rattle.osi_base.specs.declared.syntax.Pair.{Pair}
 use Rattle.osi_base.specs.declared.syntax.Syntax.{Syntax}
 use Rattle.osi_base.specs.declared.syntax.Syntax.TheVariants.{Ber, Der, Packed}
-use Rattle.osi_base.specs.declared.words.SetItem.{SetItem}
+use Rattle.osi_base.specs.declared.layer_words.SetItem.{SetItem}
 use Rattle.stub_tables.specs.declared.tables.Tables.{Tables}
 use Rattle.dialogue.specs.declared.config.Config.{Config}
 use Rattle.dialogue.specs.declared.config.Phase.TheVariants.{Over}
@@ -16,7 +16,7 @@ use Rattle.end_rules.specs.Messages.{Message, TransportUnit, Transport, Session,
 use Rattle.end_rules.specs.Messages.{AssociationWord, OfAssociation, OfData, Values, DataValue, unit_of}
 use Rattle.end_rules.specs.State.{Body, Awaited, NoAnswer, RestartOf, InterruptOf, DiscardOf}
 use Rattle.end_rules.specs.State.{ReleaseOf, is_up, is_restarting, holds_turn}
-use Rattle.end_rules.specs.Sets.{pair_of}
+use Rattle.osi_base.specs.SetPlaces.{pair_of}
 use Rattle.end_rules.specs.Purging.{is_purged}
 use Rattle.end_rules.specs.Reacting.{Passes, Takes, react, on_word, word_fault}
 use Rattle.end_rules.specs.World.{Shared}

@@ -1,7 +1,7 @@
 -- Words of an association that stands, as an end of this product sends them in direct mode; what is passed over of them.
 use Rattle.std.proofs.Common.{◌≡◌, refl, true, ◌∙◌, sym, ap, subst, List, [], ◌∷◌, ◌++◌, ◌⊎◌}
 use Rattle.std.specs.Prelude.{Bool, Some}
-use Rattle.osi_base.specs.declared.words.Proposal.{Proposal}
+use Rattle.osi_base.specs.declared.layer_words.Proposal.{Proposal}
 use Rattle.dialogue.specs.declared.config.Mode.TheVariants.{Direct}
 use Rattle.dialogue.specs.declared.config.Phase.TheVariants.{Up, Releasing, Over}
 use Rattle.end_rules.specs.Base.{Base, Item}

@@ -6,11 +6,11 @@ use Rattle.std.specs.Prelude.{if◌then◌else◌, nat_eq, nat_le, nat_lt}
 use Rattle.std.specs.List.{list_any}
 use Rattle.std.proofs.lemmas.Bool.Decides.{nat_tests}
 use Rattle.osi_base.specs.declared.syntax.Pair.{Pair}
-use Rattle.osi_base.specs.declared.words.SetItem.{SetItem}
-use Rattle.osi_base.specs.declared.words.Proposal.{Proposal}
-use Rattle.osi_base.specs.declared.words.Answers.{Answers}
-use Rattle.osi_base.specs.declared.words.RestoredItem.{RestoredItem}
-use Rattle.osi_base.specs.declared.words.Layer.TheVariants.{Presentation}
+use Rattle.osi_base.specs.declared.layer_words.SetItem.{SetItem}
+use Rattle.osi_base.specs.declared.layer_words.Proposal.{Proposal}
+use Rattle.osi_base.specs.declared.layer_words.Answers.{Answers}
+use Rattle.osi_base.specs.declared.layer_words.RestoredItem.{RestoredItem}
+use Rattle.osi_base.specs.declared.layer_words.Layer.TheVariants.{Presentation}
 use Rattle.osi_base.specs.Limits.{most_marks, most_transferred}
 use Rattle.dialogue.specs.declared.indication.Indication.TheVariants.{RestoredListDiffers}
 use Rattle.dialogue.specs.declared.config.Mode.{Mode}
@@ -20,7 +20,8 @@ use Rattle.end_rules.specs.Base.{Base, Fault}
 use Rattle.end_rules.specs.State.{Body, Awaited, NoAnswer, RestartOf, InterruptOf, DiscardOf}
 use Rattle.end_rules.specs.State.{ReleaseOf, Transfer, Progress, Running, Ending, Suspended, is_up}
 use Rattle.end_rules.specs.State.{highest, joined, is_suspended}
-use Rattle.end_rules.specs.Sets.{Alteration, pair_of, is_among, same_name, same_lists, listed}
+use Rattle.end_rules.specs.Sets.{Alteration, is_among, same_name, same_lists, listed}
+use Rattle.osi_base.specs.SetPlaces.{pair_of}
 use Rattle.end_rules.specs.Sets.{has_parity, proposed_ids, next_number, fit_alteration}
 use Rattle.end_rules.specs.Altering.{has_double}
 use Rattle.end_rules.specs.Policy.{is_faulty_proposal}

@@ -6,15 +6,16 @@ use Rattle.std.specs.Prelude.{option_map, if◌then◌else◌, nat_eq, nat_lt, n
 use Rattle.std.specs.Ordering.{int_eq}
 use Rattle.std.proofs.lemmas.Bool.Decides.{nat_tests, Decides-int_eq}
 use Rattle.osi_base.specs.declared.syntax.Pair.{Pair}
-use Rattle.osi_base.specs.declared.words.SetItem.{SetItem}
-use Rattle.osi_base.specs.Limits.{last_invocation}
+use Rattle.osi_base.specs.declared.layer_words.SetItem.{SetItem}
+use Rattle.osi_base.specs.Limits.{last_invocation, most_open}
 use Rattle.stub_tables.specs.declared.operation.Operation.{Operation}
 use Rattle.stub_tables.specs.Codes.{is_silent}
 use Rattle.stub_tables.specs.Lookup.{operation_at}
 use Rattle.dialogue.specs.declared.call.CallRefusal.{CallRefusal}
 use Rattle.dialogue.specs.declared.call.CallRefusal.TheVariants as refusals
-use Rattle.end_rules.specs.Base.{Base, most_open}
-use Rattle.end_rules.specs.Sets.{pair_of, has_abstract, may_send, carrier, lowest_with, same_name}
+use Rattle.end_rules.specs.Base.{Base}
+use Rattle.end_rules.specs.Sets.{has_abstract, may_send, carrier, lowest_with, same_name}
+use Rattle.osi_base.specs.SetPlaces.{pair_of}
 use Rattle.end_rules.specs.Sets.{is_deleted_in, Alteration}
 use Rattle.end_rules.specs.State.{Body, OpenCall, Calls, is_whose, is_key, opened_with, opens_of}
 use Rattle.end_rules.specs.State.{closed, close}

@@ -4,7 +4,7 @@ use Rattle.std.proofs.Common.{[], ◌∷◌, ◌++◌, map}
 use Rattle.std.specs.Prelude.{ℤ, pos, negsuc, Bool, Option, Some, is_some, option_map, unwrap_or}
 use Rattle.std.specs.Prelude.{Ok, if◌then◌else◌, nat_le}
 use Rattle.osi_base.specs.declared.syntax.Syntax.TheVariants.{Der}
-use Rattle.osi_base.specs.declared.words.Proposal.{Proposal}
+use Rattle.osi_base.specs.declared.layer_words.Proposal.{Proposal}
 use Rattle.osi_base.specs.Limits.{last_invocation}
 use Rattle.asn1_types.specs.declared.value.Val.{Val}
 use Rattle.stub_tables.specs.declared.operation.Operation.{Operation}
@@ -16,7 +16,8 @@ use Rattle.dialogue.specs.declared.config.Mode.TheVariants.{Bare, Direct, Reliab
 use Rattle.dialogue.specs.declared.call.Call.TheVariants as the_calls
 use Rattle.dialogue.specs.declared.call.CallRefusal.TheVariants as refusals
 use Rattle.end_rules.specs.Base.{Base, Item}
-use Rattle.end_rules.specs.Sets.{pair_of, is_deleted_in}
+use Rattle.end_rules.specs.Sets.{is_deleted_in}
+use Rattle.osi_base.specs.SetPlaces.{pair_of}
 use Rattle.end_rules.specs.State.{Body, Sets, OpenCall, is_up, is_free, opened_with}
 use Rattle.end_rules.specs.Messages.{Session, OfData, Values, Remote}
 use Rattle.end_rules.specs.Invoking.{invoke_apdu, is_stopped, next_id, can_invoke_operation}

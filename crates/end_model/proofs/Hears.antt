@@ -4,10 +4,11 @@ use Rattle.std.proofs.Common.{◌++◌, length}
 use Rattle.std.specs.Prelude.{ℤ, pos, negsuc, Bool, not, ◌&&◌, ◌||◌, Option, Some, None, is_some}
 use Rattle.std.specs.Prelude.{option_map, unwrap_or, if◌then◌else◌, nat_eq, nat_lt, nat_le}
 use Rattle.std.proofs.lemmas.Bool.Decides.{nat_tests}
-use Rattle.osi_base.specs.declared.words.Problem.{Problem}
-use Rattle.osi_base.specs.declared.words.ProblemKind.{ProblemKind}
-use Rattle.osi_base.specs.declared.words.ProblemKind.TheVariants as problems
+use Rattle.osi_base.specs.declared.layer_words.Problem.{Problem}
+use Rattle.osi_base.specs.declared.layer_words.ProblemKind.{ProblemKind}
+use Rattle.osi_base.specs.declared.layer_words.ProblemKind.TheVariants as problems
 use Rattle.osi_base.specs.declared.syntax.Syntax.TheVariants.{Der}
+use Rattle.osi_base.specs.Limits.{most_open}
 use Rattle.asn1_types.specs.declared.value.Val.{Val}
 use Rattle.stub_tables.specs.declared.operation.Code.{Code}
 use Rattle.stub_tables.specs.declared.operation.Operation.{Operation}
@@ -16,7 +17,7 @@ use Rattle.stub_tables.specs.declared.apdu.Apdu.TheVariants as apdus
 use Rattle.stub_tables.specs.declared.apdu.Returned.{Returned}
 use Rattle.stub_tables.specs.Lookup.{operation_at, operation_with, error_with}
 use Rattle.dialogue.specs.declared.config.Mode.{Mode}
-use Rattle.end_rules.specs.Base.{Base, Carried, most_open}
+use Rattle.end_rules.specs.Base.{Base, Carried}
 use Rattle.end_rules.specs.State.{OpenCall, Calls, opened_with, opens_of, is_none, is_empty}
 use Rattle.end_rules.specs.Sets.{is_among}
 use Rattle.end_rules.specs.Invoking.{is_linked_to, operation_of}

@@ -5,9 +5,10 @@ use Rattle.std.specs.Prelude.{Bool, not, ◌&&◌, ◌||◌, Option, Some, None,
 use Rattle.std.specs.Prelude.{if◌then◌else◌, nat_eq}
 use Rattle.std.proofs.lemmas.Bool.Decides.{nat_tests}
 use Rattle.osi_base.specs.declared.syntax.Pair.{Pair}
-use Rattle.osi_base.specs.declared.words.SetItem.{SetItem}
-use Rattle.osi_base.specs.declared.words.Proposal.{Proposal}
-use Rattle.end_rules.specs.Sets.{Alteration, pair_of, is_among, is_deleted_in, may_send}
+use Rattle.osi_base.specs.declared.layer_words.SetItem.{SetItem}
+use Rattle.osi_base.specs.declared.layer_words.Proposal.{Proposal}
+use Rattle.end_rules.specs.Sets.{Alteration, is_among, is_deleted_in, may_send}
+use Rattle.osi_base.specs.SetPlaces.{pair_of}
 use Rattle.agreement.specs.Sets.{Item, lookup, deletes, some_deletes}
 use Rattle.agreement.specs.Sets.Item.{Deletion}
 use Rattle.end_model.specs.Seen.{pair_seen, set_seen, addition_seen, items_seen}

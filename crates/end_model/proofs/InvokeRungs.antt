@@ -1,7 +1,7 @@
 -- What an accepted Invoke, Answer or Refuse passed.
 use Rattle.std.proofs.Common.{◌≡◌, refl, true, false, ℕ, length}
 use Rattle.std.specs.Prelude.{ℤ, not, ◌&&◌, nat_le, Option, Some, None, Ok}
-use Rattle.osi_base.specs.Limits.{last_invocation}
+use Rattle.osi_base.specs.Limits.{last_invocation, most_open}
 use Rattle.asn1_types.specs.declared.value.Val.{Val}
 use Rattle.stub_tables.specs.declared.operation.Operation.{Operation}
 use Rattle.stub_tables.specs.declared.operation.ErrorRow.{ErrorRow}
@@ -9,7 +9,7 @@ use Rattle.stub_tables.specs.declared.apdu.Apdu.{Apdu}
 use Rattle.stub_tables.specs.Codes.{is_silent, is_error_of}
 use Rattle.stub_tables.specs.Uses.{is_carried}
 use Rattle.dialogue.specs.declared.call.CallRefusal.TheVariants as refusals
-use Rattle.end_rules.specs.Base.{Base, most_open}
+use Rattle.end_rules.specs.Base.{Base}
 use Rattle.end_rules.specs.Sets.{is_deleted_in}
 use Rattle.end_rules.specs.State.{Body, OpenCall, opens_of}
 use Rattle.end_rules.specs.Invoking.{invoke_apdu, result_apdu, error_apdu, is_too_long}

@@ -4,11 +4,11 @@ use Rattle.std.proofs.Common.{map, take, length}
 use Rattle.std.specs.Prelude.{Bool, not, ◌&&◌, Option, Some, None, is_some, option_map}
 use Rattle.std.specs.Prelude.{if◌then◌else◌, nat_lt}
 use Rattle.osi_base.specs.declared.syntax.Pair.{Pair}
-use Rattle.osi_base.specs.declared.words.Proposal.{Proposal}
+use Rattle.osi_base.specs.declared.layer_words.Proposal.{Proposal}
 use Rattle.osi_base.specs.Limits.{last_activity}
 use Rattle.dialogue.specs.declared.config.Mode.TheVariants.{Reliable}
 use Rattle.end_rules.specs.Base.{Base}
-use Rattle.end_rules.specs.Sets.{pair_of}
+use Rattle.osi_base.specs.SetPlaces.{pair_of}
 use Rattle.end_rules.specs.State.{Body, Transfer, Encoded, Queued, Progress, Running, Ending}
 use Rattle.end_rules.specs.State.{Suspended, is_up, is_free, is_empty, is_running, highest}
 use Rattle.end_rules.specs.Messages.{Session, OfMarks, OfActivities, Mark, Start, End}

@@ -1,7 +1,7 @@
 -- Resumptions: how far the pieces of a transfer go back, and which set they bring back.
 use Rattle.std.proofs.Common.{◌≡◌, ℕ, zero, suc, List, [], ◌∷◌, map, refl, ap, ◌∙◌, true}
 use Rattle.std.specs.Prelude.{nat_eq, if◌then◌else◌, Option, Some, None}
-use Rattle.osi_base.specs.declared.words.SetItem.{SetItem}
+use Rattle.osi_base.specs.declared.layer_words.SetItem.{SetItem}
 use Rattle.dialogue.specs.declared.config.Mode.TheVariants.{Reliable}
 use Rattle.end_rules.specs.Base.{Base}
 use Rattle.end_rules.specs.State.{Piece, Octets, Marked, Progress, Encoded, Transfer, Queued, Receiving, on_current, from_mark, up_to, newest_set, resumed_set, pieces_of, confirmed_of}

@@ -3,9 +3,9 @@ use Rattle.std.proofs.Common.{◌≡◌, refl, true, ◌∙◌, sym, ap, subst, 
 use Rattle.std.proofs.Common.{length}
 use Rattle.std.specs.Prelude.{Option, Some, nat_eq, nat_le, false, ◌||◌}
 use Rattle.std.specs.List.{list_any}
-use Rattle.osi_base.specs.declared.words.Proposal.{Proposal}
-use Rattle.osi_base.specs.declared.words.Answers.{Answers}
-use Rattle.osi_base.specs.declared.words.RestoredItem.{RestoredItem}
+use Rattle.osi_base.specs.declared.layer_words.Proposal.{Proposal}
+use Rattle.osi_base.specs.declared.layer_words.Answers.{Answers}
+use Rattle.osi_base.specs.declared.layer_words.RestoredItem.{RestoredItem}
 use Rattle.osi_base.specs.Limits.{most_marks}
 use Rattle.dialogue.specs.declared.config.Mode.{Mode}
 use Rattle.dialogue.specs.declared.config.Mode.TheVariants.{Bare, Direct, Reliable}

@@ -6,13 +6,14 @@ use Rattle.std.specs.Prelude.{nat_eq, nat_le}
 use Rattle.std.specs.List.{list_any}
 use Rattle.std.proofs.lemmas.Bool.Decides.{nat_tests}
 use Rattle.osi_base.specs.declared.syntax.Pair.{Pair}
-use Rattle.osi_base.specs.declared.words.SetItem.{SetItem}
-use Rattle.osi_base.specs.declared.words.Proposal.{Proposal}
-use Rattle.osi_base.specs.declared.words.RestoredItem.{RestoredItem}
+use Rattle.osi_base.specs.declared.layer_words.SetItem.{SetItem}
+use Rattle.osi_base.specs.declared.layer_words.Proposal.{Proposal}
+use Rattle.osi_base.specs.declared.layer_words.RestoredItem.{RestoredItem}
 use Rattle.end_rules.specs.Base.{Base}
 use Rattle.end_rules.specs.State.{Body, Awaited, NoAnswer, RestartOf, InterruptOf, DiscardOf}
 use Rattle.end_rules.specs.State.{ReleaseOf, is_up}
-use Rattle.end_rules.specs.Sets.{Alteration, pair_of, is_among, same_name, same_lists, listed}
+use Rattle.end_rules.specs.Sets.{Alteration, is_among, same_name, same_lists, listed}
+use Rattle.osi_base.specs.SetPlaces.{pair_of}
 use Rattle.end_rules.specs.Sets.{has_parity, proposed_ids}
 use Rattle.end_rules.specs.Altering.{has_double}
 use Rattle.end_rules.specs.Policy.{is_faulty_proposal}

@@ -1,7 +1,7 @@
 -- The own transfer: what is sent of it, and what is confirmed.
 use Rattle.std.proofs.Common.{◌≡◌, ℕ, suc, List, [], ◌∷◌, map, refl, ap}
 use Rattle.std.specs.Prelude.{Option, Some, None}
-use Rattle.osi_base.specs.declared.words.SetItem.{SetItem}
+use Rattle.osi_base.specs.declared.layer_words.SetItem.{SetItem}
 use Rattle.dialogue.specs.declared.config.Mode.TheVariants.{Reliable}
 use Rattle.end_rules.specs.Base.{Base}
 use Rattle.end_rules.specs.State.{Piece, Octets, Marked, Ending, Suspended, Transfer, Queued, on_current, highest, pieces_of}

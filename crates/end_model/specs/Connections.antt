@@ -1,6 +1,6 @@
 -- The transport connection of an initiator, and own aborts, as acts of the model.
 use Rattle.std.specs.Prelude.{◌≡◌, ℕ, ℤ, List, false, Option, None, Ok}
-use Rattle.osi_base.specs.declared.words.Proposal.{Proposal}
+use Rattle.osi_base.specs.declared.layer_words.Proposal.{Proposal}
 use Rattle.dialogue.specs.declared.config.Mode.{Mode}
 use Rattle.dialogue.specs.declared.config.Mode.TheVariants.{Direct, Reliable}
 use Rattle.dialogue.specs.declared.config.Phase.TheVariants.{Opening, Recovering}

@@ -1,9 +1,9 @@
 -- What the end takes, the model may take: a word without a fault is one that may be taken.
 use Rattle.std.specs.Prelude.{◌≡◌, ℕ, List, [], ◌∷◌, Option, Some, None}
 use Rattle.osi_base.specs.declared.syntax.Pair.{Pair}
-use Rattle.osi_base.specs.declared.words.Proposal.{Proposal}
-use Rattle.osi_base.specs.declared.words.Answers.{Answers}
-use Rattle.osi_base.specs.declared.words.RestoredItem.{RestoredItem}
+use Rattle.osi_base.specs.declared.layer_words.Proposal.{Proposal}
+use Rattle.osi_base.specs.declared.layer_words.Answers.{Answers}
+use Rattle.osi_base.specs.declared.layer_words.RestoredItem.{RestoredItem}
 use Rattle.dialogue.specs.declared.config.Mode.{Mode}
 use Rattle.dialogue.specs.declared.config.Mode.TheVariants.{Direct, Reliable}
 use Rattle.dialogue.specs.declared.config.Phase.TheVariants.{Up}

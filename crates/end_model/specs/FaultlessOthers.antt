@@ -9,7 +9,7 @@ use Rattle.dialogue.specs.declared.config.Mode.{Mode}
 use Rattle.dialogue.specs.declared.config.Mode.TheVariants.{Direct, Reliable}
 use Rattle.dialogue.specs.declared.config.Phase.TheVariants.{Opening, Up, Releasing, Broken}
 use Rattle.end_rules.specs.Base.{Base, Item, Arrived}
-use Rattle.end_rules.specs.Sets.{pair_of}
+use Rattle.osi_base.specs.SetPlaces.{pair_of}
 use Rattle.end_rules.specs.State.{Body, joined}
 use Rattle.end_rules.specs.Connecting.{set_accepted}
 use Rattle.end_rules.specs.Messages.{DataValue, Accepting, Word, OfAssociation, OfActivities, Connect, Accept, Refuse}

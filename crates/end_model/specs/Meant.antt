@@ -1,6 +1,6 @@
 -- Which message of the model a word is, for the words that mean the same whatever the contexts are.
 use Rattle.std.specs.Prelude.{◌≡◌, ℕ, suc, List, [], ◌∷◌, map, Option, Some, None, unwrap_or}
-use Rattle.osi_base.specs.declared.words.RestoredItem.{RestoredItem}
+use Rattle.osi_base.specs.declared.layer_words.RestoredItem.{RestoredItem}
 use Rattle.dialogue.specs.declared.config.Mode.{Mode}
 use Rattle.dialogue.specs.declared.config.Mode.TheVariants.{Direct, Reliable}
 use Rattle.end_rules.specs.Base.{Base}

@@ -1,6 +1,6 @@
 -- Openings and recoveries, as they are taken: by the responder a CN, which it accepts or refuses, by the initiator an AC.
 use Rattle.std.specs.Prelude.{◌≡◌, List, true, false}
-use Rattle.osi_base.specs.declared.words.Proposal.{Proposal}
+use Rattle.osi_base.specs.declared.layer_words.Proposal.{Proposal}
 use Rattle.osi_base.specs.declared.session_word.SessionConnect.{SessionConnect}
 use Rattle.osi_base.specs.declared.presentation_word.PresentationConnect.{PresentationConnect}
 use Rattle.osi_base.specs.declared.presentation_word.PresentationAccept.{PresentationAccept}

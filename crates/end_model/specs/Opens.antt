@@ -2,8 +2,8 @@
 -- out, and no two invocations of one end have the same (X.880 8.2). APDUs as calls write them and as rejects are.
 use Rattle.std.specs.Prelude.{◌≡◌, ℕ, ◌≤◌, ℤ, pos, negsuc, List, [], ◌∷◌, Bool, true, false, Option}
 use Rattle.std.specs.Prelude.{Some, None, is_some}
-use Rattle.osi_base.specs.declared.words.ProblemKind.{ProblemKind}
-use Rattle.osi_base.specs.declared.words.ProblemKind.TheVariants as problems
+use Rattle.osi_base.specs.declared.layer_words.ProblemKind.{ProblemKind}
+use Rattle.osi_base.specs.declared.layer_words.ProblemKind.TheVariants as problems
 use Rattle.asn1_types.specs.declared.value.Val.{Val}
 use Rattle.stub_tables.specs.declared.operation.Operation.{Operation}
 use Rattle.stub_tables.specs.declared.operation.ErrorRow.{ErrorRow}

@@ -1,9 +1,9 @@
 -- What an end of reliable mode does by itself, as acts of the model: it starts the next item, and encodes it.
 use Rattle.std.specs.Prelude.{◌≡◌, ℕ, List, [], ◌∷◌, true, Some}
-use Rattle.osi_base.specs.declared.words.Proposal.{Proposal}
+use Rattle.osi_base.specs.declared.layer_words.Proposal.{Proposal}
 use Rattle.dialogue.specs.declared.config.Mode.TheVariants.{Reliable}
 use Rattle.end_rules.specs.Base.{Base, Item}
-use Rattle.end_rules.specs.Sets.{pair_of}
+use Rattle.osi_base.specs.SetPlaces.{pair_of}
 use Rattle.end_rules.specs.State.{Body, Transfer}
 use Rattle.end_rules.specs.Messages.{Session, OfActivities, Start}
 use Rattle.end_rules.specs.Requesting.{after_sent}

@@ -13,8 +13,8 @@ use Rattle.end_rules.specs.TakesTransport.{after_transport}
 use Rattle.end_rules.specs.Faults.{over}
 use Rattle.end_rules.specs.Messages.{ConnectionConfirm, DisconnectRequest}
 use Rattle.agreement.specs.Messages.Act.{Connects, Recovers, TransportFails, Aborts, Withdraws}
-use Rattle.osi_base.specs.declared.words.RestoredItem.{RestoredItem}
-use Rattle.osi_base.specs.declared.words.Answers.{Answers}
+use Rattle.osi_base.specs.declared.layer_words.RestoredItem.{RestoredItem}
+use Rattle.osi_base.specs.declared.layer_words.Answers.{Answers}
 use Rattle.osi_base.specs.declared.session_word.SessionConnect.{SessionConnect}
 use Rattle.osi_base.specs.declared.presentation_word.PresentationConnect.{PresentationConnect}
 use Rattle.osi_base.specs.declared.presentation_word.PresentationAccept.{PresentationAccept}
@@ -57,7 +57,7 @@ use Rattle.agreement.specs.Messages.Message.{RestartAnswer as model_restart_answ
 use Rattle.agreement.specs.Messages.{Value as ModelValue}
 use Rattle.agreement.specs.Sets.{Item, Listed, ContextSet, Result}
 use Rattle.agreement.specs.Takings.{is_purged as model_purged}
-use Rattle.osi_base.specs.declared.words.Proposal.{Proposal}
+use Rattle.osi_base.specs.declared.layer_words.Proposal.{Proposal}
 use Rattle.end_rules.specs.State.{Awaited, highest, pieces_of}
 use Rattle.end_rules.specs.Purging.{is_purged}
 use Rattle.end_rules.specs.TakesData.{parts_in, alteration}

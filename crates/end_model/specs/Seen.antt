@@ -3,13 +3,13 @@ use Rattle.std.specs.Prelude.{ℕ, ℤ, pos, negsuc, List, [], ◌∷◌, ◌++�
 use Rattle.osi_base.specs.Syntax.{name_of}
 use Rattle.osi_base.specs.declared.syntax.Pair.{Pair}
 use Rattle.osi_base.specs.declared.syntax.Syntax.TheVariants.{Der}
-use Rattle.osi_base.specs.declared.words.SetItem.{SetItem}
-use Rattle.osi_base.specs.declared.words.Proposal.{Proposal}
-use Rattle.osi_base.specs.declared.words.RestoredItem.{RestoredItem}
-use Rattle.osi_base.specs.declared.words.Problem.{Problem}
-use Rattle.osi_base.specs.declared.words.ProblemKind.{ProblemKind}
-use Rattle.osi_base.specs.declared.words.ProblemKind.TheVariants as problems
-use Rattle.osi_base.specs.Limits.{most_marks, most_transferred}
+use Rattle.osi_base.specs.declared.layer_words.SetItem.{SetItem}
+use Rattle.osi_base.specs.declared.layer_words.Proposal.{Proposal}
+use Rattle.osi_base.specs.declared.layer_words.RestoredItem.{RestoredItem}
+use Rattle.osi_base.specs.declared.layer_words.Problem.{Problem}
+use Rattle.osi_base.specs.declared.layer_words.ProblemKind.{ProblemKind}
+use Rattle.osi_base.specs.declared.layer_words.ProblemKind.TheVariants as problems
+use Rattle.osi_base.specs.Limits.{most_marks, most_transferred, most_open}
 use Rattle.stub_tables.specs.declared.apdu.Apdu.{Apdu}
 use Rattle.stub_tables.specs.declared.apdu.Apdu.TheVariants as apdus
 use Rattle.stub_tables.specs.Lookup.{operation_at, operation_with, error_with}
@@ -17,7 +17,7 @@ use Rattle.dialogue.specs.declared.config.Mode.{Mode}
 use Rattle.dialogue.specs.declared.config.Mode.TheVariants.{Bare, Direct, Reliable}
 use Rattle.dialogue.specs.declared.config.Phase.{Phase}
 use Rattle.dialogue.specs.declared.config.Phase.TheVariants as phases
-use Rattle.end_rules.specs.Base.{Base, Head, ResultHead, ErrorHead, Item, most_open}
+use Rattle.end_rules.specs.Base.{Base, HeardHead, ResultHead, ErrorHead, Item}
 use Rattle.end_rules.specs.Sets.{Alteration, Saved, syntax_named}
 use Rattle.end_rules.specs.State.{Stage, Unused, Asked, Joined, Carrying, Awaited, NoAnswer, RestartOf, InterruptOf, DiscardOf, ReleaseOf, OpenCall, is_whose, is_none, Calls, Queued, Piece, Octets, Marked, Progress, Running, Ending, Suspended, Encoded, Transfer, Sending, Receiving, Body}
 use Rattle.end_rules.specs.Invoking.{is_linked_to}
@@ -205,7 +205,7 @@ pub record Free : Type 0 where
   pub codec : model.Codec
 
 -- what the octets say is an outcome that the operation at this place has, with a value of its type (X.880 8)
-abbrev pub is_outcome : Base → ℕ → Head → Bool
+abbrev pub is_outcome : Base → ℕ → HeardHead → Bool
 is_outcome base place (ResultHead id code value) = is_none (result_problem base place (operation_at base.tables place) code value)
 is_outcome base place (ErrorHead id code parameter) =
     is_none (error_problem base (operation_at base.tables place) (error_with base.tables code) parameter)
@@ -226,7 +226,7 @@ link_due base opens (Some parent) =
     if not (is_open parent opens) then 5
     else (if on_open (λ place. has_links (operation_at base.tables place)) parent opens then 7 else 6)
 
-abbrev pub outcome_due : Head → model.Problem
+abbrev pub outcome_due : HeardHead → model.Problem
 outcome_due (ErrorHead id code parameter) = of_error 0
 outcome_due head = of_result 0
 

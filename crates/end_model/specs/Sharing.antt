@@ -1,9 +1,9 @@
 -- Two ends of direct mode and the set of contexts that they share, from what they send alone: what it is when each message
 -- is sent, and that a value is read under the pair that it gave then.
 use Rattle.std.specs.Prelude.{◌≡◌, ℤ, List, [], ◌∷◌, ◌++◌, map, Option, Ok}
-use Rattle.osi_base.specs.declared.words.Side.{Side}
-use Rattle.osi_base.specs.declared.words.Side.TheVariants.{A, B}
-use Rattle.osi_base.specs.declared.words.SetItem.{SetItem}
+use Rattle.osi_base.specs.declared.layer_words.Side.{Side}
+use Rattle.osi_base.specs.declared.layer_words.Side.TheVariants.{A, B}
+use Rattle.osi_base.specs.declared.layer_words.SetItem.{SetItem}
 use Rattle.dialogue.specs.declared.config.Config.{Config}
 use Rattle.dialogue.specs.declared.config.Mode.{Mode}
 use Rattle.dialogue.specs.declared.call.Call.{Call}
@@ -12,7 +12,7 @@ use Rattle.stub_tables.specs.declared.tables.Tables.{Tables}
 use Rattle.end_rules.specs.Base.{Base, Spellings, Fault}
 use Rattle.end_rules.specs.Messages.{Message, Session, OfData, Values, DataValue}
 use Rattle.end_rules.specs.State.{Body}
-use Rattle.end_rules.specs.Sets.{pair_of}
+use Rattle.osi_base.specs.SetPlaces.{pair_of}
 use Rattle.end_rules.specs.Calling.{can_call}
 use Rattle.end_rules.specs.Requesting.{due_of}
 use Rattle.end_rules.specs.Reacting.{Passes, Takes, Fails, react}

@@ -1,7 +1,7 @@
 -- What two ends of any mode do, step by step beside the model: an act, a taking, a passing over, a break, and what the model
 -- doesn't see. Each keeps a run of the model with the states of both ends and with what is on its way.
 use Rattle.std.specs.Prelude.{◌≡◌, List, [], ◌∷◌, ◌++◌, true, false, None, ◌⊎◌}
-use Rattle.osi_base.specs.declared.words.Proposal.{Proposal}
+use Rattle.osi_base.specs.declared.layer_words.Proposal.{Proposal}
 use Rattle.end_rules.specs.Base.{Base}
 use Rattle.end_rules.specs.State.{Body, Unused}
 use Rattle.end_rules.specs.Messages.{Message, TransportUnit, Word, Transport, Session}

@@ -1,12 +1,13 @@
 -- What may be called of alterations (X.226 6.2; the rows and their order are this project's own).
 use Rattle.std.specs.Prelude.{ℕ, ◌+◌, List, [], ◌∷◌, ◌++◌, map, length, Bool, false, not, ◌&&◌, ◌||◌, nat_eq, nat_lt, nat_le, Option, Some, None, is_some, Ok, Err, if◌then◌else◌}
 use Rattle.std.specs.List.{list_any}
-use Rattle.osi_base.specs.declared.words.Proposal.{Proposal}
-use Rattle.osi_base.specs.Limits.{highest_context}
+use Rattle.osi_base.specs.declared.layer_words.Proposal.{Proposal}
+use Rattle.osi_base.specs.Limits.{highest_context, most_contexts, most_alterations, most_transfers}
 use Rattle.dialogue.specs.declared.call.CallRefusal.{CallRefusal}
 use Rattle.dialogue.specs.declared.call.CallRefusal.TheVariants as refusals
-use Rattle.end_rules.specs.Base.{Base, is_reliable, most_contexts, most_alterations, most_transfers}
-use Rattle.end_rules.specs.Sets.{Alteration, named_ids, is_among, is_named_in, count_added, pair_of, is_fixed, has_parity}
+use Rattle.end_rules.specs.Base.{Base, is_reliable}
+use Rattle.end_rules.specs.Sets.{Alteration, named_ids, is_among, is_named_in, count_added, is_fixed, has_parity}
+use Rattle.osi_base.specs.SetPlaces.{pair_of}
 use Rattle.end_rules.specs.State.{Body, OpenCall, Queued, Encoded, Transfer, is_free, is_empty, is_current, is_ending, is_suspended}
 use Rattle.end_rules.specs.Invoking.{Reply, unless_refused}
 

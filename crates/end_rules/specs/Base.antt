@@ -3,9 +3,9 @@
 use Rattle.std.specs.Prelude.{ℕ, ℤ, List, [], ◌∷◌, Bool, true, false, Option, Result}
 use Rattle.osi_base.specs.declared.syntax.Pair.{Pair}
 use Rattle.osi_base.specs.declared.syntax.Syntax.{Syntax}
-use Rattle.osi_base.specs.declared.words.SetItem.{SetItem}
-use Rattle.osi_base.specs.declared.words.Problem.{Problem}
-use Rattle.osi_base.specs.declared.words.Layer.{Layer}
+use Rattle.osi_base.specs.declared.layer_words.SetItem.{SetItem}
+use Rattle.osi_base.specs.declared.layer_words.Problem.{Problem}
+use Rattle.osi_base.specs.declared.layer_words.Layer.{Layer}
 use Rattle.asn1_types.specs.declared.value.Val.{Val}
 use Rattle.stub_tables.specs.declared.tables.Tables.{Tables}
 use Rattle.stub_tables.specs.declared.operation.Code.{Code}
@@ -23,13 +23,13 @@ pub data Carried : Type 0 where
 
 -- what the octets of an APDU say down to its value (X.882 9); General: what no head is read from, with
 -- the number of the general problem; BadReject: a reject that can't be read
-pub data Head : Type 0 where
-  General : ℕ → Head
-  BadReject : Head
-  InvokeHead : (id : ℤ) → (linked : Option ℤ) → (code : Code) → (argument : Carried) → Head
-  ResultHead : (id : ℤ) → (code : Option Code) → (value : Carried) → Head
-  ErrorHead : (id : ℤ) → (code : Code) → (parameter : Carried) → Head
-  RejectHead : (id : Option ℤ) → (problem : Problem) → Head
+pub data HeardHead : Type 0 where
+  General : ℕ → HeardHead
+  BadReject : HeardHead
+  InvokeHead : (id : ℤ) → (linked : Option ℤ) → (code : Code) → (argument : Carried) → HeardHead
+  ResultHead : (id : ℤ) → (code : Option Code) → (value : Carried) → HeardHead
+  ErrorHead : (id : ℤ) → (code : Code) → (parameter : Carried) → HeardHead
+  RejectHead : (id : Option ℤ) → (problem : Problem) → HeardHead
 
 -- an APDU on a context, with the pair under which it is written or was read
 pub record Item : Type 0 where
@@ -55,7 +55,7 @@ pub record Spellings : Type 0 where
   -- the one spelling of an APDU in a syntax
   pub apdu : Syntax → Apdu → List ℕ
   -- what octets say of an APDU in a syntax
-  pub head : Syntax → List ℕ → Head
+  pub head : Syntax → List ℕ → HeardHead
   -- the octets of a transfer, one PDV-list
   pub transfer : Item → List ℕ
   -- what the octets of a transfer are under a set, or their fault
@@ -106,25 +106,3 @@ abbrev pub application_context : Mode → List ℕ
 application_context Reliable = 2 ∷ 999 ∷ 5 ∷ 4 ∷ []
 application_context Direct = 2 ∷ 999 ∷ 5 ∷ 3 ∷ []
 application_context Bare = 2 ∷ 999 ∷ 5 ∷ 3 ∷ []
-
--- ---- limits (this project's own)
-
--- contexts of a set
-abbrev pub most_contexts : ℕ
-most_contexts = 64
-
--- own alterations that aren't answered
-abbrev pub most_alterations : ℕ
-most_alterations = 4
-
--- transfer syntaxes of one addition
-abbrev pub most_transfers : ℕ
-most_transfers = 8
-
--- open invocations of one end
-abbrev pub most_open : ℕ
-most_open = 4096
-
--- items that wait for their transfer
-abbrev pub most_queued : ℕ
-most_queued = 64

@@ -4,7 +4,7 @@ use Rattle.std.specs.Prelude.{ℕ, zero, suc, ◌-◌, ◌*◌, List, [], ◌∷
 use Rattle.osi_base.specs.declared.syntax.Pair.{Pair}
 use Rattle.osi_base.specs.Limits.{last_activity, checkpoint_unit}
 use Rattle.end_rules.specs.Base.{Base, Item, is_reliable}
-use Rattle.end_rules.specs.Sets.{pair_of}
+use Rattle.osi_base.specs.SetPlaces.{pair_of}
 use Rattle.end_rules.specs.Messages.{Message, Session, OfMarks, OfActivities, Mark, Start, End}
 use Rattle.end_rules.specs.State.{Body, Transfer, Encoded, Queued, Piece, Octets, Marked, is_up, is_free, is_empty, is_running, joined, highest, on_transfer}
 use Rattle.end_rules.specs.Invoking.{carrier_in}

@@ -2,8 +2,8 @@
 -- 7.1 to 7.3, X.226 6.1, X.227 7.1, X.228 7.1; recoveries as in this project's profile).
 use Rattle.std.specs.Prelude.{ℕ, ◌/◌, ◌%◌, min, pos, List, [], ◌∷◌, ◌++◌, Bool, true, false, not, ◌&&◌, ◌||◌, nat_eq, if◌then◌else◌, Option, Some, None, is_some}
 use Rattle.std.specs.Ordering.{int_eq}
-use Rattle.osi_base.specs.declared.words.SetItem.{SetItem}
-use Rattle.osi_base.specs.declared.words.AddAnswer.{AddAnswer}
+use Rattle.osi_base.specs.declared.layer_words.SetItem.{SetItem}
+use Rattle.osi_base.specs.declared.layer_words.AddAnswer.{AddAnswer}
 use Rattle.osi_base.specs.declared.session_word.SessionConnect.{SessionConnect}
 use Rattle.osi_base.specs.declared.presentation_word.PresentationConnect.{PresentationConnect}
 use Rattle.osi_base.specs.declared.presentation_word.PresentationAccept.{PresentationAccept}
@@ -19,7 +19,8 @@ use Rattle.dialogue.specs.declared.config.Phase.TheVariants.{Up, Broken, Over}
 use Rattle.dialogue.specs.declared.indication.Indication.{Indication}
 use Rattle.dialogue.specs.declared.indication.Indication.TheVariants as indications
 use Rattle.end_rules.specs.Base.{Base, Fault, is_reliable, acse_name, rtse_name}
-use Rattle.end_rules.specs.Sets.{same_name, has_abstract, pair_of, lowest_with, accepted_set, fit_proposals, Saved}
+use Rattle.end_rules.specs.Sets.{same_name, has_abstract, lowest_with, accepted_set, fit_proposals, Saved}
+use Rattle.osi_base.specs.SetPlaces.{pair_of}
 use Rattle.end_rules.specs.Messages.{Information, Transferring, Other, ValueContent, Association, DataValue, Accepting, Message}
 use Rattle.end_rules.specs.State.{Body, Carrying, NoAnswer, new_body, is_broken, is_none}
 use Rattle.end_rules.specs.Units.{has_units, needed_units, selected_with, has_version_two, manages_with}

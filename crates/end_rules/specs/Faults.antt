@@ -1,9 +1,9 @@
 -- What ends an association from this side: the fault, what is sent and shown then (X.225 7.9, X.226 6.4.2,
 -- X.227 7.3, X.228 7.8).
 use Rattle.std.specs.Prelude.{ℕ, pos, List, [], ◌∷◌, ◌++◌, map, Bool, true, false, if◌then◌else◌, Option, Some, None}
-use Rattle.osi_base.specs.declared.words.Layer.{Layer}
-use Rattle.osi_base.specs.declared.words.Layer.TheVariants as layers
-use Rattle.osi_base.specs.declared.words.SetItem.{SetItem}
+use Rattle.osi_base.specs.declared.layer_words.Layer.{Layer}
+use Rattle.osi_base.specs.declared.layer_words.Layer.TheVariants as layers
+use Rattle.osi_base.specs.declared.layer_words.SetItem.{SetItem}
 use Rattle.osi_base.specs.declared.rtse_word.Rtse.TheVariants as rtse
 use Rattle.dialogue.specs.declared.config.Phase.TheVariants.{Over}
 use Rattle.dialogue.specs.declared.indication.Indication.{Indication}

@@ -4,9 +4,10 @@ use Rattle.std.specs.Prelude.{ℕ, ℤ, pos, List, [], ◌∷◌, ◌++◌, leng
 use Rattle.osi_base.specs.declared.syntax.Pair.{Pair}
 use Rattle.osi_base.specs.declared.syntax.Syntax.{Syntax}
 use Rattle.osi_base.specs.declared.syntax.Syntax.TheVariants.{Ber}
-use Rattle.osi_base.specs.declared.words.Problem.{Problem}
-use Rattle.osi_base.specs.declared.words.ProblemKind.{ProblemKind}
-use Rattle.osi_base.specs.declared.words.ProblemKind.TheVariants as problems
+use Rattle.osi_base.specs.declared.layer_words.Problem.{Problem}
+use Rattle.osi_base.specs.declared.layer_words.ProblemKind.{ProblemKind}
+use Rattle.osi_base.specs.declared.layer_words.ProblemKind.TheVariants as problems
+use Rattle.osi_base.specs.Limits.{most_open}
 use Rattle.asn1_types.specs.declared.value.Val.{Val}
 use Rattle.stub_tables.specs.declared.operation.Code.{Code}
 use Rattle.stub_tables.specs.declared.operation.Use.{Use}
@@ -20,8 +21,8 @@ use Rattle.stub_tables.specs.Lookup.{operation_at, error_at, operation_with, err
 use Rattle.stub_tables.specs.Uses.{is_carried}
 use Rattle.dialogue.specs.declared.indication.Indication.{Indication}
 use Rattle.dialogue.specs.declared.indication.Indication.TheVariants as indications
-use Rattle.end_rules.specs.Base.{Base, Carried, Absent, Spelled, Unspelled, Head, General, BadReject, InvokeHead, ResultHead, ErrorHead, RejectHead, is_reliable, most_open}
-use Rattle.end_rules.specs.Sets.{pair_of}
+use Rattle.end_rules.specs.Base.{Base, Carried, Absent, Spelled, Unspelled, HeardHead, General, BadReject, InvokeHead, ResultHead, ErrorHead, RejectHead, is_reliable}
+use Rattle.osi_base.specs.SetPlaces.{pair_of}
 use Rattle.end_rules.specs.Messages.{ValueContent, Remote, Unread, DataValue, Values, OfData, Message, Session}
 use Rattle.end_rules.specs.State.{Body, Calls, OpenCall, is_empty, opened_with, opens_of, close}
 use Rattle.end_rules.specs.Invoking.{is_linked_to, operation_of, carrier_in}
@@ -41,7 +42,7 @@ value_returned None = Absent
 value_returned (Some r) = Spelled r.value
 
 -- what an APDU says
-abbrev pub head_of_apdu : Apdu → Head
+abbrev pub head_of_apdu : Apdu → HeardHead
 head_of_apdu (apdus.Invoke id linked code argument) = InvokeHead id linked code (carried_in argument)
 head_of_apdu (apdus.Result id returned) = ResultHead id (code_returned returned) (value_returned returned)
 head_of_apdu (apdus.Error id code parameter) = ErrorHead id code (carried_in parameter)
@@ -218,7 +219,7 @@ hear_reject calls (Some id) problem =
 
 -- ---- an APDU on a context
 
-abbrev pub hear : Base → Calls → ℕ → Head → Heard
+abbrev pub hear : Base → Calls → ℕ → HeardHead → Heard
 hear base calls context (General number) = rejected calls None problems.General number
 hear base calls context BadReject = told calls indications.BadReject
 hear base calls context (InvokeHead id linked code argument) = hear_invoke base calls context id linked code argument
@@ -273,7 +274,7 @@ abbrev pub on_heard : Base → Body → ℕ → Heard → Taken
 on_heard base body context heard =
     shown_first heard.shown (with_reject base (record body { calls = heard.calls }) context heard.reject)
 
-abbrev pub take_head : Base → Body → ℕ → Head → Taken
+abbrev pub take_head : Base → Body → ℕ → HeardHead → Taken
 take_head base body context head = on_heard base body context (hear base body.calls context head)
 
 abbrev pub syntax_of : Option Pair → Syntax
@@ -281,10 +282,10 @@ syntax_of None = Ber
 syntax_of (Some pair) = pair.transfer
 
 -- what a value of the module's abstract syntax says
-abbrev pub head_of : Base → DataValue → Head
+abbrev pub head_of : Base → DataValue → HeardHead
 head_of base value = head_in value.content
   where
-    head_in : ValueContent → Head
+    head_in : ValueContent → HeardHead
     head_in (Remote apdu) = head_of_apdu apdu
     head_in (Unread octets) = base.spellings.head (syntax_of value.pair) octets
     head_in _ = General 0

@@ -1,7 +1,7 @@
 -- Histories: the steps of one end, newest first, and what they say of it. What it holds are its body and its line:
 -- the octets that wait to be given out, and what came and isn't reacted to yet.
 use Rattle.std.specs.Prelude.{◌≡◌, ℕ, List, [], ◌∷◌, map, false, if◌then◌else◌, Some, None}
-use Rattle.osi_base.specs.declared.words.Layer.{Layer}
+use Rattle.osi_base.specs.declared.layer_words.Layer.{Layer}
 use Rattle.dialogue.specs.declared.call.Call.{Call}
 use Rattle.dialogue.specs.declared.config.Mode.{Mode}
 use Rattle.dialogue.specs.declared.config.Mode.TheVariants.{Bare, Direct, Reliable}

@@ -2,10 +2,9 @@
 -- the rows and their order are this project's own).
 use Rattle.std.specs.Prelude.{ℕ, suc, min, ℤ, pos, length, Bool, true, false, not, ◌&&◌, ◌||◌, nat_lt, nat_le, Option, Some, None, Result, Ok, Err, if◌then◌else◌}
 use Rattle.asn1_types.specs.declared.value.Val.{Val}
-use Rattle.asn1_types.specs.Limits.{most_octets}
 use Rattle.osi_base.specs.declared.syntax.Syntax.{Syntax}
 use Rattle.osi_base.specs.declared.syntax.Syntax.TheVariants.{Ber, Der, Packed}
-use Rattle.osi_base.specs.Limits.{last_invocation}
+use Rattle.osi_base.specs.Limits.{last_invocation, most_octets, most_open, most_queued}
 use Rattle.stub_tables.specs.declared.operation.Code.{Code}
 use Rattle.stub_tables.specs.declared.operation.Operation.{Operation}
 use Rattle.stub_tables.specs.declared.operation.ErrorRow.{ErrorRow}
@@ -17,8 +16,9 @@ use Rattle.stub_tables.specs.Lookup.{operation_at, error_at}
 use Rattle.stub_tables.specs.Uses.{is_carried}
 use Rattle.dialogue.specs.declared.call.CallRefusal.{CallRefusal}
 use Rattle.dialogue.specs.declared.call.CallRefusal.TheVariants as refusals
-use Rattle.end_rules.specs.Base.{Base, is_direct, is_reliable, most_open, most_queued}
-use Rattle.end_rules.specs.Sets.{is_deleted_in, is_among, pair_of, has_abstract, carrier}
+use Rattle.end_rules.specs.Base.{Base, is_direct, is_reliable}
+use Rattle.end_rules.specs.Sets.{is_deleted_in, is_among, has_abstract, carrier}
+use Rattle.osi_base.specs.SetPlaces.{pair_of}
 use Rattle.end_rules.specs.State.{Body, OpenCall, is_free, is_none, opened_with, opens_of}
 
 abbrev pub Reply : Type 0

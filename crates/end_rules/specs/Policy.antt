@@ -1,12 +1,14 @@
 -- How an end answers proposed contexts (X.226 6.2.3, 6.3.3; the policy is this project's own).
 use Rattle.std.specs.Prelude.{ℕ, suc, ◌+◌, List, [], ◌∷◌, map, length, Bool, true, false, not, ◌&&◌, ◌||◌, nat_eq, nat_lt, if◌then◌else◌, Option, Some, None, is_some, find}
 use Rattle.std.specs.List.{list_any}
-use Rattle.osi_base.specs.declared.words.Proposal.{Proposal}
-use Rattle.osi_base.specs.declared.words.AddAnswer.{AddAnswer}
-use Rattle.osi_base.specs.declared.words.Answers.{Answers}
-use Rattle.osi_base.specs.declared.words.SetItem.{SetItem}
-use Rattle.end_rules.specs.Base.{Base, is_reliable, acse_name, rtse_name, ber_name, most_contexts}
-use Rattle.end_rules.specs.Sets.{Alteration, same_name, syntax_named, is_among, pair_of, is_fixed, has_parity, count_added, proposed_ids}
+use Rattle.osi_base.specs.declared.layer_words.Proposal.{Proposal}
+use Rattle.osi_base.specs.declared.layer_words.AddAnswer.{AddAnswer}
+use Rattle.osi_base.specs.declared.layer_words.Answers.{Answers}
+use Rattle.osi_base.specs.declared.layer_words.SetItem.{SetItem}
+use Rattle.end_rules.specs.Base.{Base, is_reliable, acse_name, rtse_name, ber_name}
+use Rattle.end_rules.specs.Sets.{Alteration, same_name, syntax_named, is_among, is_fixed, has_parity, count_added, proposed_ids}
+use Rattle.osi_base.specs.SetPlaces.{pair_of}
+use Rattle.osi_base.specs.Limits.{most_contexts}
 use Rattle.end_rules.specs.State.{Body}
 use Rattle.end_rules.specs.Altering.{used, has_double}
 

@@ -1,7 +1,7 @@
 -- What an end does with a message: it passes it over, takes it, or ends the association by an own abort. Checks
 -- come in the order purge, session, presentation, then association control or reliable transfer.
 use Rattle.std.specs.Prelude.{List, Bool, true, false, not, ◌||◌, if◌then◌else◌, Option, Some, None}
-use Rattle.osi_base.specs.declared.words.SetItem.{SetItem}
+use Rattle.osi_base.specs.declared.layer_words.SetItem.{SetItem}
 use Rattle.dialogue.specs.declared.indication.Indication.{Indication}
 use Rattle.end_rules.specs.Base.{Base, Fault, is_bare}
 use Rattle.end_rules.specs.Messages.{Word, OfAssociation, OfData, OfMarks, OfActivities, Message, Transport, Session, TransportUnit, unit_of}

@@ -6,11 +6,11 @@ use Rattle.osi_base.specs.Syntax.{name_of}
 use Rattle.osi_base.specs.declared.syntax.Pair.{Pair}
 use Rattle.osi_base.specs.declared.syntax.Syntax.{Syntax}
 use Rattle.osi_base.specs.declared.syntax.Syntax.TheVariants.{Ber, Der, Packed}
-use Rattle.osi_base.specs.declared.words.SetItem.{SetItem}
-use Rattle.osi_base.specs.declared.words.Proposal.{Proposal}
-use Rattle.osi_base.specs.declared.words.AddAnswer.{AddAnswer}
-use Rattle.osi_base.specs.declared.words.Answers.{Answers}
-use Rattle.osi_base.specs.declared.words.RestoredItem.{RestoredItem}
+use Rattle.osi_base.specs.declared.layer_words.SetItem.{SetItem}
+use Rattle.osi_base.specs.declared.layer_words.Proposal.{Proposal}
+use Rattle.osi_base.specs.declared.layer_words.AddAnswer.{AddAnswer}
+use Rattle.osi_base.specs.declared.layer_words.Answers.{Answers}
+use Rattle.osi_base.specs.declared.layer_words.RestoredItem.{RestoredItem}
 use Rattle.end_rules.specs.Base.{acse_name, rtse_name}
 
 -- two object identifiers are one
@@ -28,11 +28,6 @@ syntax_named name =
     else (if same_name name (name_of Packed) then Some Packed
     else None))
 
--- the pair that a set gives an identifier (X.216 3.3.15)
-abbrev pub pair_of : List SetItem → ℕ → Option Pair
-pair_of [] k = None
-pair_of (item ∷ items) k = if nat_eq item.id k then Some item.pair else pair_of items k
-
 -- a context that is added, by rising identifier
 abbrev pub put : ℕ → Pair → List SetItem → List SetItem
 put k pair [] = record { id = k; pair = pair } ∷ []
@@ -42,10 +37,6 @@ put k pair (item ∷ items) =
     else if nat_eq k item.id
     then record { id = k; pair = pair } ∷ items
     else item ∷ put k pair items
-
-abbrev pub without_context : ℕ → List SetItem → List SetItem
-without_context k [] = []
-without_context k (item ∷ items) = if nat_eq item.id k then without_context k items else item ∷ without_context k items
 
 -- ---- alterations
 

@@ -1,7 +1,7 @@
 -- Openings, refusals, releases and aborts (X.225 7.1 to 7.9, X.226 6.1, 6.4, X.227 7).
 use Rattle.std.specs.Prelude.{List, [], ◌∷◌, ◌++◌, Bool, true, false, not, Option, Some, None}
-use Rattle.osi_base.specs.declared.words.Layer.TheVariants as layers
-use Rattle.osi_base.specs.declared.words.SetItem.{SetItem}
+use Rattle.osi_base.specs.declared.layer_words.Layer.TheVariants as layers
+use Rattle.osi_base.specs.declared.layer_words.SetItem.{SetItem}
 use Rattle.osi_base.specs.declared.acse_word.Acse.{Acse}
 use Rattle.osi_base.specs.declared.acse_word.Acse.TheVariants as acse
 use Rattle.dialogue.specs.declared.config.Phase.TheVariants.{Over}

@@ -3,9 +3,9 @@ use Rattle.std.specs.Prelude.{ℕ, pos, List, [], ◌∷◌, ◌++◌, Bool, tru
 use Rattle.osi_base.specs.declared.bit_string.BitString.{BitString}
 use Rattle.osi_base.specs.declared.syntax.Pair.{Pair}
 use Rattle.osi_base.specs.declared.syntax.Syntax.TheVariants.{Ber}
-use Rattle.osi_base.specs.declared.words.SetItem.{SetItem}
-use Rattle.osi_base.specs.declared.words.Proposal.{Proposal}
-use Rattle.osi_base.specs.declared.words.AddAnswer.{AddAnswer}
+use Rattle.osi_base.specs.declared.layer_words.SetItem.{SetItem}
+use Rattle.osi_base.specs.declared.layer_words.Proposal.{Proposal}
+use Rattle.osi_base.specs.declared.layer_words.AddAnswer.{AddAnswer}
 use Rattle.osi_base.specs.declared.session_word.SessionConnect.{SessionConnect}
 use Rattle.osi_base.specs.declared.presentation_word.PresentationConnect.{PresentationConnect}
 use Rattle.osi_base.specs.declared.presentation_word.PresentationReject.{PresentationReject}
@@ -21,7 +21,8 @@ use Rattle.dialogue.specs.declared.config.Mode.TheVariants.{Bare, Direct, Reliab
 use Rattle.dialogue.specs.declared.config.Phase.{Phase}
 use Rattle.dialogue.specs.declared.config.Phase.TheVariants.{Recovering}
 use Rattle.end_rules.specs.Base.{Base, acse_name, rtse_name, ber_name, application_context}
-use Rattle.end_rules.specs.Sets.{lowest_with, pair_of}
+use Rattle.end_rules.specs.Sets.{lowest_with}
+use Rattle.osi_base.specs.SetPlaces.{pair_of}
 use Rattle.end_rules.specs.Messages.{Information, Transferring, ValueContent, Association, Plea, Part, DataValue, ConnectionRequest, NoData, ProviderReason, UserValues, Connect, Accept, Refuse, Finish, Disconnect, Abort, Values, Give, GiveConfirm, Please, OfAssociation, OfData, OfMarks, Message, Transport, Session}
 use Rattle.end_rules.specs.State.{Body}
 use Rattle.end_rules.specs.Units.{proposed_units}

@@ -2,8 +2,8 @@
 //! cross, of a transfer, a recovery, links and rejects.
 
 ghost use Rattle.std.specs.Prelude.{◌≡◌, [], ◌∷◌, Some, None, Ok, Err, pos, true, false};
-ghost use Rattle.osi_base.specs.declared.words.Layer.TheVariants as layers;
-ghost use Rattle.osi_base.specs.declared.words.ProblemKind.TheVariants as problems;
+ghost use Rattle.osi_base.specs.declared.layer_words.Layer.TheVariants as layers;
+ghost use Rattle.osi_base.specs.declared.layer_words.ProblemKind.TheVariants as problems;
 ghost use Rattle.dialogue.specs.declared.config.Mode.TheVariants.{Bare, Direct, Reliable};
 ghost use Rattle.dialogue.specs.declared.config.Phase.TheVariants as phases;
 ghost use Rattle.dialogue.specs.declared.call.Call.TheVariants as the_calls;

@@ -2,7 +2,7 @@
 use Rattle.std.proofs.Common.{◌≡◌, ℕ, ℤ, ◌<◌, ◌^◌, ◌-◌, Bool, true, false, if◌then◌else◌, List, [], ◌∷◌, Option, Some, None, refl, sym, ap, subst, ◌∙◌, arith, option_map}
 use Rattle.osi_base.specs.declared.syntax.Syntax.{Syntax}
 use Rattle.osi_base.specs.declared.syntax.Syntax.TheVariants.{Ber, Der, Packed}
-use Rattle.osi_base.specs.declared.words.SetItem.{SetItem}
+use Rattle.osi_base.specs.declared.layer_words.SetItem.{SetItem}
 use Rattle.asn1_types.specs.declared.value.Val.{Val}
 use Rattle.ber_spelling.specs.Octets.{AreOctets}
 use Rattle.stub_tables.specs.declared.tables.Tables.{Tables}
@@ -18,8 +18,8 @@ use Rattle.apdu_spelling.specs.Heads as heads
 use Rattle.apdu_spelling.specs.Spellings.{CarriedAs, ReturnedAs, Says, Spells, SpellsHead, room_behind}
 use Rattle.apdu_spelling.proofs.OneHead.{one_apdu}
 use Rattle.dialogue.specs.declared.config.Config.{Config}
-use Rattle.end_rules.specs.Base.{Carried, Absent, Spelled, Unspelled, Head, InvokeHead, ResultHead, ErrorHead, RejectHead}
-use Rattle.end_rules.specs.Sets.{pair_of}
+use Rattle.end_rules.specs.Base.{Carried, Absent, Spelled, Unspelled, InvokeHead, ResultHead, ErrorHead, RejectHead}
+use Rattle.osi_base.specs.SetPlaces.{pair_of}
 use Rattle.end_rules.specs.Messages.{ValueContent, Remote, Unread, Association, Plea, Part}
 use Rattle.end_rules.specs.Hearing.{carried_in, head_of_apdu, head_of, syntax_of}
 use Rattle.end_wire.specs.Heads.{spelled_head, typed_at, carried_at, said_result, said, said_or_refused, head_at, value_or_lack, apdu_of}

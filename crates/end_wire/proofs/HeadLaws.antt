@@ -13,7 +13,6 @@ use Rattle.ber_spelling.specs.Spelling as spelling
 use Rattle.ber_spelling.proofs.WholeValues as ber_laws
 use Rattle.ber_spelling.proofs.Steady.{eqb_itself as same_number}
 use Rattle.packed_codec.specs.declared.fault.PackedFault.{PackedFault}
-use Rattle.packed_codec.specs.Octets as packed_octets
 use Rattle.packed_codec.specs.Rules as packed
 use Rattle.packed_codec.specs.Laws as packings
 use Rattle.packed_codec.proofs.WholeValues as packed_laws
@@ -38,9 +37,6 @@ ber_done x = Ok x
 
 abbrev packed_done : Value × ℕ → Result (Value × ℕ) PackedFault
 packed_done x = Ok x
-
-pub packs_octets : (text : List ℕ) → AreOctets text → packed_octets.AreOctets text
-packs_octets text are = record { each = are.each }
 
 -- ---- what is spelled is read
 
@@ -84,7 +80,7 @@ module _ (text : List ℕ) (are : AreOctets text) (h : heads.Head) where
   of_packed : (r : Result (Value × ℕ) PackedFault) → packed.read_at head_rows packed_apdu_row 262144 text ≡ r → front_head text r ≡ Some h → PacksHead h text
   of_packed (Ok x) e found =
       let b = packed_back x.0 (drop x.1 text) h found in
-      let p = (packed_laws.read_is_spelled head_rows packed_apdu_row 262144 text x.0 x.1 (packs_octets text are) e).1 in
+      let p = (packed_laws.read_is_spelled head_rows packed_apdu_row 262144 text x.0 x.1 are e).1 in
       record {
         front = take x.1 text;
         packs = subst (λ (v : Value). packings.Packed head_rows packed_apdu_row 262144 v (take x.1 text)) b.0 p;

@@ -5,7 +5,7 @@ use Rattle.std.proofs.lemmas.Bool.{eqb-true}
 use Rattle.std.proofs.Math.Seq.{take-length}
 use Rattle.osi_base.specs.declared.syntax.Syntax.{Syntax}
 use Rattle.osi_base.specs.declared.syntax.Syntax.TheVariants.{Ber, Der, Packed}
-use Rattle.osi_base.specs.declared.words.Problem.{Problem}
+use Rattle.osi_base.specs.declared.layer_words.Problem.{Problem}
 use Rattle.asn1_types.specs.Value.{Value}
 use Rattle.asn1_types.specs.Table.{AreSoundRows}
 use Rattle.asn1_types.specs.declared.value.Val.{Val}
@@ -31,9 +31,8 @@ use Rattle.stub_tables.specs.Uses.{may_lack}
 use Rattle.stub_tables.specs.Apdus.{argument_of, result_of, parameter_of, operation_coded, error_coded}
 use Rattle.apdu_spelling.specs.Heads as heads
 use Rattle.apdu_spelling.specs.Spellings.{SpelledAs, TypedAs, CarriedAs, ReturnedAs, Says, Spells, SpellsHead, room_behind}
-use Rattle.end_rules.specs.Base.{Carried, Absent, Spelled, Unspelled, Head, InvokeHead, ResultHead, ErrorHead, RejectHead}
+use Rattle.end_rules.specs.Base.{Carried, Absent, Spelled, Unspelled, InvokeHead, ResultHead, ErrorHead, RejectHead}
 use Rattle.end_wire.specs.Heads.{whole_value, packed_value, value_at, typed_at, carried_at, said_result, said, value_or_lack, apdu_of}
-use Rattle.end_wire.proofs.HeadLaws.{packs_octets}
 
 abbrev no_value : Option Val
 no_value = None
@@ -91,7 +90,7 @@ module _ (types : TypeTable) (limit of : ℕ) (v : Val) (octets : List ℕ) (are
       let used : x.1 ≡ length octets = eqb-true x.1 (length octets) t.0 in
       let whole : take x.1 octets ≡ octets = ap (λ (k : ℕ). take k octets) used ∙ take-length octets in
       subst (λ (w : Value). packings.Packed types of limit w octets) t.1
-      (subst (λ (t : List ℕ). packings.Packed types of limit x.0 t) whole (packed_laws.read_is_spelled types of limit octets x.0 x.1 (packs_octets octets are) e).1)
+      (subst (λ (t : List ℕ). packings.Packed types of limit x.0 t) whole (packed_laws.read_is_spelled types of limit octets x.0 x.1 are e).1)
   of_packed (Err f) e found = absurd cc
 
   pub value_spelled : (syntax : Syntax) → value_at syntax types limit of octets ≡ Spelled v → SpelledAs syntax types limit of v octets

@@ -2,7 +2,7 @@
 use Rattle.std.proofs.Common.{◌≡◌, ℕ, ◌<◌, ◌≤◌, ◌^◌, Bool, true, false, List, [], ◌∷◌, ◌++◌, length, Option, Some, None, option_map, refl, sym, ap, subst, ◌∙◌, arith}
 use Rattle.std.proofs.lemmas.List.{append-nil}
 use Rattle.osi_base.specs.declared.syntax.Syntax.TheVariants.{Ber, Der}
-use Rattle.osi_base.specs.declared.words.SetItem.{SetItem}
+use Rattle.osi_base.specs.declared.layer_words.SetItem.{SetItem}
 use Rattle.asn1_types.specs.Value.{Value, any}
 use Rattle.asn1_types.specs.Whole.{is_whole}
 use Rattle.asn1_types.specs.Fits.{has_form}
@@ -33,7 +33,7 @@ use Rattle.apdu_spelling.proofs.HeadsSound.{heads_sound}
 use Rattle.apdu_spelling.specs.Spellings.{Spells}
 use Rattle.apdu_spelling.specs.Writing.{written_apdu, IsWritable, has_values, is_typed, may_carry, may_return, written_typed, written_carried, written_head, outcome_of, head_of}
 use Rattle.apdu_spelling.proofs.Written.{written_spelled}
-use Rattle.end_rules.specs.Sets.{pair_of}
+use Rattle.osi_base.specs.SetPlaces.{pair_of}
 use Rattle.end_rules.specs.State.{bare_set}
 use Rattle.end_rules.specs.Messages.{Remote, Message}
 use Rattle.end_rules.specs.Hearing.{syntax_of}

@@ -2,9 +2,9 @@
 -- mode; X.690 8.1).
 use Rattle.std.specs.Prelude.{◌≡◌, ℕ, ◌<◌, ◌≤◌, List, [], ◌∷◌, ◌++◌, length, take, drop, false, Option, Some, None, Result, Ok, Err}
 use Rattle.osi_base.specs.declared.syntax.Pair.{Pair}
-use Rattle.osi_base.specs.declared.words.SetItem.{SetItem}
+use Rattle.osi_base.specs.declared.layer_words.SetItem.{SetItem}
+use Rattle.osi_base.specs.Limits.{most_octets}
 use Rattle.asn1_types.specs.Value.{Value}
-use Rattle.asn1_types.specs.Limits.{most_octets}
 use Rattle.ber_spelling.specs.declared.fault.ReadFault.{ReadFault}
 use Rattle.ber_spelling.specs.declared.fault.ReadFault.TheVariants as fault
 use Rattle.ber_spelling.specs.Rules.{read_at}
@@ -15,7 +15,7 @@ use Rattle.stub_tables.specs.Apdus.{IsWhole}
 use Rattle.dialogue.specs.declared.config.Config.{Config}
 use Rattle.dialogue.specs.declared.config.Mode.TheVariants.{Bare}
 use Rattle.end_rules.specs.Base.{Base}
-use Rattle.end_rules.specs.Sets.{pair_of}
+use Rattle.osi_base.specs.SetPlaces.{pair_of}
 use Rattle.end_rules.specs.Messages.{ValueContent, DataValue, Values, OfData, Message, Session, Transport, Word, DataWord, AlterContext, AlterContextAck, OfAssociation, OfMarks, OfActivities}
 use Rattle.end_rules.specs.Hearing.{syntax_of}
 use Rattle.end_wire.specs.Values.{IsContent, content_at, written_content, bare_spellings}

@@ -1,13 +1,13 @@
 -- What an end of bare mode does with octets that come, however they are cut.
 use Rattle.std.specs.Prelude.{◌≡◌, ℕ, List, [], ◌∷◌, ◌++◌, map, true, false}
-use Rattle.osi_base.specs.declared.words.Layer.TheVariants.{Rose}
+use Rattle.osi_base.specs.declared.layer_words.Layer.TheVariants.{Rose}
 use Rattle.dialogue.specs.declared.indication.Indication.{Indication}
 use Rattle.end_rules.specs.Base.{Base, Fault}
 use Rattle.end_rules.specs.Messages.{Message, ValueContent}
 use Rattle.end_rules.specs.State.{Body, passes_over}
 use Rattle.end_rules.specs.Faults.{fault_at, shown_at_fault}
 use Rattle.end_rules.specs.Hearing.{syntax_of}
-use Rattle.end_rules.specs.Sets.{pair_of}
+use Rattle.osi_base.specs.SetPlaces.{pair_of}
 use Rattle.end_rules.specs.Reacting.{react, Takes}
 use Rattle.end_rules.specs.History.{Step, fed, took, answered, fault, feed_end}
 use Rattle.end_wire.specs.Values.{IsContent}

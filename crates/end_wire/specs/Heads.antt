@@ -3,11 +3,11 @@
 use Rattle.std.specs.Prelude.{ℕ, ◌-◌, List, length, drop, Bool, true, false, nat_eq, if◌then◌else◌, Option, Some, None, option_map, Result, Ok, Err}
 use Rattle.osi_base.specs.declared.syntax.Syntax.{Syntax}
 use Rattle.osi_base.specs.declared.syntax.Syntax.TheVariants.{Ber, Der, Packed}
+use Rattle.osi_base.specs.Limits.{most_octets}
 use Rattle.asn1_types.specs.Value.{Value}
 use Rattle.asn1_types.specs.declared.value.Val.{Val}
 use Rattle.asn1_types.specs.declared.row.TypeId.{TypeId}
 use Rattle.asn1_types.specs.declared.table.TypeTable.{TypeTable}
-use Rattle.asn1_types.specs.Limits.{most_octets}
 use Rattle.ber_spelling.specs.declared.fault.ReadFault.{ReadFault}
 use Rattle.ber_spelling.specs.Rules as ber
 use Rattle.packed_codec.specs.declared.fault.PackedFault.{PackedFault}
@@ -25,7 +25,7 @@ use Rattle.apdu_codec.specs.declared.fault.HeadFault.{HeadFault}
 use Rattle.apdu_codec.specs.declared.fault.HeadFault.TheVariants as fault
 use Rattle.apdu_codec.specs.Pieces.{ber_head, packed_head}
 use Rattle.apdu_codec.specs.Refusals.{refusal_of}
-use Rattle.end_rules.specs.Base.{Carried, Absent, Spelled, Unspelled, Head, General, BadReject, InvokeHead, ResultHead, ErrorHead, RejectHead}
+use Rattle.end_rules.specs.Base.{Carried, Absent, Spelled, Unspelled, HeardHead, General, BadReject, InvokeHead, ResultHead, ErrorHead, RejectHead}
 
 -- ---- the head that octets spell
 
@@ -77,7 +77,7 @@ said_result tables syntax h None = Absent
 said_result tables syntax h (Some o) =
     carried_at syntax tables.types (room_behind syntax h) (option_map result_of (operation_coded tables o.code)) (Some o.octets)
 
-abbrev pub said : Tables → Syntax → heads.Head → Head
+abbrev pub said : Tables → Syntax → heads.Head → HeardHead
 said tables syntax (heads.invoke id linked code octets) =
     InvokeHead id linked code
     (carried_at syntax tables.types (room_behind syntax (heads.invoke id linked code octets)) (option_map argument_of (operation_coded tables code)) octets)
@@ -89,17 +89,17 @@ said tables syntax (heads.error id code octets) =
 said tables syntax (heads.reject id problem) = RejectHead id problem
 
 -- the general problem, or a reject that is none; want of memory is none of octets
-abbrev pub refused : HeadFault → Head
+abbrev pub refused : HeadFault → HeardHead
 refused (fault.General number) = General number
 refused fault.BadReject = BadReject
 refused fault.NoMemory = BadReject
 
-abbrev pub said_or_refused : Tables → Syntax → List ℕ → Option heads.Head → Head
+abbrev pub said_or_refused : Tables → Syntax → List ℕ → Option heads.Head → HeardHead
 said_or_refused tables syntax text (Some h) = said tables syntax h
 said_or_refused tables syntax text None = refused (refusal_of syntax text)
 
 -- what octets say of an APDU
-unfoldable pub head_at : Tables → Syntax → List ℕ → Head
+unfoldable pub head_at : Tables → Syntax → List ℕ → HeardHead
 head_at tables syntax text = said_or_refused tables syntax text (spelled_head syntax text)
 
 -- ---- the APDU that a head says, where its value is one, or its lack allowed
@@ -110,7 +110,7 @@ value_or_lack (Some use_) Absent = if may_lack use_.inner use_.optional then Som
 value_or_lack use_ (Spelled value) = Some (Some value)
 value_or_lack use_ Unspelled = None
 
-abbrev pub apdu_of : Tables → Head → Option Apdu
+abbrev pub apdu_of : Tables → HeardHead → Option Apdu
 apdu_of tables (General number) = None
 apdu_of tables BadReject = None
 apdu_of tables (InvokeHead id linked code carried) =

@@ -2,7 +2,7 @@
 use Rattle.std.specs.Prelude.{◌≡◌, ℕ, ◌<◌, List, ◌++◌, length}
 use Rattle.osi_base.specs.declared.syntax.Syntax.{Syntax}
 use Rattle.osi_base.specs.declared.syntax.Syntax.TheVariants.{Ber}
-use Rattle.osi_base.specs.declared.words.SetItem.{SetItem}
+use Rattle.osi_base.specs.declared.layer_words.SetItem.{SetItem}
 use Rattle.ber_spelling.specs.Octets.{AreOctets}
 use Rattle.stub_tables.specs.declared.tables.Tables.{Tables}
 use Rattle.stub_tables.specs.declared.apdu.Apdu.{Apdu}
@@ -10,7 +10,7 @@ use Rattle.stub_tables.specs.Readable.{IsReadable}
 use Rattle.stub_tables.specs.Apdus.{IsWhole}
 use Rattle.apdu_spelling.specs.Writing.{written_apdu, IsWritable}
 use Rattle.dialogue.specs.declared.config.Config.{Config}
-use Rattle.end_rules.specs.Sets.{pair_of}
+use Rattle.osi_base.specs.SetPlaces.{pair_of}
 use Rattle.end_rules.specs.State.{bare_set}
 use Rattle.end_rules.specs.Messages.{ValueContent, Remote, Message}
 use Rattle.end_rules.specs.Hearing.{syntax_of, head_of}

@@ -1,6 +1,6 @@
 -- Faults of whole protocol data units.
 use Rattle.std.specs.Prelude.{ℕ}
-use Rattle.osi_base.specs.declared.words.Kind.TheVariants as why
+use Rattle.osi_base.specs.declared.layer_words.Kind.TheVariants as why
 use Rattle.ber_spelling.specs.declared.fault.ReadFault.{ReadFault}
 use Rattle.ber_spelling.specs.declared.fault.ReadFault.TheVariants as faults
 use Rattle.fixed_tables.specs.declared.pdu.PduFault as units

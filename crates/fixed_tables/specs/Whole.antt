@@ -1,6 +1,6 @@
 -- Values that all of the octets spell, and the first field that breaks the grammar (X.690 8).
 use Rattle.std.specs.Prelude.{◌≡◌, ◌==◌, ℕ, false, List, length, Result, Ok, Err, if◌then◌else◌}
-use Rattle.osi_base.specs.declared.words.Kind.TheVariants.{Extra}
+use Rattle.osi_base.specs.declared.layer_words.Kind.TheVariants.{Extra}
 use Rattle.asn1_types.specs.declared.row.TypeRow.{TypeRow}
 use Rattle.asn1_types.specs.Value.{Value}
 use Rattle.asn1_types.specs.declared.value.Val.{Val}

@@ -55,7 +55,7 @@ pub fn explicit(number: u32, inner: u32) -> TypeRow
 }
 
 /// These rows and those behind them.
-pub fn behind(rows: Vec<TypeRow>, more: Vec<TypeRow>) -> Result<Vec<TypeRow>, NoMemory>
+pub fn joined_rows(rows: Vec<TypeRow>, more: Vec<TypeRow>) -> Result<Vec<TypeRow>, NoMemory>
     ensures { IfOk result (λ all. all.items ≡ rows.items ++ more.items) }
 {
     let mut all = rows;

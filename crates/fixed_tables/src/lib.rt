@@ -11,7 +11,7 @@ mod pdvs;
 mod reasons;
 mod values;
 
-pub use building::{behind, explicit, implicit, part, parts_of, table_of, tagged};
+pub use building::{explicit, implicit, joined_rows, part, parts_of, table_of, tagged};
 pub use laws::{spelled_is_whole, whole_is_spelled};
 pub use lists::{InValue, list_in, list_of};
 pub use making::{
@@ -21,6 +21,6 @@ pub use pdu::{PduFault, fault_of, whole};
 pub use pdvs::{pdv_in, pdv_value};
 pub use reasons::{reason_in, reason_value};
 pub use values::{
-    alternative, inside, maybe_bits, maybe_octets, maybe_oid, number, octet, octets_in, oid_in,
-    part_in, small,
+    alternative, chosen_in, maybe_bits, maybe_octets, maybe_oid, number_or, octet_or, octets_in,
+    oid_in, part_in, small_number_or,
 };

@@ -5,7 +5,9 @@ ghost use Rattle.std.specs.Option.{option_copied};
 ghost use Rattle.fixed_tables.specs.Pdvs.{bits_or_none, content_in, content_value, pdv_in, pdv_value};
 
 use crate::making::{any, bits, chosen, integer, name_part, octets, sequence};
-use crate::values::{alternative, inside, maybe_bits, maybe_oid, octets_in, part_in, small};
+use crate::values::{
+    alternative, chosen_in, maybe_bits, maybe_oid, octets_in, part_in, small_number_or,
+};
 use asn1_types::Val;
 use osi_base::{BitString, NoMemory, Octets, Pdv, PdvContent};
 use std::alloc::Global;
@@ -25,7 +27,7 @@ fn bits_or_none(alloc: Global, string: Option<BitString>) -> BitString
 fn content_in(alloc: Global, value: Option<&Val>) -> Result<PdvContent, NoMemory>
     ensures { IfOk result (λ x. x ≡ content_in (option_copied value.entry)) }
 {
-    let inner = inside(value);
+    let inner = chosen_in(value);
     match alternative(value) {
         0 => Ok(PdvContent::SingleAsn1Type(octets_in(alloc, inner)?)),
         1 => Ok(PdvContent::OctetAligned(octets_in(alloc, inner)?)),
@@ -42,7 +44,7 @@ pub fn pdv_in(alloc: Global, value: &Val) -> Result<Pdv, NoMemory>
 {
     Ok(Pdv {
         transfer: maybe_oid(alloc, part_in(0, Some(value)))?,
-        id: small(part_in(1, Some(value)), 0),
+        id: small_number_or(part_in(1, Some(value)), 0),
         content: content_in(alloc, part_in(2, Some(value)))?,
     })
 }

@@ -5,7 +5,7 @@ ghost use Rattle.std.specs.Option.{option_copied};
 ghost use Rattle.fixed_tables.specs.Reasons.{reason_in, reason_value};
 
 use crate::making::{integer, sequence};
-use crate::values::{number, part_in};
+use crate::values::{number_or, part_in};
 use asn1_types::Val;
 use osi_base::NoMemory;
 use std::alloc::Global;
@@ -14,7 +14,7 @@ use std::alloc::Global;
 pub fn reason_in(value: Option<&Val>) -> i64
     ensures { result ≡ reason_in (option_copied value.entry) }
 {
-    number(part_in(0, value), 0)
+    number_or(part_in(0, value), 0)
 }
 
 /// The value that says a reason.

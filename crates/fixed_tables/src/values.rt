@@ -37,7 +37,7 @@ fn nth(parts: &[Option<Val>], place: usize) -> Option<&Val>
 }
 
 /// The number of an INTEGER, or another where there is none.
-pub fn number(value: Option<&Val>, other: i64) -> i64
+pub fn number_or(value: Option<&Val>, other: i64) -> i64
     ensures { result ≡ number_or other (option_copied value.entry) }
 {
     match value {
@@ -50,10 +50,10 @@ pub fn number(value: Option<&Val>, other: i64) -> i64
 }
 
 /// The number of an INTEGER of 32 bits, or another where there is none.
-pub fn small(value: Option<&Val>, other: i64) -> u32
+pub fn small_number_or(value: Option<&Val>, other: i64) -> u32
     ensures { result ≡ small_or other (option_copied value.entry) }
 {
-    let number = number(value, other);
+    let number = number_or(value, other);
     if 0 <= number && number < 4_294_967_296 {
         number as u32
     } else {
@@ -62,10 +62,10 @@ pub fn small(value: Option<&Val>, other: i64) -> u32
 }
 
 /// The number of an INTEGER of 8 bits, or another where there is none.
-pub fn octet(value: Option<&Val>, other: i64) -> u8
+pub fn octet_or(value: Option<&Val>, other: i64) -> u8
     ensures { result ≡ octet_or other (option_copied value.entry) }
 {
-    let number = number(value, other);
+    let number = number_or(value, other);
     if 0 <= number && number < 256 {
         number as u8
     } else {
@@ -108,7 +108,7 @@ pub fn alternative(value: Option<&Val>) -> u32
 }
 
 /// The value of the alternative of a CHOICE that stands.
-pub fn inside(value: Option<&Val>) -> Option<&Val>
+pub fn chosen_in(value: Option<&Val>) -> Option<&Val>
     ensures { option_copied result ≡ inside (option_copied value.entry) }
 {
     let Some(value) = value else { return None };

@@ -34,9 +34,9 @@ use Rattle.module_faults.specs.Locals.{kind_at, no_error, no_operation, names_fa
 use Rattle.module_faults.specs.Recursion.{SaysRecursion}
 use Rattle.module_faults.specs.Facts.{Facts, is_too_deep, type_facts, type_shows, env_of}
 use Rattle.module_faults.specs.Faults.{use_shows, use_nesting, too_deep, body_shows, bodies_show, first_recursive, faults_by}
-use Rattle.module_compiler.specs.declared.tabling.Made.{Made}
-use Rattle.module_compiler.specs.declared.tabling.Whole.{Whole}
-use Rattle.module_compiler.specs.declared.tabling.Sort.TheVariants as sorts
+use Rattle.module_compiler.specs.declared.module_tables.Made.{Made}
+use Rattle.module_compiler.specs.declared.module_tables.Whole.{Whole}
+use Rattle.module_compiler.specs.declared.module_tables.Sort.TheVariants as sorts
 use Rattle.module_compiler.specs.Refusals.{HasNoFault}
 use Rattle.module_compiler.specs.Tables.{AreTablesOf}
 use Rattle.module_compiler.specs.Scope.{Ground, numbered, own_numbers}

@@ -3,7 +3,7 @@
 -- walked when it is first met.
 use Rattle.std.specs.Prelude.{◌≡◌, Result, Ok, Err, ℕ, zero, suc, ℤ, pos, negsuc, Bool, true, false, not, ◌||◌, List, [], ◌∷◌, ◌++◌, map, length, Option, Some, None, option_map, slice_get, slice_set, if◌then◌else◌, nat_le, ◌*◌, ◌+◌}
 use Rattle.std.specs.Str.{bytes_eq}
-use Rattle.osi_base.specs.Limits.{most_32}
+use Rattle.osi_base.specs.Limits.{most_32, most_octets, most_levels, most_signed}
 use Rattle.notation_tokens.specs.declared.token.Located.{Located}
 use Rattle.asn1_types.specs.declared.row.Item.{Item}
 use Rattle.asn1_types.specs.declared.row.Part.{Part}
@@ -12,7 +12,6 @@ use Rattle.asn1_types.specs.declared.row.Class.{Class}
 use Rattle.asn1_types.specs.declared.row.TypeRow.{TypeRow}
 use Rattle.asn1_types.specs.declared.row.TypeRow.TheVariants as rows
 use Rattle.asn1_types.specs.Numbered.{kind_numbered, class_numbered}
-use Rattle.asn1_types.specs.Limits.{most_octets, most_levels}
 use Rattle.operation_notation.specs.Tree.{TypeTree, type_tree, PlainTree, boolean, null, integer, enumerated, octets, bits, object_id, text, sequence_of, set_of, sequence, set, choice, named, PartTrees, no_parts, part}
 use Rattle.operation_notation.specs.declared.module.TagText.{TagText}
 use Rattle.operation_notation.specs.declared.module.RangeText.{RangeText}
@@ -61,10 +60,10 @@ add row s = Some (record { 0 = length s.rows }, record { rows = s.rows ++ row �
 -- ---- rows that name no others
 
 abbrev pub least_integer : ℤ
-least_integer = negsuc 9223372036854775807
+least_integer = negsuc most_signed
 
 abbrev pub greatest_integer : ℤ
-greatest_integer = pos 9223372036854775807
+greatest_integer = pos most_signed
 
 abbrev pub range_row : Option RangeText → TypeRow
 range_row None = rows.Integer least_integer greatest_integer

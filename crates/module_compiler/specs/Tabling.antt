@@ -13,10 +13,10 @@ use Rattle.stub_tables.specs.declared.operation.Code.TheVariants as codes
 use Rattle.stub_tables.specs.declared.operation.Operation.{Operation}
 use Rattle.stub_tables.specs.declared.operation.ErrorRow.{ErrorRow}
 use Rattle.module_compiler.specs.declared.fault.Halt.{Halt}
-use Rattle.module_compiler.specs.declared.tabling.Made.{Made}
-use Rattle.module_compiler.specs.declared.tabling.Whole.{Whole}
-use Rattle.module_compiler.specs.declared.tabling.Sort.{Sort}
-use Rattle.module_compiler.specs.declared.tabling.Sort.TheVariants as sorts
+use Rattle.module_compiler.specs.declared.module_tables.Made.{Made}
+use Rattle.module_compiler.specs.declared.module_tables.Whole.{Whole}
+use Rattle.module_compiler.specs.declared.module_tables.Sort.{Sort}
+use Rattle.module_compiler.specs.declared.module_tables.Sort.TheVariants as sorts
 use Rattle.module_faults.specs.Names.{or_none, find}
 use Rattle.module_compiler.specs.Scope.{Ground, behind, own_numbers}
 use Rattle.module_compiler.specs.Numbering.{Numbered, Walk, ◌>>=◌, give, none, row_behind, type_row, use_of}

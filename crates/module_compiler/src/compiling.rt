@@ -6,9 +6,9 @@ ghost use Rattle.module_compiler.specs.Tables.{AreTablesOf};
 ghost use Rattle.module_compiler.specs.Refusals.{HasNoFault, IsRefusedBy};
 
 use crate::fault::TableFault;
+use crate::module_tables::{Whole, tabled};
 use crate::own_codes::{errors_have_own_codes, operations_have_own_codes};
 use crate::scope::Scope;
-use crate::tabling::{Whole, tabled};
 use module_faults::least_fault;
 use operation_notation::ModuleText;
 use osi_base::Copied;

@@ -5,10 +5,10 @@
 mod compiling;
 mod fault;
 mod laws;
+mod module_tables;
 mod numbering;
 mod own_codes;
 mod scope;
-mod tabling;
 
 pub use compiling::compile;
 pub use fault::TableFault;

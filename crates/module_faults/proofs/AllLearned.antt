@@ -8,7 +8,7 @@ use Rattle.operation_notation.specs.declared.module.Assignment.{Assignment}
 use Rattle.operation_notation.specs.declared.module.Body.{Body}
 use Rattle.operation_notation.specs.declared.module.Body.TheVariants as bodies
 use Rattle.operation_notation.specs.declared.module.UseText.{UseText}
-use Rattle.module_faults.specs.declared.facts.Facts.{Facts as FactsGiven}
+use Rattle.module_faults.specs.declared.type_facts.Facts.{Facts as FactsGiven}
 use Rattle.module_faults.specs.declared.reach_search.Standing.{Standing}
 use Rattle.module_faults.specs.Names.{or_none, find, typed, type_at, type_place}
 use Rattle.module_faults.specs.Recursion.{listed, parts_uses, plain_uses, type_uses, use_uses, body_uses, bodies_uses, list_at, Uses}

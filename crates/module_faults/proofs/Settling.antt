@@ -9,7 +9,7 @@ use Rattle.operation_notation.specs.declared.module.Body.{Body}
 use Rattle.operation_notation.specs.declared.module.Body.TheVariants as bodies
 use Rattle.operation_notation.specs.declared.module.UseText.{UseText}
 use Rattle.module_faults.specs.declared.kind.TableKind.TheVariants as kinds
-use Rattle.module_faults.specs.declared.facts.Facts.{Facts as FactsGiven}
+use Rattle.module_faults.specs.declared.type_facts.Facts.{Facts as FactsGiven}
 use Rattle.module_faults.specs.declared.least.Found.{Found}
 use Rattle.module_faults.specs.declared.reach_search.Standing.{Standing}
 use Rattle.module_faults.specs.declared.tags.Tag.{Tag}

@@ -4,7 +4,7 @@ use Rattle.std.specs.Prelude.{IfOk, OnOk}
 use Rattle.operation_notation.specs.Tree.{TypeTree, type_tree, PlainTree}
 use Rattle.operation_notation.specs.declared.module.Assignment.{Assignment}
 use Rattle.operation_notation.specs.declared.module.TagText.{TagText}
-use Rattle.module_faults.specs.declared.facts.Facts.{Facts as FactsGiven}
+use Rattle.module_faults.specs.declared.type_facts.Facts.{Facts as FactsGiven}
 use Rattle.module_faults.specs.declared.least.Found.{Found}
 use Rattle.module_faults.specs.Least.{least_from}
 use Rattle.module_faults.specs.Locals.{tag_faults, plain_faults, type_faults}

@@ -4,7 +4,7 @@ use Rattle.std.specs.List.{list_any}
 use Rattle.std.specs.Ordering.{int_eq}
 use Rattle.std.specs.Prelude.{int_lt}
 use Rattle.std.specs.Str.{bytes_eq}
-use Rattle.asn1_types.specs.Limits.{most_levels}
+use Rattle.osi_base.specs.Limits.{most_levels, most_signed, most_type_levels}
 use Rattle.notation_tokens.specs.declared.token.Located.{Located}
 use Rattle.operation_notation.specs.Tree.{TypeTree, type_tree, PlainTree, boolean, null, integer, enumerated, octets, bits, object_id, text, sequence_of, set_of, sequence, set, choice, named, PartTrees, no_parts, part}
 use Rattle.operation_notation.specs.declared.module.Assignment.{Assignment}
@@ -91,7 +91,7 @@ abbrev pub simple : ℕ → ℕ → DefaultKind → Facts
 simple number nesting base = record { nesting = nesting; tags = record { class = 0; number = number } ∷ []; base = base }
 
 abbrev pub range_base : Option RangeText → DefaultKind
-range_base None = numbers (negsuc 9223372036854775807) (pos 9223372036854775807)
+range_base None = numbers (negsuc most_signed) (pos most_signed)
 range_base (Some r) = numbers r.low r.high
 
 -- the universal tag of a kind of text
@@ -166,7 +166,7 @@ type_shows env (suc levels) of = shows_over (type_facts env levels) (type_shows 
 
 abbrev pub facts_by : (List ℕ → Facts) → Option TypeTree → Facts
 facts_by env None = nothing
-facts_by env (Some of) = type_facts env 256 of
+facts_by env (Some of) = type_facts env most_type_levels of
 
 abbrev pub facts_at : List Assignment → (ℕ → Bool) → (List ℕ → Facts) → Option ℕ → Facts
 facts_at all recursive env None = nothing

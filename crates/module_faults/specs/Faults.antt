@@ -1,5 +1,6 @@
 -- The faults of a module that reads, and the least of them.
 use Rattle.std.specs.Prelude.{◌≡◌, ℕ, ◌+◌, Bool, true, false, max, List, [], ◌∷◌, ◌++◌, Option, None, Some, if◌then◌else◌}
+use Rattle.osi_base.specs.Limits.{most_type_levels}
 use Rattle.notation_tokens.specs.declared.token.Located.{Located}
 use Rattle.operation_notation.specs.Tree.{TypeTree}
 use Rattle.operation_notation.specs.declared.module.Assignment.{Assignment}
@@ -18,17 +19,17 @@ use Rattle.module_faults.specs.Facts.{Facts, is_too_deep, type_facts, type_shows
 
 abbrev pub use_shows : (List ℕ → Facts) → Option UseText → List Found
 use_shows env None = []
-use_shows env (Some u) = type_shows env 256 u.of
+use_shows env (Some u) = type_shows env most_type_levels u.of
 
 abbrev pub use_nesting : (List ℕ → Facts) → Option UseText → ℕ
 use_nesting env None = 0
-use_nesting env (Some u) = (type_facts env 256 u.of).nesting
+use_nesting env (Some u) = (type_facts env most_type_levels u.of).nesting
 
 abbrev pub too_deep : Located → ℕ → List Found
 too_deep name nesting = if_so (is_too_deep nesting) (at_name name kinds.TooNested)
 
 abbrev pub body_shows : (List ℕ → Facts) → Located → Body → List Found
-body_shows env name (bodies.Typed of) = type_shows env 256 of ++ too_deep name (type_facts env 256 of).nesting
+body_shows env name (bodies.Typed of) = type_shows env most_type_levels of ++ too_deep name (type_facts env most_type_levels of).nesting
 body_shows env name (bodies.Operation operation) =
     (use_shows env operation.argument ++ use_shows env operation.result)
     ++ too_deep name (max (use_nesting env operation.argument) (use_nesting env operation.result))

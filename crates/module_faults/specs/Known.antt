@@ -1,12 +1,13 @@
 -- What is known of the types of a module, as the code has it.
 use Rattle.std.specs.Prelude.{◌≡◌, ℕ, suc, ◌+◌, ◌<◌, ◌≤◌, Bool, true, false, ◌||◌, List, [], ◌∷◌, length, Option, None, Some, is_some, slice_get, if◌then◌else◌}
 use Rattle.std.specs.List.{list_all}
+use Rattle.osi_base.specs.Limits.{most_type_levels}
 use Rattle.operation_notation.specs.Tree.{TypeTree}
 use Rattle.operation_notation.specs.declared.module.Assignment.{Assignment}
-use Rattle.module_faults.specs.declared.facts.DefaultKind.{DefaultKind as DefaultKindGiven}
-use Rattle.module_faults.specs.declared.facts.DefaultKind.TheVariants as given
-use Rattle.module_faults.specs.declared.facts.Facts.{Facts as FactsGiven}
-use Rattle.module_faults.specs.declared.facts.Facing.{Facing}
+use Rattle.module_faults.specs.declared.type_facts.DefaultKind.{DefaultKind as DefaultKindGiven}
+use Rattle.module_faults.specs.declared.type_facts.DefaultKind.TheVariants as given
+use Rattle.module_faults.specs.declared.type_facts.Facts.{Facts as FactsGiven}
+use Rattle.module_faults.specs.declared.type_facts.Facing.{Facing}
 use Rattle.module_faults.specs.declared.reach_search.Standing.{Standing}
 use Rattle.module_faults.specs.Names.{type_at, type_place}
 use Rattle.module_faults.specs.Recursion.{type_uses}
@@ -73,7 +74,7 @@ abbrev pub ready_by : List Assignment → List Standing → List (Option FactsGi
 ready_by all standings known place None = None
 ready_by all standings known place (Some of) =
     if settles standings known place then None
-    else (if list_all (settles standings known) (type_uses all 256 of) then Some of else None)
+    else (if list_all (settles standings known) (type_uses all most_type_levels of) then Some of else None)
 
 -- the type at a place, if it is such a one
 abbrev pub ready : List Assignment → List Standing → List (Option FactsGiven) → ℕ → Option TypeTree

@@ -1,5 +1,6 @@
 -- Faults that the words of an assignment show by themselves, and by what its names are assigned.
 use Rattle.std.specs.Prelude.{ℕ, zero, suc, ◌+◌, ℤ, nat_eq, Bool, true, false, not, ◌&&◌, ◌||◌, List, [], ◌∷◌, ◌++◌, Option, None, Some, is_some}
+use Rattle.osi_base.specs.Limits.{most_alternatives, most_type_levels}
 use Rattle.notation_tokens.specs.declared.token.Located.{Located}
 use Rattle.operation_notation.specs.Tree.{TypeTree, type_tree, PlainTree, integer, enumerated, octets, sequence_of, set_of, sequence, set, choice, named, PartTrees, no_parts, part}
 use Rattle.operation_notation.specs.declared.module.Assignment.{Assignment}
@@ -69,7 +70,7 @@ plain_faults all inner (sequence_of item) = inner item
 plain_faults all inner (set_of item) = inner item
 plain_faults all inner (sequence ps) = part_faults [] ps ++ in_parts inner ps
 plain_faults all inner (set ps) = part_faults [] ps ++ in_parts inner ps
-plain_faults all inner (choice ps) = end_faults 256 ps ++ (part_faults [] ps ++ in_parts inner ps)
+plain_faults all inner (choice ps) = end_faults most_alternatives ps ++ (part_faults [] ps ++ in_parts inner ps)
 plain_faults all inner (named name) = name_faults all name
 plain_faults all inner plain = []
 
@@ -110,7 +111,7 @@ names_faults wrong all (name ∷ more) = kind_at (wrong (assigned all name.text)
 
 abbrev pub use_faults : List Assignment → Option UseText → List Found
 use_faults all None = []
-use_faults all (Some u) = type_faults all 256 u.of
+use_faults all (Some u) = type_faults all most_type_levels u.of
 
 -- a result with a type where none is returned
 abbrev pub contradiction : Bool → Option UseText → List Found
@@ -130,7 +131,7 @@ operation_faults all name operation =
     ++ (names_faults no_operation all operation.linked ++ no_code name operation.code))))
 
 abbrev pub body_faults : List Assignment → Located → Body → List Found
-body_faults all name (bodies.Typed of) = type_faults all 256 of
+body_faults all name (bodies.Typed of) = type_faults all most_type_levels of
 body_faults all name (bodies.Operation operation) = operation_faults all name operation
 body_faults all name (bodies.Error error) = use_faults all error.parameter ++ no_code name error.code
 

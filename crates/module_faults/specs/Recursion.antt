@@ -1,6 +1,7 @@
 -- Which types name which, and which of them reach themselves.
 use Rattle.std.specs.Prelude.{◌≡◌, ℕ, zero, suc, nat_eq, Bool, true, List, [], ◌∷◌, ◌++◌, map, Option, None, Some, slice_get}
 use Rattle.std.specs.List.{list_any}
+use Rattle.osi_base.specs.Limits.{most_type_levels}
 use Rattle.operation_notation.specs.Tree.{TypeTree, type_tree, PlainTree, sequence_of, set_of, sequence, set, choice, named, PartTrees, no_parts, part}
 use Rattle.operation_notation.specs.declared.module.Assignment.{Assignment}
 use Rattle.operation_notation.specs.declared.module.Body.{Body}
@@ -37,11 +38,11 @@ type_uses all (suc levels) of = uses_over all (type_uses all levels) of
 
 abbrev pub use_uses : List Assignment → Option UseText → List ℕ
 use_uses all None = []
-use_uses all (Some u) = type_uses all 256 u.of
+use_uses all (Some u) = type_uses all most_type_levels u.of
 
 -- those in what is assigned; LINKED and ERRORS don't count
 abbrev pub body_uses : List Assignment → Body → List ℕ
-body_uses all (bodies.Typed of) = type_uses all 256 of
+body_uses all (bodies.Typed of) = type_uses all most_type_levels of
 body_uses all (bodies.Operation operation) = use_uses all operation.argument ++ use_uses all operation.result
 body_uses all (bodies.Error error) = use_uses all error.parameter
 

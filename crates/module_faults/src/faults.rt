@@ -4,12 +4,12 @@
 ghost use Rattle.std.specs.Prelude.{IfOk};
 ghost use Rattle.module_faults.specs.Faults.{IsLeastFault};
 
-use crate::assigned::{double_codes, double_names, of_bodies};
+use crate::assignment_faults::{double_codes, double_names, of_bodies};
 use crate::least::{Found, Least};
 use crate::names::Names;
 use crate::reach_sets::told;
 use crate::type_faults::{first_recursive, shown_faults};
-use crate::uses::all_uses;
+use crate::use_lists::all_uses;
 use operation_notation::Assignment;
 use osi_base::NoMemory;
 use std::alloc::Global;

@@ -7,13 +7,13 @@ ghost use Rattle.module_faults.specs.Recursion.{bodies_uses};
 ghost use Rattle.module_faults.specs.ReachSets.{AreTold};
 ghost use Rattle.module_faults.specs.Known.{settles, unknowns, ready, AreKnown, AreLearned, AreAllLearned, AreSettled};
 
-use crate::facts::{Facing, Facts};
 use crate::least::Least;
 use crate::locals::MOST_LEVELS;
 use crate::names::{Names, place_of};
 use crate::reach_search::Standing;
 use crate::recursion::says;
-use crate::uses::type_uses;
+use crate::type_facts::{Facing, Facts};
+use crate::use_lists::type_uses;
 use operation_notation::TypeText;
 use osi_base::NoMemory;
 use std::alloc::Global;

@@ -1,8 +1,7 @@
 //! What is wrong with a module that reads: the least of its faults.
 #![tactic(auto)]
 
-mod assigned;
-mod facts;
+mod assignment_faults;
 mod faults;
 mod kind;
 mod laws;
@@ -10,18 +9,19 @@ mod learning;
 mod least;
 mod locals;
 mod names;
-mod places;
 mod reach_search;
 mod reach_sets;
 mod recursion;
 mod seen_names;
 mod tags;
+mod token_tests;
+mod type_facts;
 mod type_faults;
-mod uses;
+mod use_lists;
 
 pub use faults::least_fault;
 pub use kind::TableKind;
 pub use laws::one_least_fault;
 pub use least::Found;
 pub use names::{name_places, type_at};
-pub use places::is_same_name;
+pub use token_tests::is_same_name;

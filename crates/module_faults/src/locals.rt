@@ -9,8 +9,8 @@ ghost use Rattle.module_faults.specs.Locals.{range_faults, size_faults, tag_faul
 use crate::kind::TableKind;
 use crate::least::Least;
 use crate::names::Names;
-use crate::places::{is_bad_range, is_bad_size, is_bad_tag};
 use crate::seen_names::{SeenNames, see_number};
+use crate::token_tests::{is_bad_range, is_bad_size, is_bad_tag};
 use indexmap::IndexSet;
 use notation_tokens::Located;
 use operation_notation::{ItemText, PartText, PlainText, RangeText, TagText, TypeText, UseText};

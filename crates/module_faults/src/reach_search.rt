@@ -2,7 +2,7 @@
 //! one another. What it finds is checked by `recursion`; where that says no, `reach_sets` goes on.
 
 use crate::names::place_of;
-use crate::uses::UseLists;
+use crate::use_lists::UseLists;
 use osi_base::NoMemory;
 use std::alloc::Global;
 

@@ -6,7 +6,7 @@ ghost use Rattle.module_faults.specs.ReachSets.{lacks, is_in, first_out, first_f
 
 use crate::reach_search::{Standing, Survey, surveyed};
 use crate::recursion::are_shown;
-use crate::uses::UseLists;
+use crate::use_lists::UseLists;
 use osi_base::NoMemory;
 use std::alloc::Global;
 

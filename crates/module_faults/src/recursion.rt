@@ -6,7 +6,7 @@ ghost use Rattle.module_faults.specs.Recursion.{list_at};
 ghost use Rattle.module_faults.specs.Standings.{says, falls_to, all_fall, is_lower, leads_to, goes_on, is_earlier, is_place, comes_from, is_shown_by, is_shown, AreShown};
 
 use crate::reach_search::Standing;
-use crate::uses::UseLists;
+use crate::use_lists::UseLists;
 
 /// Whether what stands at a place is said to reach itself.
 pub(crate) fn says(standings: &[Standing], place: u32) -> bool

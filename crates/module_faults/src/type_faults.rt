@@ -10,7 +10,6 @@ ghost use Rattle.module_faults.specs.Facts.{env_of};
 ghost use Rattle.module_faults.specs.Faults.{use_shows, use_nesting, too_deep, body_shows, bodies_show, first_recursive};
 ghost use Rattle.module_faults.specs.Known.{env_by, AreKnown, AreSettled};
 
-use crate::facts::Facing;
 use crate::kind::TableKind;
 use crate::learning::learn_all;
 use crate::least::Least;
@@ -18,6 +17,7 @@ use crate::locals::MOST_LEVELS;
 use crate::names::Names;
 use crate::reach_search::Standing;
 use crate::recursion::says;
+use crate::type_facts::Facing;
 use notation_tokens::Located;
 use operation_notation::{Assignment, Body, UseText};
 use osi_base::NoMemory;

@@ -2,11 +2,12 @@
 use Rattle.std.proofs.Common.{◌≡◌, ℕ, zero, suc, ◌<◌, ◌≤◌, ◌^◌, List, [], ◌∷◌, ◌++◌, length, ap, arith, inl, inr}
 use Rattle.std.specs.Prelude.{nat_lt, codes}
 use Rattle.std.proofs.lemmas.List.{length-append, length-map}
+use Rattle.osi_base.specs.Limits.{most_tokens}
 use Rattle.notation_tokens.specs.Lexeme.{Lexeme, lexeme, lexemes}
 use Rattle.notation_tokens.specs.Forms.{is_blank}
-use Rattle.notation_tokens.specs.Lexing.{starts, word_length, number_length, sign_length, cut_after, cut, piece_of, lexed_of, most_tokens}
+use Rattle.notation_tokens.specs.Lexing.{starts, word_length, number_length, sign_length, cut_after, cut, piece_of, lexed_of}
 use Rattle.notation_tokens.proofs.Spans.{chosen_piece}
-use Rattle.notation_tokens.specs.declared.lexer.Lexed.{Lexed}
+use Rattle.notation_tokens.specs.declared.token_cutting.Lexed.{Lexed}
 use Rattle.notation_tokens.specs.declared.token.Place.{Place}
 use Rattle.operation_notation.specs.Grammar.{Many}
 use Rattle.operation_notation.specs.GrammarTypes.{Extent, narrow}

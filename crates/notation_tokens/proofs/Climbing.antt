@@ -5,9 +5,9 @@ use Rattle.notation_tokens.specs.Lexeme.{Lexeme, lexemes}
 use Rattle.notation_tokens.specs.Words.{place}
 use Rattle.notation_tokens.specs.Lexing.{behind_octet, behind_octets, first_place, piece_of, cut, cut_after, lexed_of}
 use Rattle.notation_tokens.specs.Places.{NotAfter, Rising}
-use Rattle.notation_tokens.specs.declared.lexer.Lexed.{Lexed}
-use Rattle.notation_tokens.specs.declared.lexer.Piece.{Piece}
-use Rattle.notation_tokens.specs.declared.lexer.Piece.TheVariants.{Passed, Cut, Bad}
+use Rattle.notation_tokens.specs.declared.token_cutting.Lexed.{Lexed}
+use Rattle.notation_tokens.specs.declared.token_cutting.Piece.{Piece}
+use Rattle.notation_tokens.specs.declared.token_cutting.Piece.TheVariants.{Passed, Cut, Bad}
 use Rattle.notation_tokens.specs.declared.token.Place.{Place}
 
 -- ---- the order of places

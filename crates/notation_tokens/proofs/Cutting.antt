@@ -3,15 +3,16 @@ use Rattle.std.proofs.Common.{◌≡◌, ℕ, zero, suc, ◌+◌, ◌<◌, ◌�
 use Rattle.std.specs.Prelude.{◌==◌}
 use Rattle.std.proofs.lemmas.Bool.{eqb-true}
 use Rattle.std.proofs.lemmas.List.{append-nil, length-drop, length_push}
+use Rattle.osi_base.specs.Limits.{most_tokens}
 use Rattle.notation_tokens.specs.declared.token.Place.{Place}
 use Rattle.notation_tokens.specs.declared.faults.NotationKind.{NotationKind}
 use Rattle.notation_tokens.specs.declared.faults.NotationKind.TheVariants.{BadCharacter, TooManyTokens}
-use Rattle.notation_tokens.specs.declared.lexer.Piece.{Piece}
-use Rattle.notation_tokens.specs.declared.lexer.Piece.TheVariants.{Passed, Cut, Bad}
-use Rattle.notation_tokens.specs.declared.lexer.Lexed.{Lexed}
+use Rattle.notation_tokens.specs.declared.token_cutting.Piece.{Piece}
+use Rattle.notation_tokens.specs.declared.token_cutting.Piece.TheVariants.{Passed, Cut, Bad}
+use Rattle.notation_tokens.specs.declared.token_cutting.Lexed.{Lexed}
 use Rattle.notation_tokens.specs.declared.token.Token.{Token}
 use Rattle.notation_tokens.specs.declared.token.TokenKind.{TokenKind}
-use Rattle.notation_tokens.specs.Lexing.{behind_octets, first_place, piece_of, cut, cut_after, lexed_of, most_tokens}
+use Rattle.notation_tokens.specs.Lexing.{behind_octets, first_place, piece_of, cut, cut_after, lexed_of}
 
 -- tokens that were cut before
 abbrev pub with_tokens : List Token → Lexed → Lexed

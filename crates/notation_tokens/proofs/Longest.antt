@@ -8,13 +8,14 @@ use Rattle.std.proofs.lemmas.Slice.Eq.{bytes_eq-Decides}
 use Rattle.std.proofs.lemmas.Bool.{ltb-true, eqb-true, or_cases, and_parts}
 use Rattle.std.proofs.lemmas.Bool.Decides.{nat_tests}
 use Rattle.std.proofs.lemmas.List.{length-drop, length-take-le, drop-drop, take-append-drop, take-take, drop-take}
+use Rattle.osi_base.specs.Limits.{most_module_octets}
 use Rattle.notation_tokens.specs.declared.token.Place.{Place}
-use Rattle.notation_tokens.specs.declared.lexer.Lexed.{Lexed}
-use Rattle.notation_tokens.specs.declared.lexer.Piece.{Piece}
-use Rattle.notation_tokens.specs.declared.lexer.Piece.TheVariants.{Passed, Cut, Bad}
+use Rattle.notation_tokens.specs.declared.token_cutting.Lexed.{Lexed}
+use Rattle.notation_tokens.specs.declared.token_cutting.Piece.{Piece}
+use Rattle.notation_tokens.specs.declared.token_cutting.Piece.TheVariants.{Passed, Cut, Bad}
 use Rattle.notation_tokens.specs.declared.token.Token.{Token}
 use Rattle.notation_tokens.specs.Forms.{is_blank, goes_on_well, is_word, are_digits, is_number, is_sign, signs, has_form}
-use Rattle.notation_tokens.specs.Lexing.{behind_octet, most_module_octets, behind_octets, first_place, starts_alphanumeric, goes_on_length, word_length, digits_length, number_length, behind_hyphen, sign_length, single_sign_length, single_signs, starts, piece_of, cut, cut_after, lexed_of}
+use Rattle.notation_tokens.specs.Lexing.{behind_octet, behind_octets, first_place, starts_alphanumeric, goes_on_length, word_length, digits_length, number_length, behind_hyphen, sign_length, single_sign_length, single_signs, starts, piece_of, cut, cut_after, lexed_of}
 use Rattle.notation_tokens.specs.Texts.{Answers, tokens_of, unless_stopped, too_long}
 use Rattle.notation_tokens.specs.declared.faults.NotationFault.{NotationFault}
 use Rattle.notation_tokens.specs.declared.faults.NotationKind.{NotationKind}

@@ -10,9 +10,9 @@ use Rattle.std.proofs.lemmas.Bool.{eqb-true, ltb-true, or_cases, and_parts}
 use Rattle.std.proofs.lemmas.Bool.Decides.{nat_tests}
 use Rattle.std.proofs.lemmas.List.{length-drop, length-take, drop-drop}
 use Rattle.notation_tokens.specs.declared.token.Place.{Place}
-use Rattle.notation_tokens.specs.declared.lexer.Piece.{Piece}
-use Rattle.notation_tokens.specs.declared.lexer.Piece.TheVariants.{Passed, Cut, Bad}
-use Rattle.notation_tokens.specs.declared.lexer.Lexed.{Lexed}
+use Rattle.notation_tokens.specs.declared.token_cutting.Piece.{Piece}
+use Rattle.notation_tokens.specs.declared.token_cutting.Piece.TheVariants.{Passed, Cut, Bad}
+use Rattle.notation_tokens.specs.declared.token_cutting.Lexed.{Lexed}
 use Rattle.notation_tokens.specs.declared.token.Token.{Token}
 use Rattle.notation_tokens.specs.Forms.{is_blank, goes_on_well, is_word, are_digits, is_number, is_sign, has_form}
 use Rattle.notation_tokens.specs.Lexeme.{IsSpan}

@@ -3,15 +3,16 @@ use Rattle.std.proofs.Common.{codes, ◌≡◌, ℕ, zero, suc, ◌+◌, ◌-◌
 use Rattle.std.specs.Prelude.{IfErr, nat_lt, if◌then◌else◌, slice_range, IsTrue}
 use Rattle.std.proofs.lemmas.Bool.{ltb-true, ltb-false}
 use Rattle.std.proofs.lemmas.List.{length-drop}
+use Rattle.osi_base.specs.Limits.{most_module_octets}
 use Rattle.notation_tokens.specs.declared.token.Place.{Place}
-use Rattle.notation_tokens.specs.declared.lexer.Lexed.{Lexed}
-use Rattle.notation_tokens.specs.declared.lexer.Piece.{Piece}
-use Rattle.notation_tokens.specs.declared.lexer.Piece.TheVariants.{Passed, Cut, Bad}
+use Rattle.notation_tokens.specs.declared.token_cutting.Lexed.{Lexed}
+use Rattle.notation_tokens.specs.declared.token_cutting.Piece.{Piece}
+use Rattle.notation_tokens.specs.declared.token_cutting.Piece.TheVariants.{Passed, Cut, Bad}
 use Rattle.notation_tokens.specs.declared.token.Token.{Token}
 use Rattle.notation_tokens.specs.declared.token.TokenKind.{TokenKind}
 use Rattle.notation_tokens.specs.declared.token.TokenKind.TheVariants.{Word, Number, Sign}
 use Rattle.notation_tokens.specs.Forms.{is_blank, has_form}
-use Rattle.notation_tokens.specs.Lexing.{most_module_octets, behind_octets, first_place, word_length, number_length, sign_length, starts, piece_of, cut, cut_after, lexed_of}
+use Rattle.notation_tokens.specs.Lexing.{behind_octets, first_place, word_length, number_length, sign_length, starts, piece_of, cut, cut_after, lexed_of}
 use Rattle.notation_tokens.specs.Texts.{Answers, tokens_of, unless_stopped, too_long, fault_at}
 use Rattle.notation_tokens.specs.declared.faults.NotationFault.{NotationFault}
 use Rattle.notation_tokens.specs.declared.faults.NotationFault.TheVariants as faults

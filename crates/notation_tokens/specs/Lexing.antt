@@ -2,13 +2,14 @@
 use Rattle.std.specs.Prelude.{codes, ℕ, zero, suc, ◌+◌, ◌<◌, ◌≤◌, Bool, false, ◌&&◌, ◌||◌, ◌==◌, nat_lt, nat_eq, List, [], ◌∷◌, length, take, drop, Some, None, if◌then◌else◌}
 use Rattle.std.specs.List.{list_any, starts_with}
 use Rattle.std.specs.Char.{is_ascii_alphabetic, is_ascii_alphanumeric, is_ascii_digit}
+use Rattle.osi_base.specs.Limits.{most_tokens}
 use Rattle.notation_tokens.specs.Forms.{is_blank}
 use Rattle.notation_tokens.specs.declared.token.Place.{Place}
 use Rattle.notation_tokens.specs.declared.faults.NotationKind.{NotationKind}
 use Rattle.notation_tokens.specs.declared.faults.NotationKind.TheVariants.{BadCharacter, TooManyTokens}
-use Rattle.notation_tokens.specs.declared.lexer.Piece.{Piece}
-use Rattle.notation_tokens.specs.declared.lexer.Piece.TheVariants.{Passed, Cut, Bad}
-use Rattle.notation_tokens.specs.declared.lexer.Lexed.{Lexed}
+use Rattle.notation_tokens.specs.declared.token_cutting.Piece.{Piece}
+use Rattle.notation_tokens.specs.declared.token_cutting.Piece.TheVariants.{Passed, Cut, Bad}
+use Rattle.notation_tokens.specs.declared.token_cutting.Lexed.{Lexed}
 use Rattle.notation_tokens.specs.declared.token.Token.{Token}
 use Rattle.notation_tokens.specs.declared.token.TokenKind.TheVariants.{Word, Number, Sign}
 
@@ -113,13 +114,6 @@ unfoldable pub cut : ℕ → ℕ → ℕ → Place → List ℕ → Lexed
 cut turns most from place [] = record { tokens = []; stop = None; place = place }
 cut zero most from place (c ∷ cs) = stopped BadCharacter place
 cut (suc turns) most from place (c ∷ cs) = cut_after (cut turns) most from place (c ∷ cs) (piece_of (c ∷ cs))
-
--- the greatest length of a module's text, and the greatest number of its tokens
-abbrev pub most_module_octets : ℕ
-most_module_octets = 1048576
-
-abbrev pub most_tokens : ℕ
-most_tokens = 65536
 
 unfoldable pub lexed_of : List ℕ → Lexed
 lexed_of text = cut (length text) most_tokens 0 first_place text

@@ -1,7 +1,8 @@
 -- Why a text isn't cut to its end, by what stands where cutting stops. Nothing here says how a text is cut.
 use Rattle.std.specs.Prelude.{codes, ◌≡◌, ◌<◌, ◌≤◌, ◌⊎◌, ℕ, Bool, true, false, List, [], ◌∷◌, length, take, drop, slice_range}
+use Rattle.osi_base.specs.Limits.{most_module_octets, most_tokens}
 use Rattle.notation_tokens.specs.Forms.{has_form, is_blank}
-use Rattle.notation_tokens.specs.Lexing.{behind_octets, first_place, starts, most_module_octets, most_tokens}
+use Rattle.notation_tokens.specs.Lexing.{behind_octets, first_place, starts}
 use Rattle.notation_tokens.specs.Tokens.{IsToken, IsGap}
 use Rattle.notation_tokens.specs.declared.token.Token.{Token}
 use Rattle.notation_tokens.specs.declared.token.TokenKind.{TokenKind}

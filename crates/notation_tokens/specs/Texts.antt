@@ -1,6 +1,7 @@
 -- What a text is as tokens, or its first fault.
 use Rattle.std.specs.Prelude.{◌≡◌, List, length, nat_lt, Option, Some, None, Result, Ok, Err, ℕ, if◌then◌else◌}
-use Rattle.notation_tokens.specs.Lexing.{most_module_octets, lexed_of}
+use Rattle.osi_base.specs.Limits.{most_module_octets}
+use Rattle.notation_tokens.specs.Lexing.{lexed_of}
 use Rattle.notation_tokens.specs.declared.token.Place.{Place}
 use Rattle.notation_tokens.specs.declared.faults.NotationFault.{NotationFault}
 use Rattle.notation_tokens.specs.declared.faults.NotationFault.TheVariants as faults

@@ -3,6 +3,7 @@ use Rattle.std.specs.Prelude.{codes, ℕ, ◌-◌, Bool, true, false, ◌&&◌, 
 use Rattle.std.specs.List.{list_any, list_all}
 use Rattle.std.specs.Char.{is_ascii_digit, is_ascii_uppercase, is_ascii_lowercase}
 use Rattle.std.specs.Str.Parse.{digits_value}
+use Rattle.osi_base.specs.Limits.{most_signed, most_negated}
 use Rattle.notation_tokens.specs.Lexeme.{Lexeme, same}
 use Rattle.notation_tokens.specs.Forms.{is_word}
 use Rattle.notation_tokens.specs.declared.token.TokenKind.{TokenKind}
@@ -96,10 +97,6 @@ is_decimal (d ∷ e ∷ ds) = (is_ascii_digit d && not (d == 48)) && list_all is
 unfoldable pub number : ℕ → List ℕ → Option ℕ
 number most text = if is_decimal text && nat_le (digits_value 10 text) most then Some (digits_value 10 text) else None
 
--- greatest numbers: of 64 bits with a sign, and of 32 bits without
-abbrev pub most_64 : ℕ
-most_64 = 9223372036854775807
-
 abbrev pub negative : Option ℕ → Option ℤ
 negative None = None
 negative (Some n) = if n == 0 then None else Some (negsuc (n - 1))
@@ -107,7 +104,7 @@ negative (Some n) = if n == 0 then None else Some (negsuc (n - 1))
 -- the integer of 64 bits that a text writes; -0 is none
 unfoldable pub int : List ℕ → Option ℤ
 int [] = None
-int (c ∷ cs) = if c == 45 then negative (number 9223372036854775808 cs) else option_map pos (number most_64 (c ∷ cs))
+int (c ∷ cs) = if c == 45 then negative (number most_negated cs) else option_map pos (number most_signed (c ∷ cs))
 
 abbrev pub number_of : ℕ → Lexeme → Option ℕ
 number_of most t = number most t.text
@@ -117,7 +114,7 @@ int_of t = int t.text
 
 -- an end of a range
 unfoldable pub end_word : List ℕ → Option ℤ
-end_word text = if same text (codes "MIN") then Some (negsuc most_64) else if same text (codes "MAX") then Some (pos most_64) else int text
+end_word text = if same text (codes "MIN") then Some (negsuc most_signed) else if same text (codes "MAX") then Some (pos most_signed) else int text
 
 abbrev pub end_of : Lexeme → Option ℤ
 end_of t = end_word t.text

@@ -6,12 +6,12 @@ ghost use Rattle.notation_tokens.specs.Tokens.{AreTokens};
 ghost use Rattle.notation_tokens.specs.Stops.{IsCuttingFault};
 
 use crate::faults::{NotationFault, NotationKind};
-use crate::lexer::{MOST_MODULE_OCTETS, cut_text};
 use crate::token::{Place, Tokens};
+use crate::token_cutting::{MOST_MODULE_OCTETS, cut_text};
 use std::alloc::Global;
 
 /// The fault of this kind at a place.
-pub fn fault(place: Place, kind: NotationKind) -> NotationFault
+pub fn fault_at(place: Place, kind: NotationKind) -> NotationFault
     ensures { result ≡ fault_at place kind }
 {
     NotationFault::At {
@@ -22,7 +22,7 @@ pub fn fault(place: Place, kind: NotationKind) -> NotationFault
 }
 
 /// The fault of a text of more than 1,048,576 octets.
-pub const TOO_LONG: NotationFault = NotationFault::At {
+pub const TEXT_TOO_LONG: NotationFault = NotationFault::At {
     line: 1,
     column: 1,
     kind: NotationKind::TextTooLong,
@@ -53,11 +53,11 @@ fn cut_whole(alloc: Global, text: &[u8]) -> Result<Tokens, NotationFault>
     ensures { Answers result (tokens_of text.now) }
 {
     if text.len() > MOST_MODULE_OCTETS {
-        return Err(TOO_LONG);
+        return Err(TEXT_TOO_LONG);
     }
     let lexed = cut_text(alloc, text)?;
     match lexed.stop {
         None => Ok(lexed.tokens),
-        Some(kind) => Err(fault(lexed.place, kind)),
+        Some(kind) => Err(fault_at(lexed.place, kind)),
     }
 }

@@ -3,12 +3,12 @@
 #![tactic(auto)]
 
 mod faults;
-mod lexer;
 mod lexing;
 mod token;
+mod token_cutting;
 pub mod words;
 
 pub use faults::{NotationFault, NotationKind};
-pub use lexer::{Lexed, MOST_MODULE_OCTETS, cut_text};
-pub use lexing::{TOO_LONG, fault, lex};
+pub use lexing::{TEXT_TOO_LONG, fault_at, lex};
 pub use token::{Located, Place, Token, TokenKind, Tokens};
+pub use token_cutting::{Lexed, MOST_MODULE_OCTETS, cut_text};

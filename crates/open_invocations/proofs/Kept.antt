@@ -5,7 +5,7 @@ use Rattle.std.specs.Prelude.{IfOk, OnOk, OnErr}
 use Rattle.osi_base.specs.declared.fault.NoMemory.{NoMemory}
 use Rattle.std.specs.Ordering.{int_eq}
 use Rattle.osi_base.specs.declared.syntax.Syntax.{Syntax}
-use Rattle.osi_base.specs.declared.words.Problem.{Problem}
+use Rattle.osi_base.specs.declared.layer_words.Problem.{Problem}
 use Rattle.stub_tables.specs.declared.tables.Tables.{Tables}
 use Rattle.stub_tables.specs.declared.operation.Code.{Code}
 use Rattle.dialogue.specs.declared.config.Mode.TheVariants.{Bare}
@@ -15,14 +15,14 @@ use Rattle.apdu_spelling.specs.declared.head.ApduHead.{ApduHead}
 use Rattle.linked_ops.specs.declared.key.Key.{Key}
 use Rattle.linked_ops.specs.Keys.{same_bool, same_key}
 use Rattle.linked_ops.specs.Entries.{Entry, is_open, is_open_or_none}
-use Rattle.end_rules.specs.Base.{Base, Carried, Head, General, BadReject, InvokeHead, ResultHead, ErrorHead, RejectHead}
+use Rattle.end_rules.specs.Base.{Base, Carried, HeardHead, General, BadReject, InvokeHead, ResultHead, ErrorHead, RejectHead}
 use Rattle.end_rules.specs.State as ends
 use Rattle.end_rules.specs.State.{Calls, OpenCall, opened_with}
 use Rattle.end_rules.specs.Hearing as rules
 use Rattle.end_wire.specs.Bare.{bare_base}
 use Rattle.rose_roles.specs.declared.invoked_with.InvokedWith.{InvokedWith}
-use Rattle.rose_roles.specs.declared.taken.RoseTaken as takens
-use Rattle.rose_roles.specs.declared.taken.RoseTaken.TheVariants as taken
+use Rattle.rose_roles.specs.declared.apdu_taken.RoseTaken as takens
+use Rattle.rose_roles.specs.declared.apdu_taken.RoseTaken.TheVariants as taken
 use Rattle.rose_roles.specs.Calls.{Kept, Invoking, Performing, called, side, key_of, operation_or_none, context_or_none, open_call, AreOpen, opens_in, calls_of}
 use Rattle.rose_roles.specs.Heads.{said_by}
 use Rattle.rose_roles.specs.Hearing.{Hears, heard_with}
@@ -215,7 +215,7 @@ module _ (base : Base) (c : Calls) (at : ℕ) where
       by true = quiet_closed true id c
       by false = quiet c
 
-  pub hearing_is_quiet : (h : Head) → Q (rules.hear base c at h)
+  pub hearing_is_quiet : (h : HeardHead) → Q (rules.hear base c at h)
   hearing_is_quiet (General number) = quiet c
   hearing_is_quiet BadReject = quiet c
   hearing_is_quiet (InvokeHead id linked code argument) = unless _ _ _ (λ n. quiet c) (of_invoke id linked _ argument)

@@ -1,10 +1,10 @@
 //! The open invocations of an end and of its peer.
 
 ghost use Rattle.std.specs.Prelude.{◌≡◌, ◌<◌, ◌≤◌, ◌+◌, ◌++◌, ◌∷◌, [], length, pos, true, false, is_some, None, IfOk, OnOk, OnErr};
-ghost use Rattle.osi_base.specs.Limits.{last_invocation};
+ghost use Rattle.osi_base.specs.Limits.{last_invocation, most_open};
 ghost use Rattle.rose_roles.specs.Hearing.{Hears};
 ghost use Rattle.end_rules.specs.State.{opened_with, opens_of, close};
-ghost use Rattle.end_rules.specs.Base.{Base, most_open};
+ghost use Rattle.end_rules.specs.Base.{Base};
 ghost use Rattle.end_rules.specs.Hearing.{opening};
 ghost use Rattle.open_invocations.specs.Invocations.{is_link, is_link_back, called_in, operation_in, SomeCarried};
 

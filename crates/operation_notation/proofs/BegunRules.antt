@@ -2,10 +2,10 @@
 use Rattle.std.proofs.Common.{codes, ◌≡◌, ℕ, Bool, true, false, List, [], ◌∷◌, ◌++◌, Option, Some, None, Ok, Err, refl, sym, ap, ◌∙◌, arith, inl, inr}
 use Rattle.std.specs.Prelude.{pos, is_some, nat_le, if◌then◌else◌}
 use Rattle.std.proofs.lemmas.Bool.{le-leb}
-use Rattle.osi_base.specs.Limits.{most_32}
+use Rattle.osi_base.specs.Limits.{most_32, most_signed}
 use Rattle.notation_tokens.specs.Forms.{has_form}
 use Rattle.notation_tokens.specs.Lexeme.{Lexeme, same, begins, goes_on}
-use Rattle.notation_tokens.specs.Words.{place, word_of, most_64, number, number_of, int, int_of, end_word, end_of, bool_word, bool_of, is_quoted, is_unsupported, is_type_name, is_value_name, type_name_of, value_name_of, arc_name_of, text_kind_word, text_kind_of, root_name}
+use Rattle.notation_tokens.specs.Words.{place, word_of, number, number_of, int, int_of, end_word, end_of, bool_word, bool_of, is_quoted, is_unsupported, is_type_name, is_value_name, type_name_of, value_name_of, arc_name_of, text_kind_word, text_kind_of, root_name}
 use Rattle.operation_notation.specs.Reading.{◌>>=◌, give, Read, refuse_as, kind_at, word_at, type_name_at, value_name_at, number_at, number_64_at, int_at, end_at, bool_at, maybe_at, many_at, behind, listed_at}
 use Rattle.operation_notation.specs.ReadingTypes.{starts_name, arc_name_at, bracketed_at, arc_at, alone_at, named_root_at, root_at, most_second, oid_at, range_at, size_at, item_at, items_at, class_at, explicit_at, tag_at, dflt_at, absence_at, absent_at, part_at, parts_at, alternatives_at, text_kind, text_kind_at, named_at, text_or_name_at, integer_at, octets_at, leaf_at, sequence_at, set_at, choice_at, plain_at, type_text_at}
 use Rattle.operation_notation.specs.ReadingModules.{flag_at, flag_2_at, flag_or_at, passed_flag_at, names_at, named_list_at, priority_at, passed_priority_at, invoke_priority_at, local_at, global_at, code_value_at, code_at, maybe_code_at, manner_at, opens_at, maybe_oid_at, tagging_at, heading_at, ended_at}
@@ -47,7 +47,7 @@ b_number most = begun_one (number_of most) Number (codes "0") 0 refl (zero_numbe
 
 b_number_64 : {s : Bool} → Begun s Number64 number_64_at
 unfolding number_64_at
-b_number_64 = bthen (b_number most_64) (λ n. begun_give (pos n))
+b_number_64 = bthen (b_number most_signed) (λ n. begun_give (pos n))
 
 zero_int : int (codes "0") ≡ Some (pos 0)
 unfolding int number
@@ -176,7 +176,7 @@ b_range = bthen (sign (codes "(") refl) (λ _. bplaced any_token (λ at. starts_
 b_size : {s : Bool} → Begun s Size size_at
 unfolding size_at
 b_size = bthen (sign (codes "(") refl) (λ _. bthen (word (codes "SIZE") refl) (λ _. bthen (sign (codes "(") refl) (λ _.
-    bplaced any_token (λ at. starts_then _ _ any_token (starts_then _ _ any_token (starts_any (number_of most_64))))
+    bplaced any_token (λ at. starts_then _ _ any_token (starts_then _ _ any_token (starts_any (number_of most_signed))))
     (λ at. bthen b_number_64 (λ low. bthen (sign (codes "..") refl) (λ _. bthen b_number_64 (λ high. bthen (sign (codes ")") refl) (λ _. bthen (sign (codes ")") refl) (λ _. begun_give _)))))))))
 
 b_item : {s : Bool} → Begun s Item item_at

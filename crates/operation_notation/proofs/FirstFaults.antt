@@ -4,12 +4,13 @@ use Rattle.std.specs.Prelude.{IfErr, IsTrue, ◌⊎◌, ◌||◌, nat_lt, unwrap
 use Rattle.std.specs.List.{AllByRecursion}
 use Rattle.std.proofs.lemmas.Bool.{ltb-true, ltb-false}
 use Rattle.std.proofs.lemmas.List.{append_cancel_right}
+use Rattle.osi_base.specs.Limits.{most_module_octets}
 use Rattle.notation_tokens.specs.Lexeme.{Lexeme, lexemes}
 use Rattle.notation_tokens.specs.Words.{is_unsupported}
 use Rattle.notation_tokens.specs.Forms.{has_form}
 use Rattle.notation_tokens.specs.declared.token.TokenKind.{TokenKind}
 use Rattle.notation_tokens.specs.declared.token.TokenKind.TheVariants.{Word, Number, Sign}
-use Rattle.notation_tokens.specs.Lexing.{most_module_octets, lexed_of}
+use Rattle.notation_tokens.specs.Lexing.{lexed_of}
 use Rattle.operation_notation.specs.Reading.{Read, kind_at}
 use Rattle.operation_notation.specs.ReadingModules.{module_at, ended_at, whole_at}
 use Rattle.operation_notation.specs.GrammarTypes.{Extent, narrow, marked, wide, is_empty}

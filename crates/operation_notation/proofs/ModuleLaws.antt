@@ -7,6 +7,7 @@ use Rattle.std.specs.Str.{bytes_eq}
 use Rattle.std.proofs.lemmas.Bool.{not-false, ltb-false, le-ltb}
 use Rattle.std.proofs.lemmas.List.{append-nil}
 use Rattle.std.proofs.lemmas.Bool.Decides.{nat_tests}
+use Rattle.osi_base.specs.Limits.{most_module_octets}
 use Rattle.notation_tokens.specs.Lexeme.{Lexeme, lexemes, same, begins, goes_on}
 use Rattle.notation_tokens.specs.Words.{place, bool_of, is_value_name, is_kind_word, begins_lower, begins_upper}
 use Rattle.operation_notation.specs.Reading.{◌>>=◌, after, give, Read, refuse_as, token_at, word_at, bool_at, all_at, behind}
@@ -14,8 +15,8 @@ use Rattle.operation_notation.specs.ReadingTypes.{starts_name}
 use Rattle.operation_notation.specs.ReadingModules.{flag_at, flag_2_at, flag_or_at, passed_flag_at, use_at, maybe_use_at, names_at, named_list_at, priority_at, passed_priority_at, invoke_priority_at, local_at, global_at, code_value_at, code_at, maybe_code_at, signature_at, manner_at, operation_at, error_at, typed_at, opens_at, operation_body_at, error_body_at, body_at, valued_at, assignment_at, assignments_at, class_kind, imported_at, listed_imports_at, maybe_oid_at, imports_at, maybe_imports_at, tagging_at, heading_at, module_at, ended_at, whole_at}
 use Rattle.notation_tokens.specs.Texts.{Answers, unless_stopped, too_long}
 use Rattle.operation_notation.specs.Modules.{ReadsAsModule, module_of, verdict, refused}
-use Rattle.notation_tokens.specs.Lexing.{most_module_octets, lexed_of}
-use Rattle.notation_tokens.specs.declared.lexer.Lexed.{Lexed}
+use Rattle.notation_tokens.specs.Lexing.{lexed_of}
+use Rattle.notation_tokens.specs.declared.token_cutting.Lexed.{Lexed}
 use Rattle.notation_tokens.specs.declared.faults.NotationFault.{NotationFault}
 use Rattle.notation_tokens.specs.declared.faults.NotationKind.{NotationKind}
 use Rattle.operation_notation.specs.Grammar.{One, Then, Nothing, Either, Where, Maybe, Many, The, Behind, Listed}

@@ -28,7 +28,7 @@ use Rattle.operation_notation.specs.declared.bodies.Signature.{Signature}
 use Rattle.std.specs.Prelude.{option_map}
 use Rattle.operation_notation.specs.declared.module.DfltText.{DfltText}
 use Rattle.operation_notation.specs.declared.module.DfltValue.{DfltValue}
-use Rattle.operation_notation.specs.declared.structure.Absence.{Absence}
+use Rattle.operation_notation.specs.declared.structured_types.Absence.{Absence}
 use Rattle.operation_notation.specs.WellFormed.{dflt_places}
 
 -- ---- the order of places

@@ -4,9 +4,9 @@ use Rattle.std.specs.Prelude.{◌&&◌, is_some, if◌then◌else◌}
 use Rattle.std.specs.List.{list_any}
 use Rattle.std.specs.Str.{bytes_eq}
 use Rattle.std.proofs.lemmas.Bool.{not-false, or_parts}
-use Rattle.osi_base.specs.Limits.{most_32}
+use Rattle.osi_base.specs.Limits.{most_32, most_signed}
 use Rattle.notation_tokens.specs.Lexeme.{Lexeme, same, begins}
-use Rattle.notation_tokens.specs.Words.{number, number_of, most_64, end_of, int_of, type_name_of, value_name_of, text_kind_of, text_kind_word, located}
+use Rattle.notation_tokens.specs.Words.{number, number_of, end_of, int_of, type_name_of, value_name_of, text_kind_of, text_kind_word, located}
 use Rattle.operation_notation.specs.Reading.{◌>>=◌, give, Read, refuse, refuse_as, token_at, word_at, number_at, number_64_at, int_at, end_at, type_name_at, value_name_at, maybe_at, listed_at}
 use Rattle.operation_notation.specs.ReadingTypes.{range_at, size_at, item_at, items_at, class_at, explicit_at, tag_at, dflt_at, absence_at, absent_at, part_at, parts_at, alternatives_at, integer_at, octets_at, text_kind, text_kind_at, text_or_name_at, named_at, leaf_at, sequence_at, set_at, choice_at, plain_at, type_text_at, deep_kind, starts_mark, type_at, outer_type_at}
 use Rattle.operation_notation.specs.Grammar.{One, Then, Nothing, Either, Where, The, Listed, Placed}
@@ -16,7 +16,7 @@ use Rattle.operation_notation.specs.TreeView.{parts_of}
 use Rattle.notation_tokens.specs.declared.faults.NotationKind.TheVariants.{Unsupported}
 use Rattle.notation_tokens.specs.declared.token.Place.{Place}
 use Rattle.notation_tokens.specs.declared.token.Located.{Located}
-use Rattle.operation_notation.specs.declared.structure.Absence.{Absence}
+use Rattle.operation_notation.specs.declared.structured_types.Absence.{Absence}
 use Rattle.operation_notation.proofs.Means.{Front, Law, never, law_one, law_word, law_nothing, law_choice}
 use Rattle.operation_notation.proofs.Starts.{Headed, Starts, starts_then, starts_one, starts_either, among, Excludes, excludes_among, excludes_type_name, excludes_value_name, type_named, value_named, begins_any, headed_not, fewer, fewer_one, starts_the, starts_word}
 use Rattle.operation_notation.proofs.Chains.{map_law, closes, closes_under, closed_by, excludes_text, MayStart, Picked, picks, weaker_headed, word_or_named, more_or_named, starts_maybe, or_left, or_right, or_named, excludes_or_named, next, law_any, law_behind, starts_behind, may_starts, may_then, may_nothing, may_either, behind_may, behind_starts, behind_word, same_excludes, law_placed, pick, pick_may, maybe_word, law_listed}
@@ -45,7 +45,7 @@ law_value_name = law_one value_name_of
 
 pub law_number_64 : Law Number64 number_64_at never
 unfolding number_64_at
-law_number_64 = next (law_number most_64) (λ n. law_nothing _ never)
+law_number_64 = next (law_number most_signed) (λ n. law_nothing _ never)
 
 -- the first token of a one-token rule passes whatever test is passed by all that it takes
 pub any_token : Lexeme → Bool
@@ -87,7 +87,7 @@ law_range = next (law_word (codes "(")) (λ _. law_placed any_token (λ at. star
 law_size : Law Size size_at never
 unfolding size_at
 law_size = next (law_word (codes "(")) (λ _. next (law_word (codes "SIZE")) (λ _. next (law_word (codes "(")) (λ _.
-    law_placed any_token (λ at. starts_then _ _ any_token (starts_then _ _ any_token (starts_any (number_of most_64))))
+    law_placed any_token (λ at. starts_then _ _ any_token (starts_then _ _ any_token (starts_any (number_of most_signed))))
     (λ at. next law_number_64 (λ low. next (law_word (codes "..")) (λ _. next law_number_64 (λ high. next (law_word (codes ")")) (λ _. next (law_word (codes ")")) (λ _. law_nothing _ never)))))))))
 
 law_item : Law Item item_at never

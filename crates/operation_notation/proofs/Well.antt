@@ -33,7 +33,7 @@ use Rattle.std.specs.Option.{option_or}
 use Rattle.operation_notation.specs.declared.module.DfltText.{DfltText}
 use Rattle.operation_notation.specs.declared.module.DfltValue.{DfltValue}
 use Rattle.operation_notation.specs.declared.module.DfltValue.TheVariants as values
-use Rattle.operation_notation.specs.declared.structure.Absence.{Absence}
+use Rattle.operation_notation.specs.declared.structured_types.Absence.{Absence}
 use Rattle.notation_tokens.specs.Words.{bool_of, int_of}
 use Rattle.operation_notation.specs.GrammarTypes.{item_value}
 use Rattle.operation_notation.specs.WellFormed.{IsWellValue, MayLack}

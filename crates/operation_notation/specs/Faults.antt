@@ -1,9 +1,10 @@
 -- What a text's first fault is, beside its grammar: what stands before it begins a module, and with it no module begins so.
 use Rattle.std.specs.Prelude.{◌≡◌, ◌<◌, ◌≤◌, ◌⊎◌, ℕ, true, false, List, [], ◌∷◌, ◌++◌, length, unwrap_or}
 use Rattle.std.specs.List.{AllByRecursion}
+use Rattle.osi_base.specs.Limits.{most_module_octets}
 use Rattle.notation_tokens.specs.Forms.{has_form}
 use Rattle.notation_tokens.specs.Lexeme.{Lexeme, lexemes}
-use Rattle.notation_tokens.specs.Lexing.{most_module_octets, lexed_of}
+use Rattle.notation_tokens.specs.Lexing.{lexed_of}
 use Rattle.operation_notation.specs.Reading.{kind_at}
 use Rattle.operation_notation.specs.GrammarTypes.{Extent, marked, wide, is_empty}
 use Rattle.operation_notation.specs.GrammarModules.{Module}

@@ -2,9 +2,9 @@
 use Rattle.std.specs.Prelude.{codes, ℕ, zero, suc, ◌+◌, ℤ, pos, Bool, true, false, List, [], ◌∷◌, Option, Some, None, option_map, if◌then◌else◌}
 use Rattle.std.specs.Option.{option_or}
 use Rattle.osi_base.specs.Oid.{IsOid}
-use Rattle.osi_base.specs.Limits.{most_32}
+use Rattle.osi_base.specs.Limits.{most_32, most_signed, most_type_levels}
 use Rattle.notation_tokens.specs.Lexeme.{Lexeme}
-use Rattle.notation_tokens.specs.Words.{most_64, number_of, int_of, end_of, text_kind_of, root_name, is_value_name, type_name_of, value_name_of, bool_of, arc_name_of}
+use Rattle.notation_tokens.specs.Words.{number_of, int_of, end_of, text_kind_of, root_name, is_value_name, type_name_of, value_name_of, bool_of, arc_name_of}
 use Rattle.operation_notation.specs.Grammar.{◌>>=◌, One, Nothing, Either, Where, Maybe, Many, The, Behind, Listed, Placed}
 use Rattle.operation_notation.specs.Tree.{TypeTree, type_tree, PlainTree, boolean, null, integer, enumerated, octets, bits, object_id, text, sequence_of, set_of, sequence, set, choice, named}
 use Rattle.operation_notation.specs.TreeView.{parts_of}
@@ -15,7 +15,7 @@ use Rattle.operation_notation.specs.declared.module.PartText.{PartText}
 use Rattle.operation_notation.specs.declared.module.DfltText.{DfltText}
 use Rattle.operation_notation.specs.declared.module.DfltValue.{DfltValue}
 use Rattle.operation_notation.specs.declared.module.DfltValue.TheVariants as values
-use Rattle.operation_notation.specs.declared.structure.Absence.{Absence}
+use Rattle.operation_notation.specs.declared.structured_types.Absence.{Absence}
 use Rattle.notation_tokens.specs.declared.token.Located.{Located}
 use Rattle.notation_tokens.specs.declared.token.Place.{Place}
 
@@ -26,10 +26,6 @@ pub record Extent : Type 0 where
   pub levels : ℕ
   pub marked : Bool
   pub wide : Bool
-
--- how many levels deep types may stand in one another
-abbrev pub most_type_levels : ℕ
-most_type_levels = 256
 
 -- the notation
 abbrev pub narrow : Extent
@@ -102,7 +98,7 @@ abbrev pub Range : List Lexeme → RangeText → Type 0
 Range = Behind (codes "(") (Placed RangeBehind)
 
 abbrev pub Number64 : List Lexeme → ℤ → Type 0
-Number64 = One (number_of most_64) >>= λ n. Nothing (pos n)
+Number64 = One (number_of most_signed) >>= λ n. Nothing (pos n)
 
 -- "(" "SIZE" "(" number ".." number ")" ")", with the place of the first number
 abbrev pub SizeBehind : Place → List Lexeme → RangeText → Type 0

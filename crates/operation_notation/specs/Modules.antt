@@ -1,8 +1,9 @@
 -- What a text is as a module, or its first fault.
 use Rattle.std.specs.Prelude.{◌≡◌, ◌≤◌, ℕ, List, [], ◌∷◌, length, nat_lt, None, unwrap_or, Result, Ok, Err, if◌then◌else◌}
+use Rattle.osi_base.specs.Limits.{most_module_octets}
 use Rattle.notation_tokens.specs.Lexeme.{Lexeme, lexemes}
 use Rattle.notation_tokens.specs.Words.{place}
-use Rattle.notation_tokens.specs.Lexing.{most_module_octets, lexed_of}
+use Rattle.notation_tokens.specs.Lexing.{lexed_of}
 use Rattle.notation_tokens.specs.Texts.{fault_at, unless_stopped, too_long}
 use Rattle.operation_notation.specs.Reading.{Read}
 use Rattle.operation_notation.specs.GrammarTypes.{narrow}
@@ -10,7 +11,7 @@ use Rattle.operation_notation.specs.GrammarModules.{Module}
 use Rattle.operation_notation.specs.ReadingModules.{whole_at}
 use Rattle.notation_tokens.specs.declared.faults.NotationFault.{NotationFault}
 use Rattle.notation_tokens.specs.declared.faults.NotationKind.{NotationKind}
-use Rattle.notation_tokens.specs.declared.lexer.Lexed.{Lexed}
+use Rattle.notation_tokens.specs.declared.token_cutting.Lexed.{Lexed}
 use Rattle.operation_notation.specs.declared.module.ModuleText.{ModuleText}
 
 -- A text reads as a module: within the limits it is cut to its end, and the grammar derives its tokens.

@@ -1,7 +1,8 @@
 -- Reading tokens from left to right, with the first fault that is met: the means.
 use Rattle.std.specs.Prelude.{◌≡◌, ℕ, zero, suc, ℤ, pos, Bool, List, [], ◌∷◌, length, Option, Some, None, Result, Ok, Err, if◌then◌else◌}
+use Rattle.osi_base.specs.Limits.{most_signed}
 use Rattle.notation_tokens.specs.Lexeme.{Lexeme, begins}
-use Rattle.notation_tokens.specs.Words.{most_64, is_unsupported, place, word_of, type_name_of, value_name_of, number_of, int_of, end_of, bool_of}
+use Rattle.notation_tokens.specs.Words.{is_unsupported, place, word_of, type_name_of, value_name_of, number_of, int_of, end_of, bool_of}
 use Rattle.notation_tokens.specs.declared.faults.NotationKind.{NotationKind}
 use Rattle.notation_tokens.specs.declared.faults.NotationKind.TheVariants.{Unsupported, UnexpectedToken}
 use Rattle.operation_notation.specs.declared.fault.Refusal.{Refusal}
@@ -78,7 +79,7 @@ number_at most = token_at (number_of most)
 
 -- a number without a sign among those of 64 bits with one
 unfoldable pub number_64_at : List Lexeme → Read ℤ
-number_64_at = number_at most_64 >>= λ n. give (pos n)
+number_64_at = number_at most_signed >>= λ n. give (pos n)
 
 unfoldable pub int_at : List Lexeme → Read ℤ
 int_at = token_at int_of

@@ -15,7 +15,7 @@ use Rattle.operation_notation.specs.declared.module.TagText.{TagText}
 use Rattle.operation_notation.specs.declared.module.ItemText.{ItemText}
 use Rattle.operation_notation.specs.declared.module.PartText.{PartText}
 use Rattle.operation_notation.specs.declared.module.DfltText.{DfltText}
-use Rattle.operation_notation.specs.declared.structure.Absence.{Absence}
+use Rattle.operation_notation.specs.declared.structured_types.Absence.{Absence}
 use Rattle.notation_tokens.specs.declared.token.Place.{Place}
 use Rattle.notation_tokens.specs.declared.token.Located.{Located}
 

@@ -10,7 +10,7 @@ mod laws;
 mod module;
 mod oid;
 mod parser;
-mod structure;
+mod structured_types;
 mod types;
 
 pub use laws::{module_or_fault, one_fault, one_reading};

@@ -15,7 +15,7 @@ use crate::cursor::Cursor;
 use crate::fault::Refusal;
 use crate::module::ModuleText;
 use notation_tokens::{
-    Lexed, MOST_MODULE_OCTETS, NotationFault, NotationKind, TOO_LONG, cut_text, fault,
+    Lexed, MOST_MODULE_OCTETS, NotationFault, NotationKind, TEXT_TOO_LONG, cut_text, fault_at,
 };
 use std::alloc::Global;
 
@@ -24,11 +24,11 @@ fn fault_of(lexed: &Lexed, cursor: &Cursor<'_>, kind: NotationKind) -> NotationF
     ensures { refused lexed.now cursor.now kind ≡ Err result }
 {
     if !cursor.is_done() {
-        return fault(cursor.place(), kind);
+        return fault_at(cursor.place(), kind);
     }
     match lexed.stop {
-        None => fault(lexed.place, kind),
-        Some(stop) => fault(lexed.place, stop),
+        None => fault_at(lexed.place, kind),
+        Some(stop) => fault_at(lexed.place, stop),
     }
 }
 
@@ -42,7 +42,7 @@ fn parse(alloc: Global, text: &[u8], lexed: &Lexed) -> Result<ModuleText, Notati
     match cursor.whole(alloc) {
         Ok(module) => match lexed.stop {
             None => Ok(module),
-            Some(kind) => Err(fault(lexed.place, kind)),
+            Some(kind) => Err(fault_at(lexed.place, kind)),
         },
         Err(Refusal::NoMemory) => Err(NotationFault::NoMemory),
         Err(Refusal::Fault(kind)) => Err(fault_of(lexed, &cursor, kind)),
@@ -78,7 +78,7 @@ fn read(alloc: Global, text: &[u8]) -> Result<ModuleText, NotationFault>
     ensures { Answers result (module_of text.now) }
 {
     if text.len() > MOST_MODULE_OCTETS {
-        return Err(TOO_LONG);
+        return Err(TEXT_TOO_LONG);
     }
     let lexed = cut_text(alloc, text)?;
     parse(alloc, text, &lexed)

@@ -4,7 +4,7 @@ use Rattle.std.specs.Option.{option_map}
 use Rattle.std.specs.Str.{bytes_eq}
 use Rattle.osi_base.specs.Memory.{contents_in}
 use Rattle.osi_base.specs.Limits.{file_most}
-use Rattle.osi_base.specs.declared.memory.MemFile.{MemFile}
+use Rattle.osi_base.specs.declared.mem_files.MemFile.{MemFile}
 
 cut_short : (most : ℕ) (octets : List ℕ) → length (take most octets) ≤ most
 cut_short most octets = rw length-take (omega arith)

@@ -1,4 +1,5 @@
 pub mod Contents
+pub mod Placing
 pub mod Grown
 pub mod Shuts
 pub mod Whole

@@ -1,7 +1,7 @@
 -- Calls of an object in memory, of which some are to fail.
 use Rattle.std.specs.Prelude.{◌≡◌, ◌+◌, min, Contains}
-use Rattle.osi_base.specs.declared.failing.FailingCalls.{FailingCalls}
-use Rattle.osi_base.specs.Outside.{last_count}
+use Rattle.osi_base.specs.declared.failing_calls.FailingCalls.{FailingCalls}
+use Rattle.osi_base.specs.Limits.{last_count}
 
 -- the next call is one that is to fail
 abbrev pub IsDue : FailingCalls → Type 0

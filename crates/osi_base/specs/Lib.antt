@@ -3,6 +3,7 @@ pub mod Bits
 pub mod Failing
 pub mod Hexadecimal
 pub mod Limits
+pub mod OctetPlaces
 pub mod Lines
 pub mod MemLines
 pub mod Memory

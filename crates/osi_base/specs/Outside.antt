@@ -1,9 +1,6 @@
 -- What the objects outside tell: counts of faults, octets written, logs of calls.
 use Rattle.std.specs.Prelude.{Option, ◌≡◌, ℕ, ◌+◌, ◌<◌, ◌≤◌, min, List, ◌∷◌, ◌++◌, length, take, None, Some, IsSomeAnd}
-
--- the last value of a count, which has 64 bits
-abbrev pub last_count : ℕ
-last_count = 18446744073709551615
+use Rattle.osi_base.specs.Limits.{last_count}
 
 -- a count of faults rose by one or more, or stands at its last value
 abbrev pub FaultsRose : ℕ → ℕ → Type 0

@@ -1,13 +1,13 @@
 -- What faults print as.
 use Rattle.std.specs.Prelude.{ℕ, ℤ, List, Option, Some, None, ◌++◌, codes, decimal}
 use Rattle.std.specs.Fmt.{signed_decimal}
-use Rattle.osi_base.specs.declared.words.Kind.{Kind}
-use Rattle.osi_base.specs.declared.words.Kind.TheVariants as kinds
-use Rattle.osi_base.specs.declared.words.Layer.{Layer}
-use Rattle.osi_base.specs.declared.words.Layer.TheVariants as layers
-use Rattle.osi_base.specs.declared.words.Problem.{Problem}
-use Rattle.osi_base.specs.declared.words.ProblemKind.{ProblemKind}
-use Rattle.osi_base.specs.declared.words.ProblemKind.TheVariants as problems
+use Rattle.osi_base.specs.declared.layer_words.Kind.{Kind}
+use Rattle.osi_base.specs.declared.layer_words.Kind.TheVariants as kinds
+use Rattle.osi_base.specs.declared.layer_words.Layer.{Layer}
+use Rattle.osi_base.specs.declared.layer_words.Layer.TheVariants as layers
+use Rattle.osi_base.specs.declared.layer_words.Problem.{Problem}
+use Rattle.osi_base.specs.declared.layer_words.ProblemKind.{ProblemKind}
+use Rattle.osi_base.specs.declared.layer_words.ProblemKind.TheVariants as problems
 use Rattle.osi_base.specs.declared.files.FileFault.{FileFault}
 use Rattle.osi_base.specs.declared.files.FileFault.TheVariants as files
 use Rattle.osi_base.specs.declared.sink.SinkFault.{SinkFault}

@@ -1,6 +1,17 @@
--- Where a context stands in a set.
-use Rattle.std.specs.Prelude.{ℕ, ◌+◌, nat_eq, nat_lt, if◌then◌else◌, List, [], ◌∷◌, Result, Ok, Err, insert, slice_set}
-use Rattle.osi_base.specs.declared.words.SetItem.{SetItem}
+-- What a set of contexts gives an identifier, and where a context stands in it.
+use Rattle.std.specs.Prelude.{ℕ, ◌+◌, nat_eq, nat_lt, if◌then◌else◌, List, [], ◌∷◌, Option, Some, None, Result, Ok, Err, insert, slice_set}
+use Rattle.osi_base.specs.declared.syntax.Pair.{Pair}
+use Rattle.osi_base.specs.declared.layer_words.SetItem.{SetItem}
+
+-- the pair that a set gives an identifier (X.216 3.3.15)
+abbrev pub pair_of : List SetItem → ℕ → Option Pair
+pair_of [] id = None
+pair_of (item ∷ items) id = if nat_eq item.id id then Some item.pair else pair_of items id
+
+-- the set without this identifier
+abbrev pub without_context : ℕ → List SetItem → List SetItem
+without_context id [] = []
+without_context id (item ∷ items) = if nat_eq item.id id then without_context id items else item ∷ without_context id items
 
 -- so many places on
 abbrev pub moved_by : ℕ → Result ℕ ℕ → Result ℕ ℕ

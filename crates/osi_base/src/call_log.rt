@@ -1,8 +1,9 @@
 //! The log of a line that keeps one.
 
 ghost use Rattle.std.specs.Prelude.{◌≡◌, ◌<◌, [], Some, None, IfSome, OnOk, OnErr, reverse};
-ghost use Rattle.osi_base.specs.Outside.{last_count, logged};
+ghost use Rattle.osi_base.specs.Outside.{logged};
 ghost use Rattle.osi_base.specs.Lines.{shut_after, shuts_told};
+ghost use Rattle.osi_base.specs.Limits.{last_count};
 
 use crate::fault::NoMemory;
 use crate::line::{LineCall, Outcome};

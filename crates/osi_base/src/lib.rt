@@ -9,22 +9,23 @@ mod acse_word;
 mod bit_string;
 mod call_log;
 mod copied;
-mod failing;
+mod failing_calls;
 mod fault;
 mod files;
 mod hexadecimal;
+mod layer_words;
 mod line;
 mod list;
 mod mem_calls;
+mod mem_files;
 mod mem_line;
-mod memory;
 mod name;
 mod octet_queue;
 mod octets;
 mod oid;
 mod presentation_word;
 mod printing;
-mod real;
+mod real_files;
 mod rtse_word;
 mod session_word;
 mod set_places;
@@ -32,19 +33,22 @@ mod sink;
 mod sure_line;
 mod syntax;
 mod tcp_line;
-mod words;
 
 pub use acse_word::{Acse, Diagnostic, External, Externals};
 pub use bit_string::{BitString, power_of_2};
 pub use copied::Copied;
-pub use failing::FailingCalls;
+pub use failing_calls::FailingCalls;
 pub use fault::NoMemory;
 pub use files::{FILE_MOST, FileFault, Files};
 pub use hexadecimal::octet_of_digits;
+pub use layer_words::{
+    AddAnswer, AddAnswers, Answers, Ids, Indices, Kind, Layer, Oids, Problem, ProblemKind,
+    Proposal, Proposals, RestoredItem, RestoredList, SetItem, SetList, Side, Status,
+};
 pub use line::{Failed, Line, LineCall, LineFault, Outcome};
 pub use list::ListOf;
+pub use mem_files::{MemFile, MemFiles, MemSink, SureFiles, SureSink};
 pub use mem_line::MemLine;
-pub use memory::{MemFile, MemFiles, MemSink, SureFiles, SureSink};
 pub use name::{Name, Words};
 pub use octet_queue::{OctetQueue, copy_front};
 pub use octets::Octets;
@@ -54,15 +58,11 @@ pub use presentation_word::{
     PresentationWord,
 };
 pub use printing::{FaultAt, WordWithNumber};
-pub use real::{DiskFiles, StdSink};
+pub use real_files::{DiskFiles, StdSink};
 pub use rtse_word::{ConnectionData, Rtse};
 pub use session_word::{SessionConnect, SessionWord, Spdu, Spdus};
-pub use set_places::place_of;
+pub use set_places::{pair_of, place_of, remove_context};
 pub use sink::{Sink, SinkFault, write_all};
 pub use sure_line::SureLine;
 pub use syntax::{Pair, Syntax};
 pub use tcp_line::TcpLine;
-pub use words::{
-    AddAnswer, AddAnswers, Answers, Ids, Indices, Kind, Layer, Oids, Problem, ProblemKind,
-    Proposal, Proposals, RestoredItem, RestoredList, SetItem, SetList, Side, Status,
-};

@@ -3,8 +3,9 @@
 ghost use Rattle.std.specs.Prelude.{◌≡◌, ◌↔◌, ◌+◌, ◌^◌, ◌<◌, ◌≤◌, [], Some, IfOk, IfSome, OnOk, OnErr, IsErrOf, min, length, take, drop};
 ghost use Rattle.osi_base.specs.Failing.{IsDue, CallPasses, CallFails};
 ghost use Rattle.osi_base.specs.MemLines.{due_in, next_said, Begins, EndsFailed, ReadsOn, KeepsFailed, StaysAsItWas};
-ghost use Rattle.osi_base.specs.Outside.{last_count, logged, counted};
+ghost use Rattle.osi_base.specs.Outside.{logged, counted};
 ghost use Rattle.osi_base.specs.Lines.{shuts_told};
+ghost use Rattle.osi_base.specs.Limits.{last_count};
 
 use crate::copied::Copied;
 use crate::fault::NoMemory;

@@ -3,7 +3,7 @@
 ghost use Rattle.std.specs.Prelude.{◌≡◌, ◌<◌, ◌≤◌, [], Some, length};
 
 use crate::call_log::CallLog;
-use crate::failing::FailingCalls;
+use crate::failing_calls::FailingCalls;
 use crate::octets::Octets;
 use std::alloc::Global;
 use std::collections::VecDeque;

@@ -6,10 +6,10 @@ ghost use Rattle.osi_base.specs.declared.presentation_word.PresentationWord.TheV
 use crate::bit_string::BitString;
 use crate::copied::Copied;
 use crate::fault::NoMemory;
+use crate::layer_words::{AddAnswers, Answers, Ids, Proposals, RestoredList};
 use crate::list::ListOf;
 use crate::octets::Octets;
 use crate::oid::Oid;
-use crate::words::{AddAnswers, Answers, Ids, Proposals, RestoredList};
 use std::alloc::Global;
 
 /// The form in which a presentation data value stands (X.226 8.4.2).

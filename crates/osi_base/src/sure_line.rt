@@ -1,8 +1,9 @@
 //! A line that never fails and whose peers say nothing.
 
 ghost use Rattle.std.specs.Prelude.{◌≡◌, ◌<◌, [], length, take, Some, IfOk, IfSome, IsOk, IsErrOf};
-ghost use Rattle.osi_base.specs.Outside.{last_count, logged};
+ghost use Rattle.osi_base.specs.Outside.{logged};
 ghost use Rattle.osi_base.specs.Lines.{shuts_told};
+ghost use Rattle.osi_base.specs.Limits.{last_count};
 
 use crate::call_log::CallLog;
 use crate::copied::Copied;

@@ -1,7 +1,7 @@
 //! TCP as a line.
 
 ghost use Rattle.std.specs.Prelude.{◌≡◌, ◌+◌, ◌<◌, ◌≤◌, min, None, IfSome, OnOk, OnErr, IsErrOf, length};
-ghost use Rattle.osi_base.specs.Outside.{last_count};
+ghost use Rattle.osi_base.specs.Limits.{last_count};
 
 use crate::line::{Failed, Line, LineFault};
 use crate::name::Name;

@@ -1,8 +1,8 @@
 -- What the end of a run says of its answer and of the sink.
 use Rattle.std.proofs.Common.{ℕ, ◌≡◌, ◌⊎◌, List, Option, Bool, true, false, Result, Ok, Err, IfOk, OnErr, MatchResult, refl, sym, ap, subst, inl, inr, ◌∙◌}
 use Rattle.osi_base.specs.Outside.{FaultsRose, grown, GrewPart}
-use Rattle.osi_base.specs.declared.words.Status.{Status}
-use Rattle.osi_base.specs.declared.words.Status.TheVariants.{Done, Usage, ReadFault, WriteFault, LineFault, ModuleRefused, ScriptRefused, Ended, Spent, NoMemory}
+use Rattle.osi_base.specs.declared.layer_words.Status.{Status}
+use Rattle.osi_base.specs.declared.layer_words.Status.TheVariants.{Done, Usage, ReadFault, WriteFault, LineFault, ModuleRefused, ScriptRefused, Ended, Spent, NoMemory}
 use Rattle.osi_commands.specs.declared.answers.Answer.{Answer}
 use Rattle.osi_commands.specs.Answers.{is_read_fault, KeepsCount, EndedWith, whole, failed, no_memory, Closes, answered, no_room, IsBegun, CountsFiles, CountsWrites, IsUnless}
 

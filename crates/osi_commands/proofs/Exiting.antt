@@ -1,8 +1,8 @@
 -- The end of a process.
 use Rattle.std.proofs.Common.{ℕ, ◌≡◌, List, Option, None, Some, refl, subst, inl}
 use Rattle.osi_base.specs.Outside.{FileMap}
-use Rattle.osi_base.specs.declared.words.Status.{Status}
-use Rattle.osi_base.specs.declared.words.Status.TheVariants.{NoMemory}
+use Rattle.osi_base.specs.declared.layer_words.Status.{Status}
+use Rattle.osi_base.specs.declared.layer_words.Status.TheVariants.{NoMemory}
 use Rattle.osi_commands.specs.Answers.{Closes, no_room}
 use Rattle.osi_commands.specs.Commands.{Command, checks, pairs, command_of}
 use Rattle.osi_commands.specs.Run.{IsAnswer, AskedAtEnd}

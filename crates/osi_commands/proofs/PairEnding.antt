@@ -1,8 +1,8 @@
 -- How the top call ends with words that are a replay or a trace.
 use Rattle.std.proofs.Common.{ℕ, ◌≡◌, ◌⊎◌, List, Option, None, Some, IfSome, Bool, true, refl, ap, subst, inl, inr, ◌∙◌}
 use Rattle.osi_base.specs.Outside.{IsCalm, FileMap, grown}
-use Rattle.osi_base.specs.declared.words.Status.{Status}
-use Rattle.osi_base.specs.declared.words.Status.TheVariants.{Done, Usage, ReadFault, WriteFault, LineFault, ModuleRefused, ScriptRefused, Ended, Spent, NoMemory}
+use Rattle.osi_base.specs.declared.layer_words.Status.{Status}
+use Rattle.osi_base.specs.declared.layer_words.Status.TheVariants.{Done, Usage, ReadFault, WriteFault, LineFault, ModuleRefused, ScriptRefused, Ended, Spent, NoMemory}
 use Rattle.osi_commands.specs.declared.answers.Answer.{Answer}
 use Rattle.osi_commands.specs.declared.commands.Work.{Work}
 use Rattle.osi_commands.specs.declared.commands.Work.TheVariants.{Replay}

@@ -1,8 +1,8 @@
 -- The commands `replay` and `trace`: what words and files make the program answer, and why it ends as it does.
 use Rattle.std.specs.Prelude.{ℕ, Bool, ◌≡◌, ◌≢◌, ◌⊎◌, List, Option, None, Some, Result, Ok, Err, IfSome}
 use Rattle.osi_base.specs.Outside.{IsCalm, FileMap, grown}
-use Rattle.osi_base.specs.declared.words.Status.{Status}
-use Rattle.osi_base.specs.declared.words.Status.TheVariants.{Done, Usage, ReadFault, ModuleRefused, ScriptRefused}
+use Rattle.osi_base.specs.declared.layer_words.Status.{Status}
+use Rattle.osi_base.specs.declared.layer_words.Status.TheVariants.{Done, Usage, ReadFault, ModuleRefused, ScriptRefused}
 use Rattle.stub_tables.specs.declared.tables.Tables.{Tables}
 use Rattle.dialogue.specs.declared.event.Transcript.{Transcript}
 use Rattle.module_reading.specs.declared.fault.ModuleKind.{ModuleKind}

@@ -1,7 +1,7 @@
 -- The program as a process: arguments in, the number of its status out.
 use Rattle.std.specs.Prelude.{ℕ, ◌≡◌, List, [], Option, map, drop, string_bytes}
 use Rattle.osi_base.specs.Outside.{FileMap}
-use Rattle.osi_base.specs.declared.words.Status.{Status}
+use Rattle.osi_base.specs.declared.layer_words.Status.{Status}
 use Rattle.osi_commands.specs.declared.process.Arguments.{Arguments}
 use Rattle.osi_commands.specs.declared.process.Arguments.TheVariants.{Given, NotText, Unread}
 use Rattle.osi_commands.specs.Statuses.{exit_code}

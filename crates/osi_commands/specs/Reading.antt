@@ -2,8 +2,8 @@
 use Rattle.std.specs.Prelude.{ℕ, ◌≡◌, ◌≤◌, ◌⊎◌, List, length, Option, None, Some, IfSome}
 use Rattle.osi_base.specs.Limits.{file_most}
 use Rattle.osi_base.specs.Outside.{FaultsRose, FileMap, Lacks, logged}
-use Rattle.osi_base.specs.declared.words.Status.{Status}
-use Rattle.osi_base.specs.declared.words.Status.TheVariants.{Done, ReadFault, WriteFault, ModuleRefused, ScriptRefused, NoMemory}
+use Rattle.osi_base.specs.declared.layer_words.Status.{Status}
+use Rattle.osi_base.specs.declared.layer_words.Status.TheVariants.{Done, ReadFault, WriteFault, ModuleRefused, ScriptRefused, NoMemory}
 use Rattle.stub_tables.specs.declared.tables.Tables.{Tables}
 use Rattle.packed_codec.specs.Laws.{HasNoAny}
 use Rattle.module_reading.specs.declared.fault.ModuleKind.{ModuleKind}

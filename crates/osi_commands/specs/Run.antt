@@ -1,7 +1,7 @@
 -- The program's top call: what it answers to words, and which files it asks for.
 use Rattle.std.specs.Prelude.{ℕ, ◌≡◌, List, Option, None, Some}
 use Rattle.osi_base.specs.Outside.{FileMap, logged, grown}
-use Rattle.osi_base.specs.declared.words.Status.{Status}
+use Rattle.osi_base.specs.declared.layer_words.Status.{Status}
 use Rattle.osi_commands.specs.declared.answers.Answer.{Answer}
 use Rattle.osi_commands.specs.Commands.{Command, checks, pairs}
 use Rattle.osi_commands.specs.Answers.{usage_answer}

@@ -1,7 +1,7 @@
 -- The numbers with which the program ends.
 use Rattle.std.specs.Prelude.{ℕ}
-use Rattle.osi_base.specs.declared.words.Status.{Status}
-use Rattle.osi_base.specs.declared.words.Status.TheVariants.{Done, Usage, ReadFault, WriteFault, LineFault, ModuleRefused, ScriptRefused, Ended, Spent, NoMemory}
+use Rattle.osi_base.specs.declared.layer_words.Status.{Status}
+use Rattle.osi_base.specs.declared.layer_words.Status.TheVariants.{Done, Usage, ReadFault, WriteFault, LineFault, ModuleRefused, ScriptRefused, Ended, Spent, NoMemory}
 
 abbrev pub exit_code : Status → ℕ
 exit_code Done = 0

@@ -2,7 +2,7 @@
 
 ghost use Rattle.std.specs.Prelude.{◌≡◌, ◌≤◌, ◌++◌, IfOk, MatchResult, codes, decimal};
 ghost use Rattle.osi_commands.specs.Answers.{usage_answer, unread_answer, module_answer, script_answer, done_answer, EndedWith};
-ghost use Rattle.osi_base.specs.declared.words.Status.TheVariants.{NoMemory as no_room};
+ghost use Rattle.osi_base.specs.declared.layer_words.Status.TheVariants.{NoMemory as no_room};
 
 use module_check::refused_text;
 use module_reading::ModuleKind;

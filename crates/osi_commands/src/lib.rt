@@ -5,7 +5,7 @@ mod answers;
 mod checking;
 mod commands;
 mod laws;
-mod pairs;
+mod module_and_file;
 mod process;
 mod reading;
 mod replaying;

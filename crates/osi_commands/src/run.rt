@@ -14,7 +14,7 @@ ghost use Rattle.osi_commands.specs.Run.{IsAnswer, IsUsage, Asks, AskedBy, Asked
 use crate::answers::{Answer, conclude, usage};
 use crate::checking::answer_check;
 use crate::commands::{Command, read_command};
-use crate::pairs::answer_pair;
+use crate::module_and_file::answer_pair;
 use osi_base::{Files, Line, NoMemory, Sink, Status, Words};
 use std::alloc::Global;
 

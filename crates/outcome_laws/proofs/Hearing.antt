@@ -2,16 +2,16 @@
 use Rattle.std.proofs.Common.{◌≡◌, refl, true, false, ◌∙◌, sym, ap, subst, ℕ, List, [], ◌∷◌, ◌++◌, map}
 use Rattle.std.proofs.lemmas.List.{append_assoc}
 use Rattle.std.specs.Prelude.{ℤ, Bool, not, ◌&&◌, Option, Some, None, is_some, if◌then◌else◌}
-use Rattle.osi_base.specs.declared.words.Problem.{Problem}
-use Rattle.osi_base.specs.declared.words.ProblemKind.{ProblemKind}
-use Rattle.osi_base.specs.declared.words.ProblemKind.TheVariants as problems
+use Rattle.osi_base.specs.declared.layer_words.Problem.{Problem}
+use Rattle.osi_base.specs.declared.layer_words.ProblemKind.{ProblemKind}
+use Rattle.osi_base.specs.declared.layer_words.ProblemKind.TheVariants as problems
 use Rattle.stub_tables.specs.declared.operation.Code.{Code}
 use Rattle.stub_tables.specs.declared.operation.Operation.{Operation}
 use Rattle.stub_tables.specs.Codes.{is_error_of}
 use Rattle.stub_tables.specs.Lookup.{operation_at, operation_with, error_with}
 use Rattle.dialogue.specs.declared.indication.Indication.{Indication}
 use Rattle.dialogue.specs.declared.indication.Indication.TheVariants as indications
-use Rattle.end_rules.specs.Base.{Base, Carried, Head, General, BadReject, InvokeHead, ResultHead, ErrorHead, RejectHead, is_reliable}
+use Rattle.end_rules.specs.Base.{Base, Carried, HeardHead, General, BadReject, InvokeHead, ResultHead, ErrorHead, RejectHead, is_reliable}
 use Rattle.end_rules.specs.Messages.{DataValue}
 use Rattle.end_rules.specs.State.{Body, OpenCall, Calls, is_empty, opened_with, close}
 use Rattle.end_rules.specs.Invoking.{carrier_in}
@@ -86,7 +86,7 @@ hears-reject base calls (Some id) problem asked before h = go (is_of_invocation 
     go true None k e = once-still base.tables asked calls before (indications.RejectTaken (Some id) problem ∷ []) refl h
     go false o k e = once-still base.tables asked calls before (indications.RejectTaken (Some id) problem ∷ []) refl h
 
-hears : (base : Base) (calls : Calls) (context : ℕ) (head : Head) (asked : List Asked) (before : List Indication) → Once base.tables asked calls before → Hears base asked before (hear base calls context head)
+hears : (base : Base) (calls : Calls) (context : ℕ) (head : HeardHead) (asked : List Asked) (before : List Indication) → Once base.tables asked calls before → Hears base asked before (hear base calls context head)
 hears base calls context (General number) asked before h = once-still base.tables asked calls before [] refl h
 hears base calls context BadReject asked before h = once-still base.tables asked calls before (indications.BadReject ∷ []) refl h
 hears base calls context (InvokeHead id linked code argument) asked before h =

@@ -1,15 +1,16 @@
 -- A linked invocation that is shown names an own one, whose operation allows the link.
 use Rattle.std.proofs.Common.{◌≡◌, refl, true, false, ◌∙◌, sym, ap, subst, ℕ, List, [], ◌∷◌, ◌++◌}
 use Rattle.std.specs.Prelude.{ℤ, length, Bool, not, ◌&&◌, nat_le, Option, Some, None, is_some, if◌then◌else◌}
-use Rattle.osi_base.specs.declared.words.Problem.{Problem}
-use Rattle.osi_base.specs.declared.words.ProblemKind.TheVariants as problems
+use Rattle.osi_base.specs.declared.layer_words.Problem.{Problem}
+use Rattle.osi_base.specs.declared.layer_words.ProblemKind.TheVariants as problems
+use Rattle.osi_base.specs.Limits.{most_open}
 use Rattle.stub_tables.specs.declared.tables.Tables.{Tables}
 use Rattle.stub_tables.specs.declared.operation.Code.{Code}
 use Rattle.stub_tables.specs.Lookup.{operation_at, operation_with, error_with}
 use Rattle.dialogue.specs.declared.call.Call.{Call}
 use Rattle.dialogue.specs.declared.indication.Indication.{Indication}
 use Rattle.dialogue.specs.declared.indication.Indication.TheVariants as indications
-use Rattle.end_rules.specs.Base.{Base, Carried, Head, General, BadReject, InvokeHead, ResultHead, ErrorHead, RejectHead, is_reliable, most_open}
+use Rattle.end_rules.specs.Base.{Base, Carried, HeardHead, General, BadReject, InvokeHead, ResultHead, ErrorHead, RejectHead, is_reliable}
 use Rattle.end_rules.specs.Messages.{DataValue, Message, Transport, Session, OfAssociation, OfData, OfMarks, OfActivities, DataWord, Values, AlterContext, AlterContextAck}
 use Rattle.end_rules.specs.Messages.{ActivityWord, Start, Resume, End, EndAck, Interrupt, InterruptAck, Discard, DiscardAck}
 use Rattle.end_rules.specs.State.{Body, OpenCall, Calls, opens_of, opened_with, close}
@@ -119,7 +120,7 @@ reject-links base asked calls (Some id) problem = go (is_of_invocation problem.k
     go true = tt
     go false = tt
 
-heard-links : (base : Base) (asked : List Asked) (calls : Calls) (shown : List Indication) (context : ℕ) (head : Head) → Once base.tables asked calls shown → Links base asked (hear base calls context head)
+heard-links : (base : Base) (asked : List Asked) (calls : Calls) (shown : List Indication) (context : ℕ) (head : HeardHead) → Once base.tables asked calls shown → Links base asked (hear base calls context head)
 heard-links base asked calls shown context (General number) h = tt
 heard-links base asked calls shown context BadReject h = tt
 heard-links base asked calls shown context (InvokeHead id linked code argument) h =

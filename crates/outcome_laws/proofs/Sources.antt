@@ -3,7 +3,7 @@ use Rattle.std.proofs.Common.{inl, inr, ◌≡◌, refl, true, false, ◌∙◌,
 use Rattle.std.proofs.lemmas.List.{append_assoc}
 use Rattle.std.specs.Prelude.{ℤ, Bool, not, ◌||◌, Option, Some, None, Ok, if◌then◌else◌, ◌⊎◌}
 use Rattle.asn1_types.specs.declared.value.Val.{Val}
-use Rattle.osi_base.specs.declared.words.Answers.{Answers}
+use Rattle.osi_base.specs.declared.layer_words.Answers.{Answers}
 use Rattle.osi_base.specs.declared.session_word.SessionConnect.{SessionConnect}
 use Rattle.osi_base.specs.declared.presentation_word.PresentationConnect.{PresentationConnect}
 use Rattle.stub_tables.specs.declared.apdu.Apdu.{Apdu}
@@ -14,7 +14,7 @@ use Rattle.dialogue.specs.declared.config.Mode.TheVariants.{Bare, Direct, Reliab
 use Rattle.dialogue.specs.declared.call.Call.{Call}
 use Rattle.dialogue.specs.declared.call.Call.TheVariants as the_calls
 use Rattle.dialogue.specs.declared.indication.Indication.{Indication}
-use Rattle.end_rules.specs.Base.{Base, Fault, Head, is_bare, is_reliable}
+use Rattle.end_rules.specs.Base.{Base, Fault, HeardHead, is_bare, is_reliable}
 use Rattle.end_rules.specs.Sets.{Alteration}
 use Rattle.end_rules.specs.Messages.{DataValue, Message, Transport, Session, Word, OfAssociation, OfData, OfMarks, OfActivities, TransportUnit, ConnectionRequest, ConnectionConfirm, DisconnectRequest, TransportError, unit_of}
 use Rattle.end_rules.specs.Messages.{AssociationWord, Connect, Accept, Refuse, Finish, Disconnect, Abort, AbortAccept, DataWord, Values, AlterContext, AlterContextAck}
@@ -34,7 +34,7 @@ use Rattle.end_rules.specs.Requesting.{queueing, handed_in, invoking, after_invo
 use Rattle.end_rules.specs.ByItself.{OwnAct, SendsNow, EncodesOn}
 use Rattle.end_rules.specs.Reacting.{Reaction, Passes, Takes, Fails, fails, after_word, shown_of_word, fault_above, word_fault, on_word, react_to_word, on_transport, react_to_transport, react_to_session, react_alive, react}
 use Rattle.end_rules.specs.History.{after_step, step_of, after_broke, off_line}
-use Rattle.osi_base.specs.declared.words.SetItem.{SetItem}
+use Rattle.osi_base.specs.declared.layer_words.SetItem.{SetItem}
 use Rattle.agreement.specs.Sets.{Role}
 use Rattle.agreement.specs.Sets.Role.{Initiator, Responder}
 use Rattle.end_model.specs.Rows.{at}
@@ -244,7 +244,7 @@ reject-so base body context (Some r) wrote h = go (is_reliable base.mode) (carri
     go false None = h
     go false (Some id) = sourced-more (_ ∷ []) wrote body.sending h
 
-head-so : (base : Base) (body : Body) (context : ℕ) (head : Head) (wrote : List Apdu) → Sourced wrote body.sending → Sourced (rejects_in (take_head base body context head).shown ++ wrote) (take_head base body context head).body.sending
+head-so : (base : Base) (body : Body) (context : ℕ) (head : HeardHead) (wrote : List Apdu) → Sourced wrote body.sending → Sourced (rejects_in (take_head base body context head).shown ++ wrote) (take_head base body context head).body.sending
 head-so base body context head wrote h =
     let heard = hear base body.calls context head in
     let with_it = with_reject base (record body { calls = heard.calls }) context heard.reject in

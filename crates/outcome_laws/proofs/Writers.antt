@@ -3,8 +3,8 @@ use Rattle.std.proofs.Common.{◌≡◌, refl, true, false, inl, inr, ◌∙◌,
 use Rattle.std.proofs.lemmas.List.{append_assoc}
 use Rattle.std.specs.Prelude.{ℤ, Bool, ◌&&◌, Option, Some, None, is_some, if◌then◌else◌, ◌⊎◌}
 use Rattle.asn1_types.specs.declared.value.Val.{Val}
-use Rattle.osi_base.specs.declared.words.Problem.{Problem}
-use Rattle.osi_base.specs.declared.words.ProblemKind.TheVariants as problems
+use Rattle.osi_base.specs.declared.layer_words.Problem.{Problem}
+use Rattle.osi_base.specs.declared.layer_words.ProblemKind.TheVariants as problems
 use Rattle.stub_tables.specs.declared.tables.Tables.{Tables}
 use Rattle.stub_tables.specs.declared.operation.Code.{Code}
 use Rattle.stub_tables.specs.declared.apdu.Apdu.{Apdu}
@@ -13,7 +13,7 @@ use Rattle.stub_tables.specs.declared.apdu.Returned.{Returned}
 use Rattle.stub_tables.specs.Lookup.{operation_at, operation_with, error_with}
 use Rattle.dialogue.specs.declared.indication.Indication.{Indication}
 use Rattle.dialogue.specs.declared.indication.Indication.TheVariants as indications
-use Rattle.end_rules.specs.Base.{Base, Carried, Head, is_reliable}
+use Rattle.end_rules.specs.Base.{Base, Carried, HeardHead, is_reliable}
 use Rattle.end_rules.specs.Messages.{ValueContent, Remote, DataValue, Message, Transport, Session, Word, OfAssociation, OfData, OfMarks, OfActivities, Values, AlterContext, AlterContextAck}
 use Rattle.end_rules.specs.State.{Body, OpenCall, Calls, opened_with, close}
 use Rattle.end_rules.specs.Invoking.{carrier_in}
@@ -203,7 +203,7 @@ head-shows base body context apdu peer h =
 one-shows : (base : Base) (body : Body) (value : DataValue) (peer : List Apdu) → Written peer value.content → AreAnswers base.tables peer (take_head base body value.id (head_of base value)).shown
 one-shows base body value peer h =
     let says_so : head_of base value ≡ head_of_apdu h.apdu = ap (λ (c : ValueContent). head_of base (record { id = value.id; pair = value.pair; content = c })) h.is_it in
-    subst (λ (head : Head). AreAnswers base.tables peer (take_head base body value.id head).shown) (sym says_so) (head-shows base body value.id h.apdu peer h.within)
+    subst (λ (head : HeardHead). AreAnswers base.tables peer (take_head base body value.id head).shown) (sym says_so) (head-shows base body value.id h.apdu peer h.within)
 
 pub values-show : (base : Base) (body : Body) (values : List DataValue) (peer : List Apdu) → AreWritten peer values → AreAnswers base.tables peer (take_values base body values).shown
 values-show base body [] peer h = tt
@@ -228,7 +228,7 @@ head-taken base body context apdu own peer e h =
 one-taken : (base : Base) (body : Body) (value : DataValue) (own peer : List Apdu) → is_reliable base.mode ≡ false → Written peer value.content → TakenWell base.tables own peer (take_head base body value.id (head_of base value)).answers (take_head base body value.id (head_of base value)).shown
 one-taken base body value own peer e h =
     let says_so : head_of base value ≡ head_of_apdu h.apdu = ap (λ (c : ValueContent). head_of base (record { id = value.id; pair = value.pair; content = c })) h.is_it in
-    subst (λ (head : Head). TakenWell base.tables own peer (take_head base body value.id head).answers (take_head base body value.id head).shown) (sym says_so)
+    subst (λ (head : HeardHead). TakenWell base.tables own peer (take_head base body value.id head).answers (take_head base body value.id head).shown) (sym says_so)
     (head-taken base body value.id h.apdu own peer e h.within)
 
 both-taken : (tables : Tables) (own peer : List Apdu) (answers more : List Message) (shown later : List Indication) → TakenWell tables own peer answers shown → TakenWell tables own peer more later → TakenWell tables own peer (answers ++ more) (shown ++ later)

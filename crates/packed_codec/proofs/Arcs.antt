@@ -8,7 +8,8 @@ use Rattle.std.proofs.lemmas.List.Folds.{list_all-append}
 use Rattle.std.proofs.lemmas.Bool.{lt-leb, le-ltb, lt-ltb, ne_eqb}
 use Rattle.osi_base.specs.Oid.{is_oid, IsOid}
 use Rattle.asn1_types.specs.Fits.{has_32_bits}
-use Rattle.packed_codec.specs.ObjectIds.{sized, push_front, subidentifiers_of, judged, judged_arcs, joined, IsNoEnd}
+use Rattle.ber_spelling.specs.Primitives.{sized, push_front, subidentifiers_of}
+use Rattle.packed_codec.specs.ObjectIds.{judged, judged_arcs, joined, IsNoEnd}
 
 -- what was found before, and what is still found
 abbrev pub arcs_behind : List ℕ → Option (List ℕ) → Option (List ℕ)

@@ -1,33 +1,11 @@
 -- Numbers in digits of seven bits, with bit 8 set in all digits but the last.
 use Rattle.std.proofs.Common.{◌≡◌, ◌≢◌, ℕ, zero, suc, ◌+◌, ◌-◌, ◌*◌, ◌/◌, ◌%◌, ◌^◌, ◌≤◌, ◌<◌, Bool, true, false, List, [], ◌∷◌, length, refl, sym, ap, ◌∙◌, subst, arith, inl, inr}
-use Rattle.std.specs.Prelude.{nat_lt, nat_eq, slice_index, if◌then◌else◌}
+use Rattle.std.specs.Prelude.{nat_eq, slice_index}
 use Rattle.std.proofs.Math.Nat.{pow-suc, pow-le-pow_right, mul-le-mul_right, add-mul, mul_assoc, mul_comm}
-use Rattle.std.proofs.lemmas.Bool.{cases_lt, le-ltb, lt-ltb, eqb-true, eqb-false, ne_eqb}
+use Rattle.std.proofs.lemmas.Bool.{cases_lt, eqb-true, eqb-false, ne_eqb}
+use Rattle.ber_spelling.specs.Spelling.{AreDigits, low_bits, number_128, IsBase128}
+use Rattle.ber_spelling.proofs.Identifiers.{low_small, low_large}
 use Rattle.packed_codec.specs.ObjectIds.{digits_128, without_zeros, base_128}
-
-abbrev pub AreDigits : List ℕ → Type 0
-AreDigits [] = ⊥
-AreDigits (last ∷ []) = last < 128
-AreDigits (digit ∷ next ∷ digits) = (128 ≤ digit) × (digit < 256) × AreDigits (next ∷ digits)
-
-abbrev pub low_bits : ℕ → ℕ
-low_bits digit = if nat_lt digit 128 then digit else digit - 128
-
-abbrev pub number_128 : ℕ → List ℕ → ℕ
-number_128 number [] = number
-number_128 number (digit ∷ digits) = number_128 (128 * number + low_bits digit) digits
-
--- no leading zero digit
-pub record IsBase128 (digits : List ℕ) (n : ℕ) : Type 0 where
-  pub are : AreDigits digits
-  pub shortest : slice_index digits 0 ≢ 128
-  pub number : number_128 0 digits ≡ n
-
-pub low_small : (d : ℕ) → d < 128 → low_bits d ≡ d
-low_small d lt = rw (lt-ltb d 128 lt) refl
-
-pub low_large : (d : ℕ) → 128 ≤ d → low_bits d ≡ d - 128
-low_large d le = rw (le-ltb d 128 le) refl
 
 -- ---- one number has one form
 

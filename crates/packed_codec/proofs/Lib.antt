@@ -1,4 +1,3 @@
-pub mod Signed
 pub mod Arcs
 pub mod Loops
 pub mod Rows

@@ -9,7 +9,7 @@ use Rattle.asn1_types.specs.Fits.{part_fits, parts_fit, sequence_fits, values_fi
 use Rattle.asn1_types.specs.Value.{Value, parts, list, chosen, MaybeValues, no_parts, absent, present, Values, no_values, value}
 use Rattle.asn1_types.specs.ValueView.{parts_of, values_of}
 use Rattle.packed_codec.specs.declared.fault.PackedFault.TheVariants as faults
-use Rattle.packed_codec.specs.Octets.{AreOctets}
+use Rattle.ber_spelling.specs.Octets.{AreOctets}
 use Rattle.packed_codec.specs.Reading.{Spot, ◌>>=◌, refuse}
 use Rattle.packed_codec.specs.Fields.{octet_at, count_at}
 use Rattle.packed_codec.specs.Rules.{Reader, last_size, present_at, marked_at, part_at, parts_at, sequence_at, items_at, spent, list_at, alternative_at, choice_at, set_item_at, set_items_at, set_of_at}

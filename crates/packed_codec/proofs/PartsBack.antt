@@ -2,13 +2,13 @@
 use Rattle.std.proofs.Common.{◌≡◌, ℕ, ◌+◌, ◌-◌, ◌^◌, ◌≤◌, ◌<◌, Bool, true, false, not, ◌&&◌, List, [], ◌∷◌, ◌++◌, length, Option, Some, None, Ok, refl, sym, ap, ◌∙◌, arith, length-append, append_assoc}
 use Rattle.std.specs.Prelude.{slice_get}
 use Rattle.std.proofs.lemmas.Bool.{le-ltb, and_parts}
+use Rattle.osi_base.specs.Limits.{most_items}
 use Rattle.byteorder.specs.Endian.{big_bytes}
 use Rattle.asn1_types.specs.declared.row.Part.{Part}
 use Rattle.asn1_types.specs.Defaults.{may_be_absent, is_default}
 use Rattle.asn1_types.specs.Fits.{part_fits, parts_fit, sequence_fits, values_fit, list_fits, alternative_fits, choice_fits}
 use Rattle.asn1_types.specs.Value.{Value, boolean, integer, null, octets, bits, object_id, text, parts, list, chosen, any, MaybeValues, no_parts, absent, present, Values, no_values, value}
 use Rattle.packed_codec.specs.Reading.{Spot, Reading, ◌>>=◌}
-use Rattle.asn1_types.specs.Limits.{most_items}
 use Rattle.packed_codec.specs.Rules.{Reader, present_at, part_at, parts_at, sequence_at, items_at, list_at, choice_at, set_item_at, set_items_at, set_of_at}
 use Rattle.packed_codec.specs.Writing.{Writer, part_written, parts_written, sequence_written, how_many, values_written, list_written, alternative_written, choice_written, items, items_of_parts, items_of_values}
 use Rattle.packed_codec.proofs.Taking.{octet_again, count_again}

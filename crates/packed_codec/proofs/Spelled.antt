@@ -3,16 +3,16 @@ use Rattle.std.proofs.Common.{◌≡◌, ℕ, zero, suc, ◌+◌, ◌-◌, ◌^�
 use Rattle.std.specs.Prelude.{nat_lt, nat_eq}
 use Rattle.std.specs.List.{list_all}
 use Rattle.std.proofs.lemmas.Bool.{ne_eqb, eqb-true, and_parts}
+use Rattle.osi_base.specs.Limits.{most_items}
 use Rattle.byteorder.specs.Endian.{big_bytes}
 use Rattle.asn1_types.specs.Fits.{is_octet, are_bits, boolean_fits, null_fits, bits_fit}
 use Rattle.asn1_types.proofs.FitLaws.{all_octets}
 use Rattle.asn1_types.specs.Value.{Value, boolean, integer, null, octets, bits, object_id, text, parts, list, chosen, any}
 use Rattle.packed_codec.specs.declared.fault.PackedFault.TheVariants as faults
-use Rattle.packed_codec.specs.Octets.{AreOctets}
+use Rattle.ber_spelling.specs.Octets.{AreOctets}
 use Rattle.packed_codec.specs.Reading.{Spot}
 use Rattle.packed_codec.specs.Fields.{announced_at, octet_at, count_at}
 use Rattle.packed_codec.specs.Numbers.{is_size}
-use Rattle.asn1_types.specs.Limits.{most_items}
 use Rattle.packed_codec.specs.Rules.{Reader, judge, boolean_rule, boolean_at, null_at, sized_at, number_at, string_at, bits_at, bits_size, bits_rule}
 use Rattle.packed_codec.specs.Writing.{Writer, counted, with_size, boolean_written, nothing_written, bits_written, items}
 use Rattle.packed_codec.proofs.Taking.{bind_ok, if_ok, ok_is, Took, took_octets, took_text, announced_found, announced_again, octet_found, octet_again, count_found, count_again}

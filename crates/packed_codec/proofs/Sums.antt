@@ -1,6 +1,6 @@
 -- Sums that stand still at the last value of a count.
 use Rattle.std.proofs.Common.{◌≡◌, ℕ, ◌+◌, ◌-◌, ◌^◌, ◌≤◌, min, List, ◌++◌, length, ap, ◌∙◌, arith, length-append}
-use Rattle.osi_base.specs.Outside.{last_count}
+use Rattle.osi_base.specs.Limits.{last_count}
 
 -- one more piece is counted
 pub record Grown (size rest whole : ℕ) : Type 0 where

@@ -7,7 +7,7 @@ use Rattle.byteorder.specs.Endian.{big_number, big_bytes}
 use Rattle.byteorder.specs.Numbers.{big_number-reads_back}
 use Rattle.packed_codec.specs.declared.fault.PackedFault.{PackedFault}
 use Rattle.packed_codec.specs.declared.fault.PackedFault.TheVariants as faults
-use Rattle.packed_codec.specs.Octets.{AreOctets}
+use Rattle.ber_spelling.specs.Octets.{AreOctets}
 use Rattle.packed_codec.specs.Reading.{Spot, Reading, ◌>>=◌, within}
 use Rattle.packed_codec.specs.Fields.{moved, announced_at, field_at, octet_at, count_at}
 
@@ -35,9 +35,6 @@ pub ok_is : {A : Type 0} (x y : A) → done x ≡ done y → x ≡ y
 ok_is x y e = cc
 
 -- ---- octets in parts
-
-pub octets_tail : (o : ℕ) (os : List ℕ) → AreOctets (o ∷ os) → AreOctets os
-octets_tail o os h = record { each = λ i. h.each (suc i) }
 
 pub octets_left : (a b : List ℕ) → AreOctets (a ++ b) → AreOctets a
 octets_left [] b h = record { each = λ i. omega arith }

@@ -1,5 +1,6 @@
 -- The packed spellings of values, and the laws of reading and of spellings.
 use Rattle.std.specs.Prelude.{◌≡◌, ◌≢◌, ℕ, ◌<◌, ◌≤◌, ◌^◌, ◌⊎◌, Bool, true, false, List, ◌++◌, length, take, Some, Result, Ok, Err, MatchResult, slice_get}
+use Rattle.osi_base.specs.Limits.{most_items}
 use Rattle.asn1_types.specs.declared.row.TypeRow.{TypeRow}
 use Rattle.asn1_types.specs.declared.row.TypeRow.TheVariants as row
 use Rattle.asn1_types.specs.Rows.{along}
@@ -8,8 +9,7 @@ use Rattle.asn1_types.specs.Value.{Value}
 use Rattle.packed_codec.specs.declared.fault.PackedFault.{PackedFault}
 use Rattle.packed_codec.specs.declared.fault.PackedFault.TheVariants.{NotSpelled, Short, TooLong, NoMemory}
 use Rattle.packed_codec.specs.declared.whole_values.Read.{Read}
-use Rattle.packed_codec.specs.Octets.{AreOctets}
-use Rattle.asn1_types.specs.Limits.{most_items}
+use Rattle.ber_spelling.specs.Octets.{AreOctets}
 use Rattle.packed_codec.specs.Rules.{read_at}
 use Rattle.packed_codec.specs.Writing.{packed, items}
 use Rattle.asn1_types.specs.Writing.{written}

@@ -1,27 +1,11 @@
 -- The contents of OBJECT IDENTIFIER (X.690 8.19).
-use Rattle.std.specs.Prelude.{◌≡◌, ℕ, ◌<◌, ◌⊎◌, ◌++◌, length, ◌+◌, ◌-◌, ◌*◌, ◌/◌, ◌%◌, ◌^◌, min, Bool, true, false, not, ◌&&◌, Option, Some, None, List, [], ◌∷◌, nat_lt, nat_eq, if◌then◌else◌}
+use Rattle.std.specs.Prelude.{◌≡◌, ℕ, ◌<◌, ◌⊎◌, ◌++◌, length, ◌+◌, ◌-◌, ◌*◌, ◌/◌, ◌%◌, ◌^◌, false, ◌&&◌, Option, Some, None, List, [], ◌∷◌, nat_lt, nat_eq, if◌then◌else◌}
 use Rattle.std.specs.List.{list_all, flat_map}
 use Rattle.osi_base.specs.Oid.{is_oid}
 use Rattle.asn1_types.specs.Fits.{has_32_bits}
+use Rattle.ber_spelling.specs.Primitives.{subidentifiers_of}
 
--- ---- read
-
--- numbers that are no arc are all one
-abbrev pub sized : ℕ → ℕ
-sized n = min n (2 ^ 40)
-
-abbrev pub push_front : ℕ → Option (List ℕ) → Option (List ℕ)
-push_front n None = None
-push_front n (Some ns) = Some (n ∷ ns)
-
--- The subidentifiers: of each, seven bits an octet, with bit 8 set in all but the last and no leading `80`
--- (X.690 8.19.2). Behind `number`, the digits of a subidentifier so far; `begun` says that there are some.
-abbrev pub subidentifiers_of : ℕ → Bool → List ℕ → Option (List ℕ)
-subidentifiers_of number begun [] = if begun then None else Some []
-subidentifiers_of number begun (digit ∷ digits) =
-    if nat_eq digit 128 && not begun then None
-    else (if nat_lt digit 128 then push_front (sized (128 * number + digit)) (subidentifiers_of 0 false digits)
-    else subidentifiers_of (sized (128 * number + (digit - 128))) true digits)
+-- ---- read: of the contents `subidentifiers_of` in `Primitives` of `ber_spelling` says the subidentifiers
 
 -- 40 times the first arc and the second arc make the first subidentifier (X.690 8.19.4)
 abbrev pub first_arc : ℕ → ℕ

@@ -1,6 +1,6 @@
 -- Reading from the left: what the readers give is a function of the octets.
 use Rattle.std.specs.Prelude.{◌≡◌, ℕ, ◌+◌, ◌≤◌, List, length, Result, Ok, Err, nat_lt, if◌then◌else◌}
-use Rattle.osi_base.specs.declared.words.Kind.TheVariants.{Content}
+use Rattle.osi_base.specs.declared.layer_words.Kind.TheVariants.{Content}
 use Rattle.packed_codec.specs.declared.fault.PackedFault.{PackedFault}
 use Rattle.packed_codec.specs.declared.fault.PackedFault.TheVariants as faults
 use Rattle.packed_codec.specs.declared.spot.Spot as code

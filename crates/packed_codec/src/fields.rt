@@ -1,6 +1,7 @@
 //! The fields of the packed syntax: single octets, counts, and the octets that they announce.
 
-ghost use Rattle.std.specs.Prelude.{◌≡◌, ◌+◌, ◌≤◌, ◌<◌, ◌^◌, length, take, IfOk, true};
+ghost use Rattle.std.specs.Prelude.{◌≡◌, ◌≤◌, length, take, IfOk, true};
+ghost use Rattle.osi_base.specs.OctetPlaces.{HasPlaces};
 ghost use Rattle.packed_codec.specs.Reading.{Gives, within, spot_of, GoesOn};
 ghost use Rattle.packed_codec.specs.Fields.{announced_at, field_at, octet_at, count_at};
 
@@ -39,7 +40,7 @@ pub(crate) fn announced<'a>(
     size: u32,
     spot: Spot<'a>,
 ) -> Result<(&'a [u8], Spot<'a>), PackedFault>
-    requires { spot.place + length spot.rest.now < 2 ^ 63 }
+    requires { HasPlaces spot.place spot.rest.now }
     ensures gives { Gives (λ x. (x.0.now, spot_of x.1)) result
         (announced_at limit place allowed size (spot_of spot.entry)) }
     ensures stops { IfOk result (λ x. GoesOn spot.entry.place (length spot.entry.rest.now) x.1) }
@@ -64,7 +65,7 @@ pub(crate) fn announced<'a>(
 /// A field of so many octets.
 #[tactic(auto, unfolding(crate::specs::Fields::field_at))]
 fn field<'a>(limit: u32, size: u32, spot: Spot<'a>) -> Result<(&'a [u8], Spot<'a>), PackedFault>
-    requires { spot.place + length spot.rest.now < 2 ^ 63 }
+    requires { HasPlaces spot.place spot.rest.now }
     ensures gives { Gives (λ x. (x.0.now, spot_of x.1)) result
         (field_at limit size (spot_of spot.entry)) }
     ensures stops { IfOk result (λ x. GoesOn spot.entry.place (length spot.entry.rest.now) x.1) }
@@ -79,7 +80,7 @@ fn field<'a>(limit: u32, size: u32, spot: Spot<'a>) -> Result<(&'a [u8], Spot<'a
 /// A field of one octet.
 #[tactic(auto, unfolding(crate::specs::Fields::octet_at))]
 pub(crate) fn octet<'a>(limit: u32, spot: Spot<'a>) -> Result<(u8, Spot<'a>), PackedFault>
-    requires { spot.place + length spot.rest.now < 2 ^ 63 }
+    requires { HasPlaces spot.place spot.rest.now }
     ensures gives { Gives (λ x. (x.0, spot_of x.1)) result (octet_at limit (spot_of spot.entry)) }
     ensures stops { IfOk result (λ x. GoesOn spot.entry.place (length spot.entry.rest.now) x.1) }
 {
@@ -90,7 +91,7 @@ pub(crate) fn octet<'a>(limit: u32, spot: Spot<'a>) -> Result<(u8, Spot<'a>), Pa
 /// A count, in four octets.
 #[tactic(auto, unfolding(crate::specs::Fields::count_at))]
 pub(crate) fn count<'a>(limit: u32, spot: Spot<'a>) -> Result<(u32, Spot<'a>), PackedFault>
-    requires { spot.place + length spot.rest.now < 2 ^ 63 }
+    requires { HasPlaces spot.place spot.rest.now }
     ensures gives { Gives (λ x. (x.0, spot_of x.1)) result (count_at limit (spot_of spot.entry)) }
     ensures stops { IfOk result (λ x. GoesOn spot.entry.place (length spot.entry.rest.now) x.1) }
 {

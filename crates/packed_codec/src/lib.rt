@@ -7,14 +7,13 @@ mod field_writing;
 mod fields;
 mod laws;
 mod measure;
-mod numbers;
 mod object_ids;
 mod octets;
-mod read;
+mod reading;
 mod spot;
 mod strings;
 mod whole_values;
-mod write;
+mod writing;
 
 pub use fault::PackedFault;
 pub use laws::{
@@ -24,4 +23,4 @@ pub use laws::{
 };
 pub use measure::{arcs_len, integer_len, packed_len};
 pub use whole_values::{LIMIT, Read, packed_read, packed_read_within};
-pub use write::packed_write;
+pub use writing::packed_write;

@@ -2,7 +2,7 @@
 
 ghost use Rattle.std.specs.Prelude.{◌≡◌, ◌≤◌, ◌<◌, ◌+◌, min, Some, length, slice_get};
 ghost use Rattle.std.specs.List.{AllByRecursion, flat_map};
-ghost use Rattle.osi_base.specs.Outside.{last_count};
+ghost use Rattle.osi_base.specs.Limits.{last_count};
 ghost use Rattle.asn1_types.specs.Rows.{rows_of_parts};
 ghost use Rattle.asn1_types.specs.Table.{AreSoundRows};
 ghost use Rattle.asn1_types.specs.ValueView.{parts_of, values_of};

@@ -1,23 +1,32 @@
 //! Values of one field, and values behind a size: numbers and strings.
 
-ghost use Rattle.std.specs.Prelude.{◌≡◌, ◌+◌, ◌≤◌, ◌<◌, ◌^◌, length, IfOk};
+ghost use Rattle.std.specs.Prelude.{◌≡◌, ◌≤◌, length, IfOk};
+ghost use Rattle.osi_base.specs.OctetPlaces.{HasPlaces};
 ghost use Rattle.asn1_types.specs.Defaults.{is_item};
+ghost use Rattle.packed_codec.specs.Numbers.{is_size};
 ghost use Rattle.packed_codec.specs.Reading.{Gives, spot_of, GoesOn};
 ghost use Rattle.packed_codec.specs.Rules.{boolean_at, null_at, number_at, string_at, number_rule, in_range, any_size, at_most, octets_rule, text_rule, object_id_rule, bits_at, bits_size, bits_rule};
 
 use crate::fault::PackedFault;
 use crate::fields::{announced, count, octet, refusal};
-use crate::numbers::{integer_of, is_size};
 use crate::object_ids::arcs_of;
 use crate::spot::Spot;
 use asn1_types::{Item, Node, TextKind, Val, are_bits, is_item, is_text};
+use ber_spelling::integer_of;
 use osi_base::Octets;
 use std::alloc::Global;
+
+/// Whether so many octets may be a number.
+fn is_size(size: u8) -> bool
+    ensures { result ≡ is_size size }
+{
+    1 <= size && size <= 8
+}
 
 /// A BOOLEAN: 0 or 1.
 #[tactic(auto, unfolding(crate::specs::Rules::boolean_at))]
 pub(crate) fn boolean<'a>(limit: u32, spot: Spot<'a>) -> Result<(Val, Spot<'a>), PackedFault>
-    requires { spot.place + length spot.rest.now < 2 ^ 63 }
+    requires { HasPlaces spot.place spot.rest.now }
     ensures gives { Gives (λ x. (x.0, spot_of x.1)) result (boolean_at limit (spot_of spot.entry)) }
     ensures stops { IfOk result (λ x. GoesOn spot.entry.place (length spot.entry.rest.now) x.1) }
 {
@@ -52,7 +61,7 @@ pub(crate) fn integer<'a>(
     limit: u32,
     spot: Spot<'a>,
 ) -> Result<(Val, Spot<'a>), PackedFault>
-    requires { spot.place + length spot.rest.now < 2 ^ 63 }
+    requires { HasPlaces spot.place spot.rest.now }
     ensures gives { Gives (λ x. (x.0, spot_of x.1)) result
         (number_at (number_rule (in_range low high)) limit (spot_of spot.entry)) }
     ensures stops { IfOk result (λ x. GoesOn spot.entry.place (length spot.entry.rest.now) x.1) }
@@ -80,7 +89,7 @@ pub(crate) fn enumerated<'a>(
     limit: u32,
     spot: Spot<'a>,
 ) -> Result<(Val, Spot<'a>), PackedFault>
-    requires { spot.place + length spot.rest.now < 2 ^ 63 }
+    requires { HasPlaces spot.place spot.rest.now }
     ensures gives { Gives (λ x. (x.0, spot_of x.1)) result
         (number_at (number_rule (is_item items.now)) limit (spot_of spot.entry)) }
     ensures stops { IfOk result (λ x. GoesOn spot.entry.place (length spot.entry.rest.now) x.1) }
@@ -109,7 +118,7 @@ pub(crate) fn octet_string<'a>(
     limit: u32,
     spot: Spot<'a>,
 ) -> Result<(Val, Spot<'a>), PackedFault>
-    requires { spot.place + length spot.rest.now < 2 ^ 63 }
+    requires { HasPlaces spot.place spot.rest.now }
     ensures gives { Gives (λ x. (x.0, spot_of x.1)) result
         (string_at (at_most most) octets_rule limit (spot_of spot.entry)) }
     ensures stops { IfOk result (λ x. GoesOn spot.entry.place (length spot.entry.rest.now) x.1) }
@@ -128,7 +137,7 @@ pub(crate) fn text<'a>(
     limit: u32,
     spot: Spot<'a>,
 ) -> Result<(Val, Spot<'a>), PackedFault>
-    requires { spot.place + length spot.rest.now < 2 ^ 63 }
+    requires { HasPlaces spot.place spot.rest.now }
     ensures gives { Gives (λ x. (x.0, spot_of x.1)) result
         (string_at any_size (text_rule kind) limit (spot_of spot.entry)) }
     ensures stops { IfOk result (λ x. GoesOn spot.entry.place (length spot.entry.rest.now) x.1) }
@@ -149,7 +158,7 @@ pub(crate) fn object_id<'a>(
     limit: u32,
     spot: Spot<'a>,
 ) -> Result<(Val, Spot<'a>), PackedFault>
-    requires { spot.place + length spot.rest.now < 2 ^ 63 }
+    requires { HasPlaces spot.place spot.rest.now }
     ensures gives { Gives (λ x. (x.0, spot_of x.1)) result
         (string_at any_size object_id_rule limit (spot_of spot.entry)) }
     ensures stops { IfOk result (λ x. GoesOn spot.entry.place (length spot.entry.rest.now) x.1) }
@@ -175,7 +184,7 @@ fn bits_behind<'a>(
     limit: u32,
     spot: Spot<'a>,
 ) -> Result<(Val, Spot<'a>), PackedFault>
-    requires { spot.place + length spot.rest.now < 2 ^ 63 }
+    requires { HasPlaces spot.place spot.rest.now }
     ensures gives { Gives (λ x. (x.0, spot_of x.1)) result
         (string_at (bits_size unused) (bits_rule unused) limit (spot_of spot.entry)) }
     ensures stops { IfOk result (λ x. GoesOn spot.entry.place (length spot.entry.rest.now) x.1) }
@@ -198,7 +207,7 @@ pub(crate) fn bit_string<'a>(
     limit: u32,
     spot: Spot<'a>,
 ) -> Result<(Val, Spot<'a>), PackedFault>
-    requires { spot.place + length spot.rest.now < 2 ^ 63 }
+    requires { HasPlaces spot.place spot.rest.now }
     ensures gives { Gives (λ x. (x.0, spot_of x.1)) result (bits_at limit (spot_of spot.entry)) }
     ensures stops { IfOk result (λ x. GoesOn spot.entry.place (length spot.entry.rest.now) x.1) }
 {

@@ -1,14 +1,14 @@
 //! Reading whole values.
 
 ghost use Rattle.std.specs.Prelude.{◌≡◌, ℕ, ◌≤◌, ◌<◌, length, take, IfOk};
-ghost use Rattle.asn1_types.specs.Limits.{most_octets};
+ghost use Rattle.osi_base.specs.Limits.{most_octets};
 ghost use Rattle.asn1_types.specs.Value as tree;
 ghost use Rattle.packed_codec.specs.Reading.{Gives};
 ghost use Rattle.packed_codec.specs.Rules.{read_at};
 ghost use Rattle.packed_codec.specs.Laws.{Packed, IsRead};
 
 use crate::fault::PackedFault;
-use crate::read::value;
+use crate::reading::value;
 use crate::spot::Spot;
 use asn1_types::{TypeId, TypeTable, Val};
 use std::alloc::Global;

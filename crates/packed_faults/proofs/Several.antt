@@ -2,15 +2,15 @@
 use Rattle.std.proofs.Common.{◌≡◌, ℕ, zero, suc, ◌-◌, ◌<◌, ◌≤◌, ◌^◌, Bool, true, false, cond, List, [], ◌∷◌, ◌++◌, Option, Some, None, Ok, Err, refl, sym, ap, ◌∙◌, subst, arith, ◌⊎◌, inl, inr}
 use Rattle.std.specs.Prelude.{nat_lt, nat_eq, slice_get}
 use Rattle.std.proofs.lemmas.Bool.{lt-ltb, le-ltb, ltb-false, ltb-true, eqb-true, ne_eqb}
+use Rattle.osi_base.specs.Limits.{most_items}
 use Rattle.asn1_types.specs.declared.row.Part.{Part}
 use Rattle.asn1_types.specs.Defaults.{may_be_absent, is_default}
-use Rattle.asn1_types.specs.Limits.{most_items}
 use Rattle.asn1_types.specs.Rising.{behind_last}
 use Rattle.asn1_types.specs.Value.{Value, parts, list, chosen}
 use Rattle.asn1_types.specs.ValueView.{parts_of, values_of}
 use Rattle.packed_codec.specs.declared.fault.PackedFault.{PackedFault}
 use Rattle.packed_codec.specs.declared.fault.PackedFault.TheVariants.{NotSpelled, Short}
-use Rattle.packed_codec.specs.Octets.{AreOctets}
+use Rattle.ber_spelling.specs.Octets.{AreOctets}
 use Rattle.packed_codec.specs.Reading.{Spot, Reading, ◌>>=◌, refuse}
 use Rattle.packed_codec.specs.Fields.{octet_at, count_at}
 use Rattle.packed_codec.specs.Rules.{Reader, last_size, present_at, marked_at, part_at, parts_at, sequence_at, items_at, spent, list_at, set_item_at, set_items_at, set_of_at, alternative_at, choice_at}

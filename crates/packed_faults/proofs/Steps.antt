@@ -1,14 +1,14 @@
 -- Steps of reading that fail.
 use Rattle.std.proofs.Common.{◌≡◌, ℕ, ◌≤◌, ◌<◌, ◌^◌, Bool, true, false, cond, Option, Some, None, Ok, Err, refl, sym, ap, ◌∙◌, ◌⊎◌, inl, inr}
-use Rattle.asn1_types.specs.Limits.{most_items}
+use Rattle.osi_base.specs.Limits.{most_items}
 use Rattle.packed_codec.specs.declared.fault.PackedFault.{PackedFault}
 use Rattle.packed_codec.specs.declared.fault.PackedFault.TheVariants.{NotSpelled, Short}
-use Rattle.packed_codec.specs.Octets.{AreOctets}
+use Rattle.ber_spelling.specs.Octets.{AreOctets}
 use Rattle.packed_codec.specs.Reading.{Spot, Reading, ◌>>=◌, refuse}
 use Rattle.packed_codec.specs.Rules.{Reader}
 use Rattle.packed_codec.proofs.Taking.{done}
 use Rattle.packed_faults.specs.Values.{Wrong, IsAt}
-use Rattle.osi_base.specs.declared.words.Kind.TheVariants.{Content}
+use Rattle.osi_base.specs.declared.layer_words.Kind.TheVariants.{Content}
 
 abbrev pub failed : {A : Type 0} → PackedFault → Reading A
 failed f = Err f

@@ -1,7 +1,7 @@
 -- The first fault of values in the packed syntax, row by row: the fields before it are right, and this field breaks its rule.
 use Rattle.std.specs.Prelude.{◌≡◌, ℕ, suc, ◌+◌, ◌-◌, ◌≤◌, ◌<◌, ◌⊎◌, Bool, true, false, Some, None, List, [], ◌∷◌, ◌++◌, length, slice_get}
 use Rattle.byteorder.specs.Endian.{big_number}
-use Rattle.osi_base.specs.declared.words.Kind.TheVariants.{Content}
+use Rattle.osi_base.specs.declared.layer_words.Kind.TheVariants.{Content}
 use Rattle.asn1_types.specs.declared.row.Part.{Part}
 use Rattle.asn1_types.specs.declared.row.TypeRow.{TypeRow}
 use Rattle.asn1_types.specs.declared.row.TypeRow.TheVariants as row

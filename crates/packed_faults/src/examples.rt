@@ -1,7 +1,7 @@
 //! Worked first faults, each the contract of a function that does nothing.
 
-ghost use Rattle.osi_base.specs.declared.words.Kind.TheVariants.{Content};
-ghost use Rattle.asn1_types.specs.Limits.{most_octets};
+ghost use Rattle.osi_base.specs.declared.layer_words.Kind.TheVariants.{Content};
+ghost use Rattle.osi_base.specs.Limits.{most_octets};
 ghost use Rattle.packed_codec.specs.declared.fault.PackedFault.TheVariants.{NotSpelled};
 ghost use Rattle.packed_faults.specs.Examples.{with_default, set_of_integers, default_written, falling_items, large_size};
 ghost use Rattle.packed_faults.specs.FirstFault.{FirstFault};

@@ -1,9 +1,9 @@
 -- The packed spelling of a value has as many octets as are told of it.
-use Rattle.std.proofs.Common.{◌≡◌, refl, true, false, sym, ap, ◌∙◌, arith, ℕ, zero, suc, ◌+◌, ◌-◌, ◌*◌, ◌^◌, ◌≤◌, ◌<◌, ℤ, List, [], ◌∷◌, ◌++◌, length}
-use Rattle.std.specs.Prelude.{Bool, not, ◌&&◌, ◌||◌, Option, Some, None, nat_le, slice_get, slice_index, if◌then◌else◌}
+use Rattle.std.proofs.Common.{◌≡◌, refl, true, false, ap, ◌∙◌, arith, ℕ, zero, suc, ◌+◌, ◌-◌, ◌*◌, ◌^◌, ◌≤◌, ◌<◌, ℤ, List, [], ◌∷◌, ◌++◌, length}
+use Rattle.std.specs.Prelude.{Bool, not, ◌&&◌, Option, Some, None, nat_le, slice_get, slice_index, if◌then◌else◌}
 use Rattle.std.specs.List.{list_all, flat_map}
 use Rattle.std.specs.Int.{bytes_high_first}
-use Rattle.std.proofs.lemmas.Bool.{and_parts, or_cases, leb-true, ltb-true}
+use Rattle.std.proofs.lemmas.Bool.{and_parts, leb-true, ltb-true}
 use Rattle.std.proofs.lemmas.Bool.Decides.{nat_tests}
 use Rattle.std.proofs.lemmas.List.{length-append}
 use Rattle.osi_base.specs.Oid.{starts_well, is_oid}
@@ -14,32 +14,22 @@ use Rattle.asn1_types.specs.Rows.{of_row, along}
 use Rattle.asn1_types.specs.Defaults.{may_be_absent, is_default}
 use Rattle.asn1_types.specs.Fits.{is_octet, has_32_bits, is_number, part_fits, parts_fit, sequence_fits, values_fit, list_fits, alternative_fits, choice_fits, nothing_fits}
 use Rattle.asn1_types.specs.Rising.{set_rises}
-use Rattle.asn1_types.specs.Value.{Value, boolean, integer, null, octets, bits, object_id, text, parts, list, chosen, MaybeValues, no_parts, absent, present, Values, no_values, value}
+use Rattle.asn1_types.specs.Value.{Value, boolean, integer, octets, bits, object_id, text, parts, list, chosen, MaybeValues, no_parts, absent, present, Values, no_values, value}
 use Rattle.asn1_types.specs.Writing as der
 use Rattle.asn1_types.specs.PackedSize as sizes
-use Rattle.ber_spelling.specs.Primitives as prim
-use Rattle.ber_spelling.specs.Spelling as spelling
 use Rattle.ber_spelling.proofs.UniqueDigits.{unique_128, unique_integer}
-use Rattle.ber_spelling.specs.Primitives.{is_padded}
-use Rattle.packed_codec.specs.Numbers.{is_size, signed_of, integer_of, integer_octets}
+use Rattle.ber_spelling.specs.Primitives.{is_padded, signed_of, integer_of}
+use Rattle.packed_codec.specs.Numbers.{is_size, integer_octets}
 use Rattle.packed_codec.specs.ObjectIds.{base_128, subidentifiers, arcs_octets}
 use Rattle.packed_codec.specs.Writing.{Writer, counted, how_many, part_written, parts_written, values_written, list_written, sequence_written, alternative_written, choice_written, nothing_written, write_by, packed}
 use Rattle.packed_codec.specs.Laws.{packs_by, packs}
-use Rattle.packed_codec.proofs.Base128.{AreDigits, number_128, base_128_is}
+use Rattle.packed_codec.proofs.Base128.{base_128_is}
 use Rattle.packed_codec.proofs.Integers.{integer_complete}
 use Rattle.packed_codec.proofs.Spelled.{some_if}
 use Rattle.packed_laws.proofs.Octets.{Are, number-are}
 use Rattle.packed_laws.specs.Laws.{PackedHasSize}
 
 -- ---- numbers: the packed contents are those of DER
-
-padded-same : (os : List ℕ) → prim.is_padded os ≡ is_padded os
-padded-same [] = refl
-padded-same (a ∷ []) = refl
-padded-same (a ∷ b ∷ os) = refl
-
-signed-same : (os : List ℕ) → signed_of os ≡ prim.signed_of os
-signed-same os = refl
 
 each-small : (os : List ℕ) → Are os → (i : ℕ) → slice_index os i < 256
 each-small [] h i = omega arith
@@ -63,25 +53,14 @@ integer-same z e =
     (record {
       some = leb-true 1 (length os) v.0;
       few = leb-true (length os) 8 v.1;
-      shortest = padded-same os ∙ no-not (is_padded os) u.1;
-      number = sym (signed-same os) ∙ t.1;
+      shortest = no-not (is_padded os) u.1;
+      number = t.1;
     })
 
 -- ---- object identifiers
 
-digits-same : (ds : List ℕ) → AreDigits ds → spelling.AreDigits ds
-digits-same [] h = h
-digits-same (x ∷ []) h = h
-digits-same (x ∷ y ∷ ds) h = (h.0, h.1, digits-same (y ∷ ds) h.2)
-
-read-same : (n : ℕ) (ds : List ℕ) → spelling.number_128 n ds ≡ number_128 n ds
-read-same n [] = refl
-read-same n (d ∷ ds) = read-same (128 * n + spelling.low_bits d) ds
-
 base-same : (n : ℕ) → n < 2 ^ 35 → base_128 n ≡ der.base_128 n
-base-same n lt =
-    let b = base_128_is n lt in
-    unique_128 (base_128 n) n (record { are = digits-same (base_128 n) b.are; shortest = b.shortest; number = read-same 0 (base_128 n) ∙ b.number })
+base-same n lt = unique_128 (base_128 n) n (base_128_is n lt)
 
 each-same : (ns : List ℕ) → list_all has_32_bits ns ≡ true → flat_map base_128 ns ≡ flat_map der.base_128 ns
 each-same [] h = refl

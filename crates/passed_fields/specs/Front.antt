@@ -1,6 +1,6 @@
 -- Values that all of the octets are, from their identifier on (X.690 8.1).
 use Rattle.std.specs.Prelude.{◌≡◌, ℕ, ◌<◌, ◌≤◌, false, List, length, take, Result, Ok, Err}
-use Rattle.osi_base.specs.declared.words.Kind.TheVariants.{Missing}
+use Rattle.osi_base.specs.declared.layer_words.Kind.TheVariants.{Missing}
 use Rattle.asn1_types.specs.Value.{Value}
 use Rattle.ber_spelling.specs.declared.spot.Scope.{Scope}
 use Rattle.ber_spelling.specs.Reading.{Spot, Opened, Reading, ◌>>=◌}

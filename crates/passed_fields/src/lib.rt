@@ -3,7 +3,7 @@
 #![tactic(auto)]
 
 mod field;
-mod read;
+mod reading;
 
 pub use field::{Field, Fields, Holds, Passed};
-pub use read::{fields, some_values};
+pub use reading::{fields, some_values};

@@ -1,5 +1,6 @@
 -- Values in octets with their places, as the definitions of reading speak of them.
-use Rattle.std.specs.Prelude.{ℕ, zero, suc, ◌+◌, ◌<◌, ◌^◌, Bool, ◌||◌, nat_eq, nat_le, slice_index, List, [], ◌∷◌, length}
+use Rattle.std.specs.Prelude.{ℕ, zero, suc, Bool, ◌||◌, nat_eq, nat_le, slice_index, List, [], ◌∷◌, length}
+use Rattle.osi_base.specs.OctetPlaces.{HasPlaces}
 use Rattle.asn1_types.specs.Whole.{is_ended}
 use Rattle.ber_spelling.specs.Reading as spots
 use Rattle.association_reading.specs.Places as reading
@@ -13,7 +14,7 @@ spot_of spot = record { place = spot.place; rest = spot.rest.now }
 
 -- the places of all its octets are numbers of 63 bits
 abbrev pub Fits : Spot → Type 0
-Fits spot = spot.place + length spot.rest.now < 2 ^ 63
+Fits spot = HasPlaces spot.place spot.rest.now
 
 abbrev pub AllFit : List Spot → Type 0
 AllFit [] = Unit {0}

@@ -1,7 +1,8 @@
 //! The places of the fields of presentation data values (X.226 8.4.2).
 
-ghost use Rattle.std.specs.Prelude.{◌≡◌, ◌+◌, ◌++◌, ◌<◌, ◌^◌, length, map, [], ◌∷◌, IfOk, OnOk};
+ghost use Rattle.std.specs.Prelude.{◌≡◌, ◌++◌, ◌<◌, map, [], ◌∷◌, IfOk, OnOk};
 ghost use Rattle.std.specs.List.{flat_map};
+ghost use Rattle.osi_base.specs.OctetPlaces.{HasPlaces};
 ghost use Rattle.association_reading.specs.Places as reading;
 ghost use Rattle.pdv_places.specs.Seen.{spot_of, begins_with, user_data_of, Fits, AllFit, seen_places, place_in, places_at};
 
@@ -270,7 +271,7 @@ pub fn field_place(
     which: usize,
     field: PdvField,
 ) -> Result<usize, NoMemory>
-    requires { start + length octets.now < 2 ^ 63 }
+    requires { HasPlaces start octets.now }
     ensures { IfOk result (λ place. place
         ≡ place_in field (places_at which (reading.pdv_places carrier start octets.now))) }
 {

@@ -4,9 +4,9 @@ use Rattle.std.specs.Prelude.{ℤ, pos, map, slice_get, option_map, is_none}
 use Rattle.std.specs.List.{list_all}
 use Rattle.std.proofs.lemmas.Bool.{and_parts}
 use Rattle.osi_base.specs.declared.bit_string.BitString as strings
-use Rattle.osi_base.specs.declared.words.Proposal as proposals
-use Rattle.osi_base.specs.declared.words.AddAnswer as answers
-use Rattle.osi_base.specs.declared.words.RestoredItem as restored
+use Rattle.osi_base.specs.declared.layer_words.Proposal as proposals
+use Rattle.osi_base.specs.declared.layer_words.AddAnswer as answers
+use Rattle.osi_base.specs.declared.layer_words.RestoredItem as restored
 use Rattle.osi_base.specs.declared.presentation_word.Pdv as pdvs
 use Rattle.osi_base.specs.declared.presentation_word.PdvContent as contents
 use Rattle.osi_base.specs.declared.presentation_word.PdvContent.TheVariants as content

@@ -3,8 +3,8 @@
 use Rattle.std.specs.Prelude.{◌≡◌, ℕ, zero, suc, ◌≤◌, true, false, List, [], ◌∷◌, length}
 use Rattle.osi_base.specs.declared.presentation_word.PresentationWord as units
 use Rattle.osi_base.specs.declared.presentation_word.PresentationWord.TheVariants as unit
+use Rattle.osi_base.specs.Limits.{most_levels, most_spelled}
 use Rattle.asn1_types.specs.declared.row.Class.TheVariants.{Context}
-use Rattle.asn1_types.specs.Limits.{most_levels, most_spelled}
 use Rattle.asn1_types.specs.Value.{Value, parts, chosen, MaybeValues, no_parts, absent, present}
 use Rattle.passed_fields.specs.declared.field.Field as known
 use Rattle.passed_fields.specs.Known.{of_row}

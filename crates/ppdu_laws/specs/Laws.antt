@@ -1,8 +1,8 @@
 -- The laws of units of the presentation protocol as values of the table's rows.
 use Rattle.std.specs.Prelude.{◌≡◌, ℕ, List, true, false, Ok}
 use Rattle.osi_base.specs.declared.presentation_word.PresentationWord as units
+use Rattle.osi_base.specs.Limits.{most_spelled}
 use Rattle.asn1_types.specs.Value.{Value}
-use Rattle.asn1_types.specs.Limits.{most_spelled}
 use Rattle.ber_spelling.specs.Spelling.{Spells}
 use Rattle.presentation_pdus.specs.declared.place.PpduPlace.{PpduPlace}
 use Rattle.presentation_pdus.specs.Rows.{ppdu_rows}

@@ -1,14 +1,14 @@
 -- Which units may be written, and that they are read back.
 use Rattle.std.specs.Prelude.{◌≡◌, ℕ, ◌≤◌, ◌^◌, Bool, true, false, ◌&&◌, [], ◌∷◌, length, Option, Some, None, nat_lt, is_none}
 use Rattle.std.specs.List.{list_all}
-use Rattle.osi_base.specs.declared.words.Proposal as proposals
-use Rattle.osi_base.specs.declared.words.AddAnswer as answers
-use Rattle.osi_base.specs.declared.words.RestoredItem as restored
+use Rattle.osi_base.specs.declared.layer_words.Proposal as proposals
+use Rattle.osi_base.specs.declared.layer_words.AddAnswer as answers
+use Rattle.osi_base.specs.declared.layer_words.RestoredItem as restored
 use Rattle.osi_base.specs.declared.presentation_word.Pdv as pdvs
 use Rattle.osi_base.specs.declared.presentation_word.PresentationWord as units
 use Rattle.osi_base.specs.declared.presentation_word.PresentationWord.TheVariants as unit
+use Rattle.osi_base.specs.Limits.{most_spelled}
 use Rattle.asn1_types.specs.Fits.{has_form}
-use Rattle.asn1_types.specs.Limits.{most_spelled}
 use Rattle.presentation_pdus.specs.declared.place.PpduPlace.{PpduPlace}
 use Rattle.presentation_pdus.specs.declared.place.PpduPlace.TheVariants as place
 use Rattle.presentation_pdus.specs.Rows.{ppdu_rows}

@@ -1,10 +1,10 @@
 -- The octets of messages, cut anywhere (RFC 1006 6; X.224 13.7).
 use Rattle.std.specs.Prelude.{◌≡◌, ℕ, ◌<◌, ◌≤◌, List, [], ◌∷◌, ◌++◌, length, None}
-use Rattle.osi_base.specs.Limits.{tsdu_limit}
+use Rattle.osi_base.specs.Limits.{tsdu_limit, unit_least, unit_most}
 use Rattle.stub_tables.specs.declared.tables.Tables.{Tables}
 use Rattle.tpkt.specs.declared.packet.Packet.{Packet}
 use Rattle.tpkt.specs.declared.packet.Packet.TheVariants.{Tsdu}
-use Rattle.tpkt.specs.Wire.{Tpdu, Splits, begun_after, begun_by, handed_for, handed, unit_least, unit_most}
+use Rattle.tpkt.specs.Wire.{Tpdu, Splits, begun_after, begun_by, handed_for, handed}
 use Rattle.tpkt.specs.Written.{written_tsdu}
 use Rattle.tpkt.specs.Reader.{nothing, reading}
 use Rattle.association_reading.specs.Front.{all_fronts}

@@ -1,6 +1,6 @@
 -- A SET of two values: what is read is spelled so, what is spelled so is read, and it stays so, inside the octets.
 use Rattle.std.proofs.Common.{◌≡◌, ℕ, ◌+◌, Bool, true, false, List, length, Option, Some, None, Ok, Err, refl, sym, ap, ◌∙◌, subst, inl, inr}
-use Rattle.osi_base.specs.declared.words.Kind.TheVariants.{Extra}
+use Rattle.osi_base.specs.declared.layer_words.Kind.TheVariants.{Extra}
 use Rattle.asn1_types.specs.declared.row.Class.{Class}
 use Rattle.asn1_types.specs.declared.row.Class.TheVariants.{Context}
 use Rattle.asn1_types.specs.Value.{Value}

@@ -1,9 +1,9 @@
 -- Items of lists in units of the presentation protocol, and the values that they stand for (X.226 8.2 to 8.4).
 use Rattle.std.specs.Prelude.{ℕ, pos, List, [], ◌∷◌, map, Option, Some, None, option_map}
 use Rattle.osi_base.specs.declared.bit_string.BitString as strings
-use Rattle.osi_base.specs.declared.words.Proposal as proposals
-use Rattle.osi_base.specs.declared.words.AddAnswer as answers
-use Rattle.osi_base.specs.declared.words.RestoredItem as restored
+use Rattle.osi_base.specs.declared.layer_words.Proposal as proposals
+use Rattle.osi_base.specs.declared.layer_words.AddAnswer as answers
+use Rattle.osi_base.specs.declared.layer_words.RestoredItem as restored
 use Rattle.asn1_types.specs.Value.{Value, integer, bits, object_id, parts, list}
 use Rattle.asn1_types.specs.ValueView.{parts_of, values_of}
 use Rattle.fixed_tables.specs.Values.{part_in, small_or, octet_or, arcs_in, maybe_arcs, items_in}

@@ -1,7 +1,7 @@
 -- The laws of units of the presentation protocol.
 use Rattle.std.specs.Prelude.{◌≡◌, ℕ, ◌<◌, ◌≤◌, List, length, take, Ok, Err}
-use Rattle.osi_base.specs.declared.words.Kind.{Kind}
-use Rattle.osi_base.specs.declared.words.Kind.TheVariants.{Missing}
+use Rattle.osi_base.specs.declared.layer_words.Kind.{Kind}
+use Rattle.osi_base.specs.declared.layer_words.Kind.TheVariants.{Missing}
 use Rattle.osi_base.specs.declared.presentation_word.PresentationWord as units
 use Rattle.ber_spelling.specs.Octets.{AreOctets}
 use Rattle.presentation_pdus.specs.declared.place.PpduPlace.{PpduPlace}

@@ -1,13 +1,16 @@
 -- The units of the presentation protocol as rows of types (X.226 8.2 to 8.4), without the fields that are passed over
 -- and without default contexts.
 use Rattle.std.specs.Prelude.{ℕ, pos, negsuc, true, false, List, [], ◌∷◌, codes}
-use Rattle.osi_base.specs.Limits.{highest_context}
+use Rattle.osi_base.specs.Limits.{highest_context, most_spelled, most_signed}
 use Rattle.asn1_types.specs.declared.row.Class.TheVariants.{Application}
 use Rattle.asn1_types.specs.declared.row.Part.{Part}
 use Rattle.asn1_types.specs.declared.row.TypeRow.{TypeRow}
 use Rattle.asn1_types.specs.declared.row.TypeRow.TheVariants.{Integer, OctetString, BitString, ObjectId, Sequence, Set, SequenceOf, Choice, Tagged, Any}
-use Rattle.asn1_types.specs.Limits.{most_spelled}
 use Rattle.fixed_tables.specs.Rows.{part, implicit, explicit}
+
+-- how many rows the table has
+abbrev pub row_count : ℕ
+row_count = 64
 
 abbrev pub connect_row : ℕ
 connect_row = 44
@@ -98,7 +101,7 @@ rows_of_values others =
     ∷ OctetString most_spelled
     ∷ BitString
     ∷ Any
-    ∷ Integer (negsuc 9223372036854775807) (pos 9223372036854775807)
+    ∷ Integer (negsuc most_signed) (pos most_signed)
     -- 6: a result, the reason of a provider, the answer to a deletion, the mode
     ∷ Integer (pos 0) (pos 2)
     ∷ Integer (pos 0) (pos 3)

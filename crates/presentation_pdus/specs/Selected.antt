@@ -1,8 +1,8 @@
 -- A SET of two values, each once, in any order (X.690 8.11): the mode selector, [0], and the fields of normal mode, [2]
 -- (X.226 8.2.1).
 use Rattle.std.specs.Prelude.{◌≡◌, ℕ, ◌⊎◌, Bool, ◌&&◌, Option, Some, None, List, [], ◌∷◌, Ok, nat_eq, if◌then◌else◌}
-use Rattle.osi_base.specs.declared.words.Kind.{Kind}
-use Rattle.osi_base.specs.declared.words.Kind.TheVariants.{Tag, Extra}
+use Rattle.osi_base.specs.declared.layer_words.Kind.{Kind}
+use Rattle.osi_base.specs.declared.layer_words.Kind.TheVariants.{Tag, Extra}
 use Rattle.asn1_types.specs.declared.row.Class.TheVariants.{Context}
 use Rattle.asn1_types.specs.Rows.{same_class}
 use Rattle.asn1_types.specs.Value.{Value, parts}

@@ -1,12 +1,12 @@
 -- The units of the presentation protocol as octets (X.226 8.2 to 8.4), by the kind of session unit that carries them.
 use Rattle.std.specs.Prelude.{◌≡◌, ℕ, ◌≤◌, ◌⊎◌, Bool, true, false, ◌&&◌, List, [], length, Result, Ok, Err, nat_eq, if◌then◌else◌}
-use Rattle.osi_base.specs.declared.words.Kind.{Kind}
-use Rattle.osi_base.specs.declared.words.Kind.TheVariants as why
+use Rattle.osi_base.specs.declared.layer_words.Kind.{Kind}
+use Rattle.osi_base.specs.declared.layer_words.Kind.TheVariants as why
 use Rattle.osi_base.specs.declared.presentation_word.PresentationWord as units
+use Rattle.osi_base.specs.Limits.{most_levels, most_spelled}
 use Rattle.asn1_types.specs.declared.row.Class.TheVariants.{Context}
 use Rattle.asn1_types.specs.declared.row.TypeRow.{TypeRow}
 use Rattle.asn1_types.specs.Rows.{same_class}
-use Rattle.asn1_types.specs.Limits.{most_levels, most_spelled}
 use Rattle.asn1_types.specs.Value.{Value, chosen}
 use Rattle.asn1_types.specs.declared.row.Tag as tags
 use Rattle.ber_spelling.specs.Reading.{◌>>=◌}

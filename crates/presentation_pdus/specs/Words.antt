@@ -1,9 +1,9 @@
 -- The units that values stand for (X.226 8.2 to 8.4), and the values that say units. A list that lacks has no items, but in a restart
 -- or an abort; a list of no items isn't written.
 use Rattle.std.specs.Prelude.{◌==◌, ℕ, ℤ, pos, List, map, Option, Some, option_map, if◌then◌else◌, [], ◌∷◌}
-use Rattle.osi_base.specs.declared.words.Proposal as proposals
-use Rattle.osi_base.specs.declared.words.AddAnswer as answers
-use Rattle.osi_base.specs.declared.words.RestoredItem as restored
+use Rattle.osi_base.specs.declared.layer_words.Proposal as proposals
+use Rattle.osi_base.specs.declared.layer_words.AddAnswer as answers
+use Rattle.osi_base.specs.declared.layer_words.RestoredItem as restored
 use Rattle.osi_base.specs.declared.presentation_word.Pdv as pdvs
 use Rattle.osi_base.specs.declared.presentation_word.PresentationConnect as connects
 use Rattle.osi_base.specs.declared.presentation_word.PresentationAccept as accepts

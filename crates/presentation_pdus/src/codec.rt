@@ -1,7 +1,7 @@
 //! Units of the presentation protocol read and written.
 
 ghost use Rattle.std.specs.Prelude.{◌≡◌, IfOk};
-ghost use Rattle.asn1_types.specs.Limits.{most_spelled};
+ghost use Rattle.osi_base.specs.Limits.{most_spelled};
 ghost use Rattle.fixed_tables.specs.Whole.{GivesWhole, of_whole};
 ghost use Rattle.passed_fields.specs.Front.{all_at};
 ghost use Rattle.presentation_pdus.specs.Rows.{ppdu_rows};
@@ -9,7 +9,7 @@ ghost use Rattle.presentation_pdus.specs.Units.{ppdu_run, reason_of, of_fault, p
 ghost use Rattle.presentation_pdus.specs.Words.{written_ppdu};
 
 use crate::place::{PpduFault, PpduPlace};
-use crate::read::front;
+use crate::reading::front;
 use crate::table::PpduTable;
 use crate::words::{row_of, said, value_of};
 use asn1_types::{TypeTable, Val};

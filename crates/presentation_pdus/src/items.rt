@@ -8,8 +8,8 @@ ghost use Rattle.fixed_tables.specs.Pdvs.{pdv_value, pdv_in};
 
 use asn1_types::Val;
 use fixed_tables::{
-    InValue, integer, list_in, list_of, maybe_oid, name_part, object_id, octet, oid_in, part_in,
-    pdv_in, pdv_value, sequence, small,
+    InValue, integer, list_in, list_of, maybe_oid, name_part, object_id, octet_or, oid_in, part_in,
+    pdv_in, pdv_value, sequence, small_number_or,
 };
 use osi_base::{AddAnswer, ListOf, NoMemory, Oid, Pdv, Proposal, RestoredItem};
 use std::alloc::Global;
@@ -25,7 +25,7 @@ impl InValue for Identifiers {
     ghost says = { number_value };
 
     fn item(_alloc: Global, value: &Val) -> Result<u32, NoMemory> {
-        Ok(small(Some(value), 0))
+        Ok(small_number_or(Some(value), 0))
     }
 
     fn val(_alloc: Global, item: &u32) -> Result<Val, NoMemory> {
@@ -44,7 +44,7 @@ impl InValue for Deletions {
     ghost says = { number_value };
 
     fn item(_alloc: Global, value: &Val) -> Result<u8, NoMemory> {
-        Ok(octet(Some(value), 0))
+        Ok(octet_or(Some(value), 0))
     }
 
     fn val(_alloc: Global, item: &u8) -> Result<Val, NoMemory> {
@@ -83,7 +83,7 @@ impl InValue for Definitions {
 
     fn item(alloc: Global, value: &Val) -> Result<Proposal, NoMemory> {
         Ok(Proposal {
-            id: small(part_in(0, Some(value)), 0),
+            id: small_number_or(part_in(0, Some(value)), 0),
             abstract_name: oid_in(alloc, part_in(1, Some(value)))?,
             transfers: list_in::<Names>(alloc, part_in(2, Some(value)))?,
         })
@@ -115,7 +115,7 @@ pub(crate) fn why_in(value: Option<&Val>) -> Option<u8>
     ensures { result ≡ option_map octet_in (option_copied value.entry) }
 {
     match value {
-        Some(value) => Some(octet(Some(value), 0)),
+        Some(value) => Some(octet_or(Some(value), 0)),
         None => None,
     }
 }
@@ -132,7 +132,7 @@ impl InValue for Results {
 
     fn item(alloc: Global, value: &Val) -> Result<AddAnswer, NoMemory> {
         Ok(AddAnswer {
-            result: octet(part_in(0, Some(value)), 0),
+            result: octet_or(part_in(0, Some(value)), 0),
             transfer: maybe_oid(alloc, part_in(1, Some(value)))?,
             reason: why_in(part_in(2, Some(value))),
         })
@@ -160,7 +160,7 @@ impl InValue for Restored {
 
     fn item(alloc: Global, value: &Val) -> Result<RestoredItem, NoMemory> {
         Ok(RestoredItem {
-            id: small(part_in(0, Some(value)), 0),
+            id: small_number_or(part_in(0, Some(value)), 0),
             transfer: oid_in(alloc, part_in(1, Some(value)))?,
         })
     }

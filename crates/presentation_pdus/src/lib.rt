@@ -6,7 +6,7 @@ mod fields;
 mod items;
 mod laws;
 mod place;
-mod read;
+mod reading;
 mod table;
 mod words;
 

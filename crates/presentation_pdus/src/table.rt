@@ -5,7 +5,7 @@ ghost use Rattle.fixed_tables.specs.Rows.{part};
 ghost use Rattle.presentation_pdus.specs.Rows.{content_parts, pdv_parts, definition_parts, answer_parts, restored_parts, mode_parts, connect_fields_parts, connect_parts, accept_fields_parts, accept_parts, reject_parts, alter_parts, alter_ack_parts, restart_parts, user_abort_parts, provider_abort_parts, rows_of_values, rows_of_definitions, rows_of_fields, rows_of_connections, rows_of_alterations, rows_of_restarts, ppdu_rows};
 
 use asn1_types::{Class, Parts, TypeId, TypeRow, TypeTable};
-use fixed_tables::{behind, implicit, part, parts_of, table_of, tagged};
+use fixed_tables::{implicit, joined_rows, part, parts_of, table_of, tagged};
 use osi_base::NoMemory;
 use std::alloc::Global;
 use std::marker::Model;
@@ -333,15 +333,15 @@ fn rows(alloc: Global) -> Result<Vec<TypeRow>, NoMemory>
 {
     let values = rows_of_values(alloc)?;
     let definitions = rows_of_definitions(alloc)?;
-    let until_mode = behind(values, definitions)?;
+    let until_mode = joined_rows(values, definitions)?;
     let fields = rows_of_fields(alloc)?;
-    let until_fields = behind(until_mode, fields)?;
+    let until_fields = joined_rows(until_mode, fields)?;
     let connections = rows_of_connections(alloc)?;
-    let until_connections = behind(until_fields, connections)?;
+    let until_connections = joined_rows(until_fields, connections)?;
     let alterations = rows_of_alterations(alloc)?;
-    let until_alterations = behind(until_connections, alterations)?;
+    let until_alterations = joined_rows(until_connections, alterations)?;
     let restarts = rows_of_restarts(alloc)?;
-    let all = behind(until_alterations, restarts)?;
+    let all = joined_rows(until_alterations, restarts)?;
     Ok(all)
 }
 

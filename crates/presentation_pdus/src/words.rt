@@ -12,7 +12,7 @@ use crate::items::{
 };
 use asn1_types::{TypeId, Val};
 use fixed_tables::{
-    alternative, bits, inside, integer, list_in, list_of, maybe_bits, maybe_octets, number,
+    alternative, bits, chosen_in, integer, list_in, list_of, maybe_bits, maybe_octets, number_or,
     number_part, octets, part_in, sequence,
 };
 use osi_base::{
@@ -25,7 +25,7 @@ fn maybe_number(value: Option<&Val>) -> Option<i64>
     ensures { result ≡ option_map integer_in (option_copied value.entry) }
 {
     match value {
-        Some(value) => Some(number(Some(value), 0)),
+        Some(value) => Some(number_or(Some(value), 0)),
         None => None,
     }
 }
@@ -122,7 +122,7 @@ fn said_by(alloc: Global, which: u32, v: Option<&Val>) -> Result<PresentationWor
 pub(crate) fn said(alloc: Global, value: &Val) -> Result<PresentationWord, NoMemory>
     ensures { IfOk result (λ x. x ≡ said value.now) }
 {
-    said_by(alloc, alternative(Some(value)), inside(Some(value)))
+    said_by(alloc, alternative(Some(value)), chosen_in(Some(value)))
 }
 
 fn bits_part(alloc: Global, string: &Option<BitString>) -> Result<Option<Val>, NoMemory>

@@ -10,7 +10,7 @@ use Rattle.end_rules.specs.Base.{Base, Spellings, Item, Whole}
 use Rattle.end_rules.specs.Messages.{Message, TransportUnit, AssociationWord, Transport, Session, Word, OfAssociation, OfActivities, End}
 use Rattle.end_rules.specs.Messages.{unit_of}
 use Rattle.end_rules.specs.State.{Body, Carrying}
-use Rattle.end_rules.specs.Sets.{pair_of}
+use Rattle.osi_base.specs.SetPlaces.{pair_of}
 use Rattle.end_rules.specs.Purging.{is_purged}
 use Rattle.end_rules.specs.TakesActivities.{arrived_now}
 use Rattle.end_rules.specs.Reacting.{Passes, Takes, react, on_word, word_fault}

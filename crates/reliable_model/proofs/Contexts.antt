@@ -5,12 +5,13 @@ use Rattle.std.specs.Prelude.{Bool, not, ◌&&◌, ◌||◌, Option, Some, None,
 use Rattle.std.proofs.lemmas.Bool.Decides.{nat_tests}
 use Rattle.osi_base.specs.declared.syntax.Pair.{Pair}
 use Rattle.osi_base.specs.declared.syntax.Syntax.TheVariants.{Ber}
-use Rattle.osi_base.specs.declared.words.SetItem.{SetItem}
-use Rattle.osi_base.specs.declared.words.Proposal.{Proposal}
-use Rattle.osi_base.specs.declared.words.AddAnswer.{AddAnswer}
+use Rattle.osi_base.specs.declared.layer_words.SetItem.{SetItem}
+use Rattle.osi_base.specs.declared.layer_words.Proposal.{Proposal}
+use Rattle.osi_base.specs.declared.layer_words.AddAnswer.{AddAnswer}
 use Rattle.dialogue.specs.declared.config.Mode.TheVariants.{Reliable}
 use Rattle.end_rules.specs.Base.{Base, acse_name, rtse_name, ber_name}
-use Rattle.end_rules.specs.Sets.{Alteration, same_name, is_among, pair_of, put, put_accepted, pair_accepted, with_added, accepted_set}
+use Rattle.end_rules.specs.Sets.{Alteration, same_name, is_among, put, put_accepted, pair_accepted, with_added, accepted_set}
+use Rattle.osi_base.specs.SetPlaces.{pair_of}
 use Rattle.end_rules.specs.Sets.{proposed_ids, has_abstract, lowest_with, is_deleted_in}
 use Rattle.end_rules.specs.Altering.{has_double}
 use Rattle.end_rules.specs.Writing.{proposal_in_ber}

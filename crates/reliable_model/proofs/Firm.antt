@@ -3,13 +3,14 @@ use Rattle.std.proofs.Common.{◌≡◌, refl, true, false, ◌∙◌, sym, ap, 
 use Rattle.std.specs.Prelude.{ℤ, Bool, not, ◌&&◌, Option, Some, None, is_some, Ok, Err, Result, filter, nat_eq, if◌then◌else◌}
 use Rattle.std.proofs.lemmas.Bool.Decides.{nat_tests}
 use Rattle.osi_base.specs.declared.syntax.Pair.{Pair}
-use Rattle.osi_base.specs.declared.words.SetItem.{SetItem}
-use Rattle.osi_base.specs.declared.words.Problem.{Problem}
+use Rattle.osi_base.specs.declared.layer_words.SetItem.{SetItem}
+use Rattle.osi_base.specs.declared.layer_words.Problem.{Problem}
 use Rattle.stub_tables.specs.declared.operation.Code.{Code}
 use Rattle.stub_tables.specs.Lookup.{operation_at, operation_with, error_with}
 use Rattle.dialogue.specs.declared.config.Mode.TheVariants.{Reliable}
-use Rattle.end_rules.specs.Base.{Base, Fault, Arrived, Whole, Raw, Carried, Head, General, BadReject, InvokeHead, ResultHead, ErrorHead, RejectHead}
-use Rattle.end_rules.specs.Sets.{Alteration, same_name, is_among, named_ids, pair_of, has_abstract, is_fixed}
+use Rattle.end_rules.specs.Base.{Base, Fault, Arrived, Whole, Raw, Carried, HeardHead, General, BadReject, InvokeHead, ResultHead, ErrorHead, RejectHead}
+use Rattle.end_rules.specs.Sets.{Alteration, same_name, is_among, named_ids, has_abstract, is_fixed}
+use Rattle.osi_base.specs.SetPlaces.{pair_of}
 use Rattle.end_rules.specs.State.{Body, OpenCall, Calls, Queued, Piece, Octets, Marked, Transfer}
 use Rattle.end_rules.specs.State.{is_key, opened_with, orphaned, closed, close, from_mark, up_to, newest_set, highest, pieces_of, confirmed_of}
 use Rattle.end_rules.specs.State.{resumed_set, on_transfer, on_current}
@@ -172,7 +173,7 @@ module _ (name : List ℕ) (first : List SetItem) (base : Base) (calls : Calls) 
       go true = close-loose true id
       go false = loose
 
-  heard-loose : (context : ℕ) (head : Head) → IsLoose name first context → HeardLoose name first (hear base calls context head)
+  heard-loose : (context : ℕ) (head : HeardHead) → IsLoose name first context → HeardLoose name first (hear base calls context head)
   heard-loose context (General number) l = loose
   heard-loose context BadReject l = loose
   heard-loose context (InvokeHead id linked code argument) l =
@@ -263,7 +264,7 @@ module _ (name : List ℕ) (first : List SetItem) where
 
   -- ---- an APDU that is taken
 
-  pub head-firm : (base : Base) (body : Body) (context : ℕ) (head : Head) → IsLoose name first context → Firm name first body → Firm name first (take_head (at Reliable base) body context head).body
+  pub head-firm : (base : Base) (body : Body) (context : ℕ) (head : HeardHead) → IsLoose name first context → Firm name first body → Firm name first (take_head (at Reliable base) body context head).body
   head-firm base body context head l h = go (hear (at Reliable base) body.calls context head).reject
     where
       opens : OpensLoose name first (hear (at Reliable base) body.calls context head).calls.opens

@@ -2,9 +2,9 @@
 use Rattle.std.proofs.Common.{◌≡◌, refl, true, false, ◌∙◌, sym, ap, subst, arith, ℕ, suc, ◌≤◌, List, [], ◌∷◌, ◌++◌, length}
 use Rattle.std.specs.Prelude.{ℤ, Bool, not, ◌&&◌, ◌||◌, Option, Some, None, Ok, nat_eq, nat_le, if◌then◌else◌}
 use Rattle.std.proofs.lemmas.Bool.Decides.{nat_tests}
-use Rattle.osi_base.specs.declared.words.SetItem.{SetItem}
-use Rattle.osi_base.specs.declared.words.Answers.{Answers}
-use Rattle.osi_base.specs.Limits.{most_marks}
+use Rattle.osi_base.specs.declared.layer_words.SetItem.{SetItem}
+use Rattle.osi_base.specs.declared.layer_words.Answers.{Answers}
+use Rattle.osi_base.specs.Limits.{most_marks, most_alterations}
 use Rattle.asn1_types.specs.declared.value.Val.{Val}
 use Rattle.stub_tables.specs.declared.apdu.Apdu.{Apdu}
 use Rattle.stub_tables.specs.declared.operation.Operation.{Operation}
@@ -14,8 +14,9 @@ use Rattle.dialogue.specs.declared.call.Call.{Call}
 use Rattle.dialogue.specs.declared.call.Call.TheVariants as the_calls
 use Rattle.dialogue.specs.declared.call.CallRefusal.{CallRefusal}
 use Rattle.dialogue.specs.declared.call.CallRefusal.TheVariants as refusals
-use Rattle.end_rules.specs.Base.{Base, Fault, Arrived, most_alterations}
-use Rattle.end_rules.specs.Sets.{Alteration, is_among, named_ids, proposed_ids, pair_of, is_fixed, altered}
+use Rattle.end_rules.specs.Base.{Base, Fault, Arrived}
+use Rattle.end_rules.specs.Sets.{Alteration, is_among, named_ids, proposed_ids, is_fixed, altered}
+use Rattle.osi_base.specs.SetPlaces.{pair_of}
 use Rattle.end_rules.specs.Messages.{DataValue, Word, OfAssociation, OfData, OfMarks, OfActivities, Finish, Disconnect}
 use Rattle.end_rules.specs.Messages.{Abort, Values, AlterContext, AlterContextAck, Mark, MarkAck, Please, GiveConfirm, GiveAck, Start, Resume}
 use Rattle.end_rules.specs.Messages.{End, EndAck, Interrupt, InterruptAck, Discard, DiscardAck, Session, unit_of}

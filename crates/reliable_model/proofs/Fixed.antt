@@ -7,14 +7,15 @@ use Rattle.std.proofs.lemmas.Bool.Decides.{nat_tests}
 use Rattle.std.proofs.lemmas.List.{append-nil}
 use Rattle.osi_base.specs.declared.syntax.Pair.{Pair}
 use Rattle.osi_base.specs.declared.syntax.Syntax.{Syntax}
-use Rattle.osi_base.specs.declared.words.SetItem.{SetItem}
-use Rattle.osi_base.specs.declared.words.Proposal.{Proposal}
-use Rattle.osi_base.specs.declared.words.AddAnswer.{AddAnswer}
-use Rattle.osi_base.specs.declared.words.Answers.{Answers}
+use Rattle.osi_base.specs.declared.layer_words.SetItem.{SetItem}
+use Rattle.osi_base.specs.declared.layer_words.Proposal.{Proposal}
+use Rattle.osi_base.specs.declared.layer_words.AddAnswer.{AddAnswer}
+use Rattle.osi_base.specs.declared.layer_words.Answers.{Answers}
 use Rattle.osi_base.specs.Limits.{highest_context}
 use Rattle.dialogue.specs.declared.call.CallRefusal.{CallRefusal}
 use Rattle.end_rules.specs.Base.{Base, acse_name, rtse_name}
-use Rattle.end_rules.specs.Sets.{Alteration, same_name, is_among, pair_of, put, without_context, put_accepted, pair_accepted, accepted_pair}
+use Rattle.end_rules.specs.Sets.{Alteration, same_name, is_among, put, put_accepted, pair_accepted, accepted_pair}
+use Rattle.osi_base.specs.SetPlaces.{pair_of, without_context}
 use Rattle.end_rules.specs.Sets.{named_syntax, with_added, with_deleted, altered, named_ids, proposed_ids, is_named_in, has_abstract, is_fixed, has_parity}
 use Rattle.end_rules.specs.Altering.{has_double, is_no_context, is_bad, has_bad_transfers, used, addition_refusal, additions_refusal}
 use Rattle.end_rules.specs.Altering.{deletion_refusal, deletions_refusal, or_else}

@@ -2,8 +2,8 @@
 use Rattle.std.proofs.Common.{◌≡◌, refl, true, false, ◌∙◌, sym, ap, subst, arith, ℕ, ◌≤◌, List, [], ◌∷◌, ◌++◌, map, ◌⊎◌, inl}
 use Rattle.std.specs.Prelude.{Bool, not, ◌&&◌, ◌||◌, min, Option, Some, None, is_some, nat_eq, unwrap_or, if◌then◌else◌}
 use Rattle.std.proofs.lemmas.Bool.Decides.{nat_tests}
-use Rattle.osi_base.specs.declared.words.Proposal.{Proposal}
-use Rattle.osi_base.specs.declared.words.SetItem.{SetItem}
+use Rattle.osi_base.specs.declared.layer_words.Proposal.{Proposal}
+use Rattle.osi_base.specs.declared.layer_words.SetItem.{SetItem}
 use Rattle.osi_base.specs.declared.session_word.SessionConnect.{SessionConnect}
 use Rattle.osi_base.specs.declared.presentation_word.PresentationConnect.{PresentationConnect}
 use Rattle.osi_base.specs.declared.presentation_word.PresentationAccept.{PresentationAccept}
@@ -19,7 +19,8 @@ use Rattle.end_rules.specs.Messages.{TransportUnit, ConnectionRequest, Connectio
 use Rattle.end_rules.specs.Messages.{Connect, Accept, Refuse, Abort, Accepting, Message, Transport, Session, unit_of}
 use Rattle.end_rules.specs.State.{Body, Stage, Unused, Asked, Joined, Carrying, passes_over, is_joined}
 use Rattle.end_rules.specs.State.{is_carrying, is_unused, is_asked, is_broken}
-use Rattle.end_rules.specs.Sets.{fit_proposals, lowest_with, has_abstract, pair_of}
+use Rattle.end_rules.specs.Sets.{fit_proposals, lowest_with, has_abstract}
+use Rattle.osi_base.specs.SetPlaces.{pair_of}
 use Rattle.end_rules.specs.Units.{selected_with, proposed_units, needed_units, has_units, has_version_two, manages_with}
 use Rattle.end_rules.specs.World.{Shared}
 use Rattle.end_rules.specs.Altering.{has_double}

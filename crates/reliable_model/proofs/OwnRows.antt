@@ -4,12 +4,12 @@ use Rattle.std.proofs.Common.{◌++◌, map, length, take, drop}
 use Rattle.std.specs.Prelude.{Bool, not, ◌&&◌, Option, Some, None, is_some, nat_lt, if◌then◌else◌}
 use Rattle.std.proofs.Math.Seq.{drop-append_seam}
 use Rattle.std.proofs.lemmas.List.{append-nil, append_assoc, length-append, take-append-drop}
-use Rattle.osi_base.specs.declared.words.SetItem.{SetItem}
-use Rattle.osi_base.specs.declared.words.Proposal.{Proposal}
+use Rattle.osi_base.specs.declared.layer_words.SetItem.{SetItem}
+use Rattle.osi_base.specs.declared.layer_words.Proposal.{Proposal}
 use Rattle.osi_base.specs.Limits.{most_marks, most_transferred, last_activity}
 use Rattle.dialogue.specs.declared.config.Mode.TheVariants.{Reliable}
 use Rattle.end_rules.specs.Base.{Base}
-use Rattle.end_rules.specs.Sets.{pair_of}
+use Rattle.osi_base.specs.SetPlaces.{pair_of}
 use Rattle.end_rules.specs.State.{Body, Octets, Marked, Progress, Running, Ending, Suspended, Encoded, Transfer}
 use Rattle.end_rules.specs.State.{Queued, joined, highest, pieces_of, on_current, is_empty, is_running}
 use Rattle.end_rules.specs.Messages.{Session, OfMarks, OfActivities, Part, Mark, Start, End}

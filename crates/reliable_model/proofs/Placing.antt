@@ -3,7 +3,7 @@
 use Rattle.std.proofs.Common.{◌≡◌, refl, true, false, ◌∙◌, sym, ap, subst, ℕ, List, [], ◌∷◌, ◌⊎◌, inl, inr}
 use Rattle.std.specs.Prelude.{ℤ, Bool, not, ◌||◌, Option, Some, None, Result, Ok, is_some, if◌then◌else◌}
 use Rattle.osi_base.specs.declared.syntax.Pair.{Pair}
-use Rattle.osi_base.specs.declared.words.SetItem.{SetItem}
+use Rattle.osi_base.specs.declared.layer_words.SetItem.{SetItem}
 use Rattle.stub_tables.specs.declared.tables.Tables.{Tables}
 use Rattle.dialogue.specs.declared.config.Config.{Config}
 use Rattle.dialogue.specs.declared.config.Mode.TheVariants.{Reliable}
@@ -12,7 +12,8 @@ use Rattle.dialogue.specs.declared.config.Phase.TheVariants.{Idle, Opening, Up, 
 use Rattle.dialogue.specs.declared.call.Call.{Call}
 use Rattle.dialogue.specs.declared.indication.Indication.{Indication}
 use Rattle.end_rules.specs.Base.{Base, Spellings, Fault, Item, Arrived, Whole}
-use Rattle.end_rules.specs.Sets.{Alteration, carrier, pair_of, accepted_set, may_send, lowest_with, has_abstract}
+use Rattle.end_rules.specs.Sets.{Alteration, carrier, accepted_set, may_send, lowest_with, has_abstract}
+use Rattle.osi_base.specs.SetPlaces.{pair_of}
 use Rattle.end_rules.specs.Messages.{Message, Transport, Session, TransportUnit, ConnectionRequest, ConnectionConfirm, DisconnectRequest, TransportError}
 use Rattle.end_rules.specs.Messages.{Word, OfAssociation, OfData, OfMarks, OfActivities, Accept, Refuse, Finish, Disconnect, Abort}
 use Rattle.end_rules.specs.Messages.{Values, AlterContext, AlterContextAck, Mark, MarkAck, Please, GiveConfirm, GiveAck}

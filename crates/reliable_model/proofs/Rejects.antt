@@ -1,16 +1,17 @@
 -- A reject that an APDU brings has a problem of X.880; what an end transfers stays transferable.
 use Rattle.std.proofs.Common.{◌≡◌, refl, true, false, ◌∙◌, sym, ap, subst, arith, ℕ, ◌≤◌, List, [], ◌∷◌}
 use Rattle.std.specs.Prelude.{Bool, not, ◌&&◌, Option, Some, None, length, nat_le, if◌then◌else◌}
-use Rattle.osi_base.specs.declared.words.ProblemKind.{ProblemKind}
-use Rattle.osi_base.specs.declared.words.ProblemKind.TheVariants as problems
+use Rattle.osi_base.specs.declared.layer_words.ProblemKind.{ProblemKind}
+use Rattle.osi_base.specs.declared.layer_words.ProblemKind.TheVariants as problems
 use Rattle.osi_base.specs.declared.syntax.Syntax.TheVariants.{Der}
+use Rattle.osi_base.specs.Limits.{most_open}
 use Rattle.dialogue.specs.declared.config.Mode.{Mode}
 use Rattle.dialogue.specs.declared.config.Mode.TheVariants.{Reliable}
 use Rattle.dialogue.specs.declared.indication.Indication.{Indication}
 use Rattle.stub_tables.specs.declared.apdu.Apdu.{Apdu}
 use Rattle.stub_tables.specs.declared.apdu.Apdu.TheVariants as apdus
 use Rattle.stub_tables.specs.Lookup.{operation_at}
-use Rattle.end_rules.specs.Base.{Base, Head, General, BadReject, InvokeHead, ResultHead, ErrorHead, RejectHead, most_open}
+use Rattle.end_rules.specs.Base.{Base, HeardHead, General, BadReject, InvokeHead, ResultHead, ErrorHead, RejectHead}
 use Rattle.end_rules.specs.State.{Body, Calls, Transfer}
 use Rattle.end_rules.specs.Hearing.{Heard, Rejecting, is_silent_at, has_links, on_heard}
 use Rattle.agreement.specs.Messages as model
@@ -54,7 +55,7 @@ first-code : List Handed → ℕ
 first-code [] = 0
 first-code (item ∷ items) = code-in item.apdu
 
-outcome-small : (head : Head) → code-of (outcome_due head) ≤ last_problem
+outcome-small : (head : HeardHead) → code-of (outcome_due head) ≤ last_problem
 unfolding code-of
 outcome-small (General n) = omega arith
 outcome-small BadReject = omega arith

@@ -2,9 +2,9 @@
 use Rattle.std.proofs.Common.{◌≡◌, refl, true, false, ◌∙◌, sym, ap, subst, ℕ, List, [], ◌∷◌, ◌++◌, map, ◌⊎◌, inl, inr}
 use Rattle.std.specs.Prelude.{ℤ, Bool, not, ◌||◌, Option, Some, None, Ok, if◌then◌else◌, length, nat_eq, unwrap_or}
 use Rattle.osi_base.specs.declared.syntax.Pair.{Pair}
-use Rattle.osi_base.specs.declared.words.Proposal.{Proposal}
-use Rattle.osi_base.specs.declared.words.Answers.{Answers}
-use Rattle.osi_base.specs.declared.words.SetItem.{SetItem}
+use Rattle.osi_base.specs.declared.layer_words.Proposal.{Proposal}
+use Rattle.osi_base.specs.declared.layer_words.Answers.{Answers}
+use Rattle.osi_base.specs.declared.layer_words.SetItem.{SetItem}
 use Rattle.stub_tables.specs.declared.tables.Tables.{Tables}
 use Rattle.dialogue.specs.declared.config.Config.{Config}
 use Rattle.dialogue.specs.declared.config.Mode.TheVariants.{Reliable}
@@ -17,7 +17,8 @@ use Rattle.end_rules.specs.Messages.{Start, Resume, End, EndAck, Interrupt, Inte
 use Rattle.end_rules.specs.Messages.{Message, Session, unit_of}
 use Rattle.end_rules.specs.State.{Body, Link, Calls, Suspended, joined, between, passes_over}
 use Rattle.end_rules.specs.State.{is_joined, is_carrying}
-use Rattle.end_rules.specs.Sets.{Alteration, fit_proposals, pair_of}
+use Rattle.end_rules.specs.Sets.{Alteration, fit_proposals}
+use Rattle.osi_base.specs.SetPlaces.{pair_of}
 use Rattle.end_rules.specs.World.{Shared}
 use Rattle.end_rules.specs.Policy.{policy}
 use Rattle.end_rules.specs.Faults.{transport_fault}

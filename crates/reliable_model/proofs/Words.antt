@@ -1,7 +1,7 @@
 -- Words of an association that stands, as an end of this product sends them in reliable mode; what is passed over of them.
 use Rattle.std.proofs.Common.{◌≡◌, true, ◌∙◌, sym, ap, ℕ, List, [], ◌∷◌, ◌++◌, ◌⊎◌}
 use Rattle.std.specs.Prelude.{Bool, Some}
-use Rattle.osi_base.specs.declared.words.Proposal.{Proposal}
+use Rattle.osi_base.specs.declared.layer_words.Proposal.{Proposal}
 use Rattle.dialogue.specs.declared.config.Mode.TheVariants.{Reliable}
 use Rattle.dialogue.specs.declared.config.Phase.TheVariants.{Up, Releasing, Over}
 use Rattle.end_rules.specs.Base.{Base}

@@ -1,12 +1,12 @@
 -- How transfers are spelled, and the codec of the model that has these spellings.
 use Rattle.std.specs.Prelude.{◌≡◌, ℕ, ◌≤◌, List, length, true, false, Some, Ok}
 use Rattle.osi_base.specs.declared.syntax.Pair.{Pair}
-use Rattle.osi_base.specs.declared.words.SetItem.{SetItem}
+use Rattle.osi_base.specs.declared.layer_words.SetItem.{SetItem}
 use Rattle.osi_base.specs.Limits.{most_transferred, highest_context}
 use Rattle.stub_tables.specs.declared.apdu.Apdu.{Apdu}
 use Rattle.stub_tables.specs.declared.apdu.Apdu.TheVariants as apdus
 use Rattle.end_rules.specs.Base.{Base, Item, Whole}
-use Rattle.end_rules.specs.Sets.{pair_of}
+use Rattle.osi_base.specs.SetPlaces.{pair_of}
 use Rattle.end_rules.specs.Invoking.{is_too_long}
 use Rattle.agreement.specs.Messages as model
 use Rattle.end_model.specs.Seen.{Free, number_seen, set_seen, item_seen}

@@ -1,12 +1,12 @@
 -- All that an end of reliable mode does by itself, as acts of the model.
 use Rattle.std.specs.Prelude.{◌≡◌, List, ◌++◌, map, option_map, Some}
 use Rattle.osi_base.specs.declared.syntax.Pair.{Pair}
-use Rattle.osi_base.specs.declared.words.SetItem.{SetItem}
-use Rattle.osi_base.specs.declared.words.Proposal.{Proposal}
+use Rattle.osi_base.specs.declared.layer_words.SetItem.{SetItem}
+use Rattle.osi_base.specs.declared.layer_words.Proposal.{Proposal}
 use Rattle.dialogue.specs.declared.config.Mode.TheVariants.{Reliable}
 use Rattle.end_rules.specs.Base.{Base}
 use Rattle.end_rules.specs.State.{Body}
-use Rattle.end_rules.specs.Sets.{pair_of}
+use Rattle.osi_base.specs.SetPlaces.{pair_of}
 use Rattle.end_rules.specs.ByItself.{OwnAct, SendsNow, EncodesOn, next_own}
 use Rattle.end_rules.specs.History.{after_step, step_of}
 use Rattle.agreement.specs.Messages.{Act}

@@ -5,7 +5,7 @@ use Rattle.dialogue.specs.declared.indication.Indication.{Indication}
 use Rattle.stub_tables.specs.declared.tables.Tables.{Tables}
 use Rattle.stub_tables.specs.declared.apdu.Apdu.{Apdu}
 use Rattle.end_rules.specs.Base.{Spellings, Item, Whole}
-use Rattle.end_rules.specs.Sets.{pair_of}
+use Rattle.osi_base.specs.SetPlaces.{pair_of}
 use Rattle.end_rules.specs.Messages.{Message, Session, OfActivities, End}
 use Rattle.end_rules.specs.State.{Body, Queued}
 use Rattle.end_rules.specs.TakesActivities.{arrived_now}

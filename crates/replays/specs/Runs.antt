@@ -1,6 +1,6 @@
 -- What a run of a schedule comes to, in each mode.
 use Rattle.std.specs.Prelude.{◌≡◌, List, []}
-use Rattle.osi_base.specs.declared.words.Side.TheVariants.{A, B}
+use Rattle.osi_base.specs.declared.layer_words.Side.TheVariants.{A, B}
 use Rattle.stub_tables.specs.declared.tables.Tables.{Tables}
 use Rattle.stub_tables.specs.Readable.{IsReadable}
 use Rattle.dialogue.specs.declared.config.Mode.{Mode}

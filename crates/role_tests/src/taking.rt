@@ -13,7 +13,7 @@ use apdu_codec::{ApduHead, ApduKind, read_apdu, write_apdu};
 use asn1_types::{Node, Val};
 use linked_ops::{Forest, Key};
 use osi_base::{NoMemory, Problem, Syntax};
-use rose_roles::{InvokedWith, Invoker, Performer, RoseTaken, refused};
+use rose_roles::{InvokedWith, Invoker, Performer, RoseTaken, refused_head};
 use std::alloc::Global;
 use std::process::Abort;
 use std::test::*;
@@ -334,7 +334,7 @@ fn take(
                 both.own.take(&mut both.forest, syntax, tables, head)
             }
         }
-        Err(fault) => refused(fault),
+        Err(fault) => refused_head(fault),
     }
 }
 

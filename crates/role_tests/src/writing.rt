@@ -4,7 +4,7 @@
 use crate::sample::{integer, module};
 use Sample::{Error, Invoke, Returns};
 use Syntax::{Ber, Der, Packed};
-use apdu_codec::{apdu_len, write_apdu};
+use apdu_codec::{apdu_len, is_too_long, write_apdu};
 use osi_base::Syntax;
 use std::alloc::Global;
 use std::process::Abort;
@@ -120,7 +120,7 @@ fn apdu(sample: Sample) -> Apdu {
     }
 }
 
-/// Whether an APDU of the module is written as these octets, and has as many.
+/// Whether an APDU of the module is written as these octets, has as many, and so not too many.
 fn is_written(
     rt: &impl Abort,
     alloc: Global,
@@ -132,8 +132,9 @@ fn is_written(
     let apdu = apdu(sample);
     let written = write_apdu(alloc, syntax, tables, &apdu).expect(rt, "memory");
     let length = apdu_len(syntax, tables, &apdu);
+    let is_long = is_too_long(tables, &apdu);
     drop(apdu);
-    written.as_slice() == octets && length == octets.len() as u64
+    written.as_slice() == octets && length == octets.len() as u64 && !is_long
 }
 
 #[test]

@@ -2,8 +2,8 @@
 use Rattle.std.proofs.Common.{◌≡◌, ℕ, ℤ, Bool, true, false, not, ◌&&◌, cond, List, Option, Some, None, is_some, refl, sym, ap, subst, ◌∙◌}
 use Rattle.std.specs.Option.{option_map}
 use Rattle.osi_base.specs.declared.syntax.Syntax.{Syntax}
-use Rattle.osi_base.specs.declared.words.Problem.{Problem}
-use Rattle.osi_base.specs.declared.words.ProblemKind.TheVariants as problems
+use Rattle.osi_base.specs.declared.layer_words.Problem.{Problem}
+use Rattle.osi_base.specs.declared.layer_words.ProblemKind.TheVariants as problems
 use Rattle.asn1_types.specs.declared.value.Val.{Val}
 use Rattle.stub_tables.specs.declared.tables.Tables.{Tables}
 use Rattle.stub_tables.specs.declared.operation.Code.{Code}
@@ -23,7 +23,7 @@ use Rattle.end_rules.specs.Hearing as rules
 use Rattle.rose_roles.specs.declared.invoked_with.InvokedWith.{InvokedWith}
 use Rattle.rose_roles.specs.declared.apdu_problems.Judged as judgeds
 use Rattle.rose_roles.specs.declared.apdu_problems.Judged.TheVariants as judged
-use Rattle.rose_roles.specs.declared.taken.RoseTaken.TheVariants as taken
+use Rattle.rose_roles.specs.declared.apdu_taken.RoseTaken.TheVariants as taken
 use Rattle.rose_roles.specs.Calls.{Kept, Invoking, called, AreOpen, calls_of}
 use Rattle.rose_roles.specs.Heads.{Carries, use_by, parameter_placed, invoke_by, result_by, error_by, reject_by, head_by, said_by, is_invocation}
 use Rattle.rose_roles.specs.ApduProblems as judging

@@ -3,11 +3,11 @@ use Rattle.std.proofs.Common.{◌≡◌, ℕ, ℤ, suc, ◌+◌, ◌≤◌, ◌<
 use Rattle.std.specs.Prelude.{nat_le, filter}
 use Rattle.std.proofs.lemmas.Bool.Decides.{nat_tests}
 use Rattle.std.proofs.lemmas.List.Elements.{filter-append}
-use Rattle.osi_base.specs.declared.words.Problem.{Problem}
-use Rattle.osi_base.specs.declared.words.ProblemKind.TheVariants as problems
+use Rattle.osi_base.specs.declared.layer_words.Problem.{Problem}
+use Rattle.osi_base.specs.declared.layer_words.ProblemKind.TheVariants as problems
 use Rattle.stub_tables.specs.declared.operation.Code.{Code}
 use Rattle.stub_tables.specs.Lookup.{operation_with}
-use Rattle.end_rules.specs.Base.{Base, Carried, Head, General, BadReject, InvokeHead, ResultHead, ErrorHead, RejectHead}
+use Rattle.end_rules.specs.Base.{Base, Carried, HeardHead, General, BadReject, InvokeHead, ResultHead, ErrorHead, RejectHead}
 use Rattle.end_rules.specs.State.{Calls, OpenCall, is_whose, is_key, opened_with, opens_of, orphaned, closed, close}
 use Rattle.end_rules.specs.Hearing.{Heard, first_problem, problem_if, unless_problem, rejected, is_silent_at, invoke_problem, opening, invoked, hear_invoke, hear_result_of, hear_error_of, error_told, hear_reject, is_of_invocation, hear}
 
@@ -104,7 +104,7 @@ module _ (own : Bool) (base : Base) (calls : Calls) (context : ℕ) (few : Withi
       by_test true x y h k = h
       by_test false x y h k = k
 
-  pub stays_within : (head : Head) → Within own (hear base calls context head).calls
+  pub stays_within : (head : HeardHead) → Within own (hear base calls context head).calls
   stays_within (General number) = few
   stays_within BadReject = few
   stays_within (InvokeHead id linked code argument) =

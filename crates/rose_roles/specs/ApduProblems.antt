@@ -1,5 +1,6 @@
 -- The first problem of an APDU, over what each end keeps (X.880 9.4, X.882 9).
 use Rattle.std.specs.Prelude.{◌≡◌, ℕ, ℤ, length, Bool, true, false, not, ◌&&◌, nat_le, Option, Some, None, is_some}
+use Rattle.osi_base.specs.Limits.{most_open}
 use Rattle.asn1_types.specs.declared.value.Val.{Val}
 use Rattle.asn1_types.specs.declared.table.TypeTable.{TypeTable}
 use Rattle.stub_tables.specs.declared.tables.Tables.{Tables}
@@ -11,7 +12,7 @@ use Rattle.stub_tables.specs.Codes.{is_silent, is_error_of}
 use Rattle.stub_tables.specs.Lookup.{operation_at, error_at, operation_with}
 use Rattle.stub_tables.specs.Uses.{is_carried}
 use Rattle.stub_tables.specs.Apdus.{placed}
-use Rattle.end_rules.specs.Base.{Carried, Absent, Spelled, Unspelled, most_open}
+use Rattle.end_rules.specs.Base.{Carried, Absent, Spelled, Unspelled}
 use Rattle.end_rules.specs.State.{is_empty}
 use Rattle.end_rules.specs.Invoking.{is_linked_to}
 use Rattle.end_rules.specs.Hearing.{first_problem, problem_if, has_links, is_place}

@@ -3,10 +3,10 @@ use Rattle.std.specs.Prelude.{ℕ, min, ℤ, Bool, true, false, List, Option, So
 use Rattle.std.specs.Option.{option_map}
 use Rattle.osi_base.specs.declared.syntax.Syntax.{Syntax}
 use Rattle.osi_base.specs.declared.syntax.Syntax.TheVariants.{Ber, Der, Packed}
-use Rattle.osi_base.specs.declared.words.Problem.{Problem}
+use Rattle.osi_base.specs.declared.layer_words.Problem.{Problem}
+use Rattle.osi_base.specs.Limits.{most_octets}
 use Rattle.asn1_types.specs.declared.value.Val.{Val}
 use Rattle.asn1_types.specs.declared.table.TypeTable.{TypeTable}
-use Rattle.asn1_types.specs.Limits.{most_octets}
 use Rattle.stub_tables.specs.declared.tables.Tables.{Tables}
 use Rattle.stub_tables.specs.declared.operation.Code.{Code}
 use Rattle.stub_tables.specs.declared.operation.Use.{Use}
@@ -16,7 +16,7 @@ use Rattle.apdu_spelling.specs.declared.head.ApduHead.{ApduHead}
 use Rattle.apdu_spelling.specs.declared.head.ApduKind.{ApduKind}
 use Rattle.apdu_spelling.specs.declared.head.ApduKind.TheVariants.{Invoke, Result, Error, Reject}
 use Rattle.apdu_spelling.specs.Spellings.{CarriedAs}
-use Rattle.end_rules.specs.Base.{Carried, Absent, Spelled, Unspelled, Head, BadReject, InvokeHead, ResultHead, ErrorHead, RejectHead}
+use Rattle.end_rules.specs.Base.{Carried, Absent, Spelled, Unspelled, HeardHead, BadReject, InvokeHead, ResultHead, ErrorHead, RejectHead}
 
 -- an APDU has at most 262,144 octets, in the packed syntax with those before its value
 abbrev pub room_in : Syntax → ℕ → ℕ
@@ -58,29 +58,29 @@ abbrev pub HeadCarries : Tables → Syntax → ApduHead → Carried → Type 0
 HeadCarries tables syntax head carried = Carries syntax tables.types head.room (use_by tables head.kind head.code) head.rest carried
 
 -- a head by its fields; one that lacks a field of its kind is none that octets spell
-abbrev pub invoke_by : Option ℤ → Option ℤ → Option Code → Carried → Head
+abbrev pub invoke_by : Option ℤ → Option ℤ → Option Code → Carried → HeardHead
 invoke_by (Some id) linked (Some code) carried = InvokeHead id linked code carried
 invoke_by _ linked _ carried = BadReject
 
-abbrev pub result_by : Option ℤ → Option Code → Carried → Head
+abbrev pub result_by : Option ℤ → Option Code → Carried → HeardHead
 result_by (Some id) code carried = ResultHead id code carried
 result_by None code carried = BadReject
 
-abbrev pub error_by : Option ℤ → Option Code → Carried → Head
+abbrev pub error_by : Option ℤ → Option Code → Carried → HeardHead
 error_by (Some id) (Some code) carried = ErrorHead id code carried
 error_by _ _ carried = BadReject
 
-abbrev pub reject_by : Option ℤ → Option Problem → Head
+abbrev pub reject_by : Option ℤ → Option Problem → HeardHead
 reject_by id (Some problem) = RejectHead id problem
 reject_by id None = BadReject
 
-abbrev pub head_by : ApduKind → ApduHead → Carried → Head
+abbrev pub head_by : ApduKind → ApduHead → Carried → HeardHead
 head_by Invoke head carried = invoke_by head.id head.linked head.code carried
 head_by Result head carried = result_by head.id head.code carried
 head_by Error head carried = error_by head.id head.code carried
 head_by Reject head carried = reject_by head.id head.problem
 
-abbrev pub said_by : ApduHead → Carried → Head
+abbrev pub said_by : ApduHead → Carried → HeardHead
 said_by head carried = head_by head.kind head carried
 
 abbrev pub is_invocation : ApduKind → Bool

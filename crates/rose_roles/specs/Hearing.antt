@@ -2,18 +2,18 @@
 use Rattle.std.specs.Prelude.{◌≡◌, ℕ, ℤ, [], Option, Some, None, Result, Ok, Err}
 use Rattle.osi_base.specs.declared.syntax.Syntax.{Syntax}
 use Rattle.osi_base.specs.declared.fault.NoMemory.{NoMemory}
-use Rattle.osi_base.specs.declared.words.ProblemKind.TheVariants as kinds
+use Rattle.osi_base.specs.declared.layer_words.ProblemKind.TheVariants as kinds
 use Rattle.stub_tables.specs.declared.tables.Tables.{Tables}
 use Rattle.asn1_types.specs.declared.value.Val.{Val}
 use Rattle.apdu_spelling.specs.declared.head.ApduHead.{ApduHead}
 use Rattle.apdu_codec.specs.declared.fault.HeadFault as faults
 use Rattle.apdu_codec.specs.declared.fault.HeadFault.TheVariants as fault
 use Rattle.dialogue.specs.declared.indication.Indication.TheVariants as indications
-use Rattle.end_rules.specs.Base.{Base, Carried, Head}
+use Rattle.end_rules.specs.Base.{Base, Carried, HeardHead}
 use Rattle.end_rules.specs.State as ends
 use Rattle.end_rules.specs.Hearing.{Heard, told, hear, problem_with}
-use Rattle.rose_roles.specs.declared.taken.RoseTaken as takens
-use Rattle.rose_roles.specs.declared.taken.RoseTaken.TheVariants as taken
+use Rattle.rose_roles.specs.declared.apdu_taken.RoseTaken as takens
+use Rattle.rose_roles.specs.declared.apdu_taken.RoseTaken.TheVariants as taken
 use Rattle.rose_roles.specs.declared.apdu_problems.Judged as judgeds
 use Rattle.rose_roles.specs.declared.apdu_problems.Judged.TheVariants as judged
 use Rattle.rose_roles.specs.Heads.{HeadCarries, said_by}
@@ -29,7 +29,7 @@ heard_with calls taken.BadReject = told calls indications.BadReject
 heard_with calls (taken.Reject id problem) = record { calls = calls; shown = []; reject = Some (record { id = id; problem = problem }) }
 
 -- The answer, with the open invocations afterwards, is what an end with these tables hears in a head that carries this.
-abbrev pub HearsHead : Tables → ℕ → (Carried → Head) → (Carried → Type 0) → ends.Calls → ends.Calls → takens.RoseTaken → Type 0
+abbrev pub HearsHead : Tables → ℕ → (Carried → HeardHead) → (Carried → Type 0) → ends.Calls → ends.Calls → takens.RoseTaken → Type 0
 HearsHead tables context head Carrying before after answer =
     (base : Base) (carried : Carried) → base.tables ≡ tables → Carrying carried → heard_with after answer ≡ hear base before context (head carried)
 

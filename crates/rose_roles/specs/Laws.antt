@@ -1,11 +1,12 @@
 -- The laws of the two sides.
 use Rattle.std.specs.Prelude.{ℕ, ◌≤◌, Bool, length, IfSome}
 use Rattle.osi_base.specs.declared.syntax.Syntax.{Syntax}
+use Rattle.osi_base.specs.Limits.{most_open}
 use Rattle.asn1_types.specs.Table.{AreSoundRows}
 use Rattle.ber_spelling.specs.Octets.{AreOctets}
 use Rattle.stub_tables.specs.declared.tables.Tables.{Tables}
 use Rattle.apdu_spelling.specs.declared.head.ApduHead.{ApduHead}
-use Rattle.end_rules.specs.Base.{Base, Carried, Head, most_open}
+use Rattle.end_rules.specs.Base.{Base, Carried, HeardHead}
 use Rattle.end_rules.specs.State.{Calls, opens_of}
 use Rattle.end_rules.specs.Hearing.{hear}
 use Rattle.end_wire.specs.Heads.{carried_at}
@@ -21,4 +22,4 @@ AlwaysCarries = (tables : Tables) (syntax : Syntax) (head : ApduHead) → AreSou
 
 -- Whatever is heard, at most 4,096 invocations of an end stay open.
 abbrev pub StaysWithin : Type 0
-StaysWithin = (base : Base) (calls : Calls) (context : ℕ) (head : Head) (own : Bool) → length (opens_of own calls.opens) ≤ most_open → length (opens_of own (hear base calls context head).calls.opens) ≤ most_open
+StaysWithin = (base : Base) (calls : Calls) (context : ℕ) (head : HeardHead) (own : Bool) → length (opens_of own calls.opens) ≤ most_open → length (opens_of own (hear base calls context head).calls.opens) ≤ most_open

@@ -3,11 +3,11 @@
 ghost use Rattle.std.specs.Prelude.{◌≡◌, ◌<◌, ◌≤◌, ◌+◌, ℕ, ℤ, pos, List, [], ◌∷◌, ◌++◌, length, None, Some, true, false, IfOk, OnOk, OnErr, is_some};
 ghost use Rattle.std.specs.Option.{option_map};
 ghost use Rattle.std.specs.Ordering.{int_cmp};
-ghost use Rattle.osi_base.specs.Limits.{last_invocation};
+ghost use Rattle.osi_base.specs.Limits.{last_invocation, most_open};
 ghost use Rattle.linked_ops.specs.Entries.{Entry, IsForest, is_open, is_open_or_none};
 ghost use Rattle.apdu_spelling.specs.declared.head.ApduKind.TheVariants as kinds;
 ghost use Rattle.stub_tables.specs.Lookup.{error_with};
-ghost use Rattle.end_rules.specs.Base.{Base, ResultHead, ErrorHead, RejectHead, most_open};
+ghost use Rattle.end_rules.specs.Base.{Base, ResultHead, ErrorHead, RejectHead};
 ghost use Rattle.end_rules.specs.State.{close, opens_of};
 ghost use Rattle.end_rules.specs.Hearing.{hear, is_of_invocation};
 ghost use Rattle.rose_roles.specs.Heads.{is_invocation, reject_by, Carries, use_by, parameter_placed};
@@ -15,11 +15,11 @@ ghost use Rattle.rose_roles.specs.Hearing.{Hears, HearsHead, heard_with};
 ghost use Rattle.rose_roles.specs.Calls.{Kept, Invoking, called, key_of, AreOpen, calls_of, open_call, opens_in, KeepsOpen};
 
 use crate::apdu_problems::{judge_error, judge_result};
+use crate::apdu_taken::{
+    RoseTaken, error_taken, is_of_invocation, own_rejected, reject_with, result_taken,
+};
 use crate::invoked_with::InvokedWith;
 use crate::opening::{called, enter, key_of, leave, own_key};
-use crate::taken::{
-    RoseTaken, error_taken, is_of_invocation, own_rejected, rejected, result_taken,
-};
 use apdu_spelling::{ApduHead, ApduKind};
 use linked_ops::Forest;
 use osi_base::{NoMemory, Problem, ProblemKind, Syntax};
@@ -174,7 +174,7 @@ impl Invoker {
             return Ok(RoseTaken::BadReject);
         };
         match self.called_at(id) {
-            None => Ok(rejected(head.id, ProblemKind::Result, 0)),
+            None => Ok(reject_with(head.id, ProblemKind::Result, 0)),
             Some(call) => {
                 let taken = self.end_result(forest, syntax, tables, id, call, &head)?;
                 Ok(taken)
@@ -239,7 +239,7 @@ impl Invoker {
             return Ok(RoseTaken::BadReject);
         };
         match self.called_at(id) {
-            None => Ok(rejected(head.id, ProblemKind::Error, 0)),
+            None => Ok(reject_with(head.id, ProblemKind::Error, 0)),
             Some(call) => {
                 let taken = self.end_error(forest, syntax, tables, id, call, code, &head)?;
                 Ok(taken)

@@ -3,19 +3,19 @@
 #![tactic(auto)]
 
 mod apdu_problems;
+mod apdu_taken;
 mod apdus;
 mod invoked_with;
 mod invoker;
 mod laws;
 mod opening;
 mod performer;
-mod taken;
 mod values;
 
 pub use apdu_problems::{has_links, is_linked_to};
+pub use apdu_taken::{RoseTaken, is_of_invocation, refused_head, reject_with};
 pub use apdus::{error_apdu, invoke_apdu, result_apdu};
 pub use invoked_with::InvokedWith;
 pub use invoker::Invoker;
 pub use laws::{always_carries, stays_within};
 pub use performer::Performer;
-pub use taken::{RoseTaken, is_of_invocation, refused, rejected};

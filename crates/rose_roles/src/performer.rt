@@ -2,11 +2,12 @@
 
 ghost use Rattle.std.specs.Prelude.{◌≡◌, ℕ, ℤ, List, not, ◌&&◌, nat_le, [], length, None, Some, true, false, IfOk, OnOk, OnErr};
 ghost use Rattle.std.specs.Option.{option_map};
+ghost use Rattle.osi_base.specs.Limits.{most_open};
 ghost use Rattle.stub_tables.specs.Lookup.{operation_at};
 ghost use Rattle.stub_tables.specs.Apdus.{placed, argument_of};
 ghost use Rattle.apdu_spelling.specs.declared.head.ApduKind.TheVariants as kinds;
 ghost use Rattle.linked_ops.specs.Entries.{Entry, IsForest, is_open, is_open_or_none};
-ghost use Rattle.end_rules.specs.Base.{Base, Carried, most_open};
+ghost use Rattle.end_rules.specs.Base.{Base, Carried};
 ghost use Rattle.end_rules.specs.State.{close, opens_of};
 ghost use Rattle.end_rules.specs.Hearing.{opening, invoked, value_in, first_problem, problem_if};
 ghost use Rattle.rose_roles.specs.Calls.{Kept, Invoking, called, key_of, AreOpen, calls_of, opens_in, KeepsOpen};
@@ -15,10 +16,10 @@ ghost use Rattle.rose_roles.specs.ApduProblems.{silent, known_problem, early_pro
 ghost use Rattle.rose_roles.specs.Hearing.{Hears, heard_with};
 
 use crate::apdu_problems::{Judged, is_silent_at, judge_argument, link_problem};
+use crate::apdu_taken::{RoseTaken, invoke_rejected, invoked};
 use crate::invoked_with::InvokedWith;
 use crate::invoker::Invoker;
 use crate::opening::{called, enter, key_of, leave};
-use crate::taken::{RoseTaken, invoke_rejected, invoked};
 use apdu_spelling::ApduHead;
 use asn1_types::Val;
 use linked_ops::Forest;

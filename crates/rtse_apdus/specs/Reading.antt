@@ -1,9 +1,8 @@
 -- The APDUs of reliable transfer as octets (X.228 9).
 use Rattle.std.specs.Prelude.{◌≡◌, ◌==◌, ◌||◌, ℕ, false, List, [], ◌∷◌, slice_index, Result, Ok, Err, if◌then◌else◌}
 use Rattle.osi_base.specs.declared.rtse_word.Rtse as apdus
-use Rattle.osi_base.specs.Limits.{tsdu_limit}
+use Rattle.osi_base.specs.Limits.{tsdu_limit, most_octets}
 use Rattle.asn1_types.specs.Value.{Value}
-use Rattle.asn1_types.specs.Limits.{most_octets}
 use Rattle.ber_spelling.specs.Spelling.{Spells}
 use Rattle.fixed_tables.specs.declared.pdu.PduFault as units
 use Rattle.fixed_tables.specs.Whole.{whole_at}

@@ -1,10 +1,9 @@
 -- The APDUs of reliable transfer as rows of types (X.228 9).
 use Rattle.std.specs.Prelude.{ℕ, ℤ, pos, negsuc, true, false, List, [], ◌∷◌, codes}
-use Rattle.osi_base.specs.Limits.{most_checkpoint, most_32}
+use Rattle.osi_base.specs.Limits.{most_checkpoint, most_32, most_spelled, most_signed}
 use Rattle.asn1_types.specs.declared.row.Class.TheVariants.{Universal}
 use Rattle.asn1_types.specs.declared.row.TypeRow.{TypeRow}
 use Rattle.asn1_types.specs.declared.row.TypeRow.TheVariants.{Integer, OctetString, Sequence, Set, Choice, Tagged, Any}
-use Rattle.asn1_types.specs.Limits.{most_spelled}
 use Rattle.fixed_tables.specs.Rows.{part, implicit, explicit}
 
 -- the row of all APDUs
@@ -16,7 +15,7 @@ rtse_rows =
     -- 0: a size of checkpoints, or of a window, which have the same limit
     Integer (pos 0) (pos most_checkpoint)
     -- 1: a reason, or a dialogue mode
-    ∷ Integer (negsuc 9223372036854775807) (pos 9223372036854775807)
+    ∷ Integer (negsuc most_signed) (pos most_signed)
     -- 2: RTTP
     ∷ Integer (pos 0) (pos most_32)
     -- 3: RTTR, or a reference

@@ -1,9 +1,8 @@
 -- The octets of a transfer, one presentation data value with its context, as rows of types (PDV-list of X.226 8.4.2).
 use Rattle.std.specs.Prelude.{ℕ, pos, true, false, List, [], ◌∷◌, codes}
-use Rattle.osi_base.specs.Limits.{highest_context}
+use Rattle.osi_base.specs.Limits.{highest_context, most_spelled}
 use Rattle.asn1_types.specs.declared.row.TypeRow.{TypeRow}
 use Rattle.asn1_types.specs.declared.row.TypeRow.TheVariants.{Integer, ObjectId, OctetString, BitString, Any, Choice, Sequence}
-use Rattle.asn1_types.specs.Limits.{most_spelled}
 use Rattle.fixed_tables.specs.Rows.{part, implicit, explicit}
 
 abbrev pub transfer_row : ℕ

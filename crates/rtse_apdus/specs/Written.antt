@@ -5,12 +5,11 @@ use Rattle.osi_base.specs.declared.rtse_word.ConnectionData as connections
 use Rattle.osi_base.specs.declared.rtse_word.ConnectionData.TheVariants as connection
 use Rattle.osi_base.specs.declared.rtse_word.Rtse as apdus
 use Rattle.osi_base.specs.declared.rtse_word.Rtse.TheVariants as apdu
-use Rattle.osi_base.specs.Limits.{most_32}
+use Rattle.osi_base.specs.Limits.{most_32, most_spelled}
 use Rattle.asn1_types.specs.Fits.{is_number, octets_fit}
 use Rattle.asn1_types.specs.Value.{octets}
 use Rattle.asn1_types.specs.Whole.{is_whole}
 use Rattle.asn1_types.specs.Writing.{written}
-use Rattle.asn1_types.specs.Limits.{most_spelled}
 use Rattle.rtse_apdus.specs.Rows.{rtse_row, rtse_rows}
 use Rattle.rtse_apdus.specs.Words.{value_of}
 use Rattle.rtse_apdus.specs.Reading.{limit_of}

@@ -6,8 +6,8 @@ ghost use Rattle.rtse_apdus.specs.Words.{data_in, request_in, accept_in, said_by
 
 use asn1_types::Val;
 use fixed_tables::{
-    alternative, any, chosen, inside, integer, number, octets, octets_in, part_in, reason_in,
-    reason_value, sequence, small,
+    alternative, any, chosen, chosen_in, integer, number_or, octets, octets_in, part_in, reason_in,
+    reason_value, sequence, small_number_or,
 };
 use osi_base::{ConnectionData, NoMemory, Rtse};
 use std::alloc::Global;
@@ -15,7 +15,7 @@ use std::alloc::Global;
 fn data_in(alloc: Global, value: Option<&Val>) -> Result<ConnectionData, NoMemory>
     ensures { IfOk result (λ x. x ≡ data_in (option_copied value.entry)) }
 {
-    let inner = inside(value);
+    let inner = chosen_in(value);
     if alternative(value) == 0 {
         return Ok(ConnectionData::Open(octets_in(alloc, inner)?));
     }
@@ -29,9 +29,9 @@ fn request_in(alloc: Global, value: Option<&Val>) -> Result<Rtse, NoMemory>
     ensures { IfOk result (λ x. x ≡ request_in (option_copied value.entry)) }
 {
     Ok(Rtse::OpenRequest {
-        checkpoint: small(part_in(0, value), 0),
-        window: small(part_in(1, value), 3),
-        mode: number(part_in(2, value), 0),
+        checkpoint: small_number_or(part_in(0, value), 0),
+        window: small_number_or(part_in(1, value), 3),
+        mode: number_or(part_in(2, value), 0),
         data: data_in(alloc, part_in(3, value))?,
     })
 }
@@ -40,8 +40,8 @@ fn accept_in(alloc: Global, value: Option<&Val>) -> Result<Rtse, NoMemory>
     ensures { IfOk result (λ x. x ≡ accept_in (option_copied value.entry)) }
 {
     Ok(Rtse::OpenAccept {
-        checkpoint: small(part_in(0, value), 0),
-        window: small(part_in(1, value), 3),
+        checkpoint: small_number_or(part_in(0, value), 0),
+        window: small_number_or(part_in(1, value), 3),
         data: data_in(alloc, part_in(2, value))?,
     })
 }
@@ -50,7 +50,7 @@ fn accept_in(alloc: Global, value: Option<&Val>) -> Result<Rtse, NoMemory>
 pub(crate) fn said(alloc: Global, value: &Val) -> Result<Rtse, NoMemory>
     ensures { IfOk result (λ x. x ≡ said value.now) }
 {
-    let inner = inside(Some(value));
+    let inner = chosen_in(Some(value));
     match alternative(Some(value)) {
         0 => request_in(alloc, inner),
         1 => accept_in(alloc, inner),
@@ -61,7 +61,7 @@ pub(crate) fn said(alloc: Global, value: &Val) -> Result<Rtse, NoMemory>
             reason: reason_in(inner),
         }),
         4 => Ok(Rtse::TurnPlease {
-            priority: small(inner, 0),
+            priority: small_number_or(inner, 0),
         }),
         _ => Ok(Rtse::Transfer {
             octets: octets_in(alloc, inner)?,

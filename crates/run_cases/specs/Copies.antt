@@ -1,10 +1,11 @@
 -- Two wrong copies of what is shared, to tell them from the right ones: a set that drops a context at its proposal, and a reading by
 -- the newest set.
 use Rattle.std.specs.Prelude.{ℕ, List, [], ◌∷◌, ◌++◌, map, if◌then◌else◌, Option}
-use Rattle.osi_base.specs.declared.words.Side.{Side}
-use Rattle.osi_base.specs.declared.words.SetItem.{SetItem}
+use Rattle.osi_base.specs.declared.layer_words.Side.{Side}
+use Rattle.osi_base.specs.declared.layer_words.SetItem.{SetItem}
 use Rattle.osi_base.specs.declared.syntax.Pair.{Pair}
-use Rattle.end_rules.specs.Sets.{pair_of, with_deleted}
+use Rattle.end_rules.specs.Sets.{with_deleted}
+use Rattle.osi_base.specs.SetPlaces.{pair_of}
 use Rattle.end_rules.specs.Messages.{Message, Session, OfData, DataValue, AlterContext}
 use Rattle.end_rules.specs.History.{Step, sent}
 use Rattle.end_rules.specs.World.{World, Ends, Shared, is_side, base_at, shared_first, shared_after, shared_at}

@@ -1,7 +1,7 @@
 //! The worked runs, message by message: each is a contract of a function with an empty body.
 
 ghost use Rattle.std.specs.Prelude.{◌≡◌, [], ◌∷◌, length, map, pos, true, false, Some, None};
-ghost use Rattle.osi_base.specs.declared.words.Side.TheVariants.{A, B};
+ghost use Rattle.osi_base.specs.declared.layer_words.Side.TheVariants.{A, B};
 ghost use Rattle.dialogue.specs.declared.config.Mode.TheVariants.{Direct, Reliable};
 ghost use Rattle.end_rules.specs.World.{shared_at, holds_at};
 ghost use Rattle.end_rules.specs.Cases.{opening, collision, crossing_restarts, transfer};

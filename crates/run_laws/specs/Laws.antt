@@ -1,8 +1,8 @@
 -- What every run of two ends keeps, in every mode, told of its moments and its transcript. What it says of octets stands with the
 -- octets of each mode.
 use Rattle.std.specs.Prelude.{◌≡◌, List, [], ◌∷◌, true, false}
-use Rattle.osi_base.specs.declared.words.Side.{Side}
-use Rattle.osi_base.specs.declared.words.Side.TheVariants.{A, B}
+use Rattle.osi_base.specs.declared.layer_words.Side.{Side}
+use Rattle.osi_base.specs.declared.layer_words.Side.TheVariants.{A, B}
 use Rattle.stub_tables.specs.declared.tables.Tables.{Tables}
 use Rattle.dialogue.specs.declared.event.Entry.{Entry}
 use Rattle.end_rules.specs.Calling.{is_dead}

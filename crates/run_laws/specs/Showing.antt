@@ -1,6 +1,6 @@
 -- What is shown: each carry shows what the messages show that are taken in it, in their order, and nothing else.
 use Rattle.std.specs.Prelude.{◌≡◌, List, [], ◌∷◌, ◌++◌, Bool, true, false, if◌then◌else◌}
-use Rattle.osi_base.specs.declared.words.Side.{Side}
+use Rattle.osi_base.specs.declared.layer_words.Side.{Side}
 use Rattle.dialogue.specs.declared.event.Entry.{Entry}
 use Rattle.dialogue.specs.declared.event.Entry.TheVariants as entries
 use Rattle.dialogue.specs.declared.indication.Indication.{Indication}

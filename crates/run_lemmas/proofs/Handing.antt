@@ -4,7 +4,7 @@ use Rattle.std.proofs.Common.{◌≡◌, refl, true, false, sym, subst, ℕ, Lis
 use Rattle.std.specs.Prelude.{ℤ, Bool, ◌&&◌, Option, Some, None, is_some, if◌then◌else◌}
 use Rattle.std.proofs.lemmas.List.{append-nil}
 use Rattle.asn1_types.specs.declared.value.Val.{Val}
-use Rattle.osi_base.specs.declared.words.Problem.{Problem}
+use Rattle.osi_base.specs.declared.layer_words.Problem.{Problem}
 use Rattle.stub_tables.specs.declared.tables.Tables.{Tables}
 use Rattle.stub_tables.specs.declared.operation.Code.{Code}
 use Rattle.stub_tables.specs.declared.operation.Operation.{Operation}
@@ -15,7 +15,7 @@ use Rattle.stub_tables.specs.Lookup.{operation_at, error_at, operation_with, err
 use Rattle.stub_tables.proofs.OwnCodes.{own_codes}
 use Rattle.dialogue.specs.declared.indication.Indication.{Indication}
 use Rattle.dialogue.specs.declared.indication.Indication.TheVariants as indications
-use Rattle.end_rules.specs.Base.{Base, Head, General, BadReject, InvokeHead, ResultHead, ErrorHead, RejectHead, Carried}
+use Rattle.end_rules.specs.Base.{Base, HeardHead, General, BadReject, InvokeHead, ResultHead, ErrorHead, RejectHead, Carried}
 use Rattle.end_rules.specs.State.{OpenCall, Calls, opened_with, close}
 use Rattle.end_rules.specs.Invoking.{result_apdu, error_apdu, returned_with}
 use Rattle.end_rules.specs.Hearing.{Heard, told, unless_problem, invoke_problem, invoked, opening, is_silent_at, result_problem, hear_result_of, error_problem, error_told, hear_error_of, is_of_invocation, hear_reject, hear, head_of_apdu, carried_in, code_returned, value_returned}
@@ -103,7 +103,7 @@ reject-made calls (Some id) problem = go (is_of_invocation problem.kind && is_so
     go true = refl
     go false = refl
 
-pub hear-made : (base : Base) (calls : Calls) (context : ℕ) (head : Head) → (hear base calls context head).calls.made ≡ calls.made
+pub hear-made : (base : Base) (calls : Calls) (context : ℕ) (head : HeardHead) → (hear base calls context head).calls.made ≡ calls.made
 hear-made base calls context (General number) = refl
 hear-made base calls context BadReject = refl
 hear-made base calls context (InvokeHead id linked code argument) =

@@ -3,10 +3,10 @@ use Rattle.std.proofs.Common.{◌≡◌, refl, true, false, arith, ℕ, ◌+◌,
 use Rattle.std.specs.Prelude.{Bool, ◌&&◌, Option, Some, None}
 use Rattle.std.specs.List.{list_all}
 use Rattle.std.proofs.lemmas.Bool.Decides.{nat_tests}
-use Rattle.osi_base.specs.declared.words.Proposal.{Proposal}
-use Rattle.osi_base.specs.declared.words.AddAnswer.{AddAnswer}
-use Rattle.osi_base.specs.declared.words.Answers.{Answers}
-use Rattle.osi_base.specs.declared.words.RestoredItem.{RestoredItem}
+use Rattle.osi_base.specs.declared.layer_words.Proposal.{Proposal}
+use Rattle.osi_base.specs.declared.layer_words.AddAnswer.{AddAnswer}
+use Rattle.osi_base.specs.declared.layer_words.Answers.{Answers}
+use Rattle.osi_base.specs.declared.layer_words.RestoredItem.{RestoredItem}
 use Rattle.osi_base.specs.declared.presentation_word.PdvContent.{PdvContent}
 use Rattle.osi_base.specs.declared.presentation_word.PresentationWord.{PresentationWord}
 use Rattle.osi_base.specs.declared.presentation_word.PresentationWord.TheVariants as unit

@@ -3,11 +3,12 @@ use Rattle.std.proofs.Common.{◌≡◌, refl, true, false, ◌∙◌, sym, ap, 
 use Rattle.std.specs.Prelude.{ℤ, Bool, not, ◌&&◌, Option, Some, None, Ok, is_some, nat_eq, nat_le, nat_lt, length, if◌then◌else◌}
 use Rattle.std.proofs.lemmas.Bool.Decides.{nat_tests}
 use Rattle.osi_base.specs.declared.syntax.Pair.{Pair}
-use Rattle.osi_base.specs.declared.words.SetItem.{SetItem}
-use Rattle.osi_base.specs.declared.words.Proposal.{Proposal}
-use Rattle.osi_base.specs.declared.words.AddAnswer.{AddAnswer}
-use Rattle.osi_base.specs.declared.words.Answers.{Answers}
-use Rattle.osi_base.specs.declared.words.Problem.{Problem}
+use Rattle.osi_base.specs.declared.layer_words.SetItem.{SetItem}
+use Rattle.osi_base.specs.declared.layer_words.Proposal.{Proposal}
+use Rattle.osi_base.specs.declared.layer_words.AddAnswer.{AddAnswer}
+use Rattle.osi_base.specs.declared.layer_words.Answers.{Answers}
+use Rattle.osi_base.specs.declared.layer_words.Problem.{Problem}
+use Rattle.osi_base.specs.Limits.{most_alterations}
 use Rattle.stub_tables.specs.declared.operation.Code.{Code}
 use Rattle.stub_tables.specs.declared.apdu.Apdu.{Apdu}
 use Rattle.stub_tables.specs.declared.apdu.Apdu.TheVariants as apdus
@@ -16,9 +17,10 @@ use Rattle.dialogue.specs.declared.indication.Indication.TheVariants as indicati
 use Rattle.dialogue.specs.declared.config.Mode.TheVariants.{Direct}
 use Rattle.dialogue.specs.declared.call.CallRefusal.{CallRefusal}
 use Rattle.dialogue.specs.declared.call.CallRefusal.TheVariants as refusals
-use Rattle.end_rules.specs.Base.{Base, Carried, most_alterations}
+use Rattle.end_rules.specs.Base.{Base, Carried}
 use Rattle.end_rules.specs.Altering.{additions_refusal, deletions_refusal, or_else, is_bad, is_set_full, alteration_refusal, can_alter}
-use Rattle.end_rules.specs.Sets.{Alteration, Saved, carrier, may_send, lowest_with, has_abstract, is_among, named_ids, proposed_ids, pair_of, is_fixed, put, without_context, put_accepted, pair_accepted, with_added, with_deleted, altered, below, newest}
+use Rattle.end_rules.specs.Sets.{Alteration, Saved, carrier, may_send, lowest_with, has_abstract, is_among, named_ids, proposed_ids, is_fixed, put, put_accepted, pair_accepted, with_added, with_deleted, altered, below, newest}
+use Rattle.osi_base.specs.SetPlaces.{pair_of, without_context}
 use Rattle.end_rules.specs.State.{Body, Calls, OpenCall, opened_with, close, is_free, is_current, is_ending}
 use Rattle.end_rules.specs.Policy.{policy, is_faulty_proposal}
 use Rattle.end_rules.specs.Hearing.{Heard, told, unless_problem, invoked, invoke_problem, hear, hear_result_of, result_problem, hear_error_of, error_problem, error_told, hear_reject, is_of_invocation, head_of_apdu, carried_in, code_returned, value_returned}

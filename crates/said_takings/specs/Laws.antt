@@ -5,7 +5,7 @@ use Rattle.dialogue.specs.declared.indication.Indication.{Indication}
 use Rattle.stub_tables.specs.declared.tables.Tables.{Tables}
 use Rattle.end_rules.specs.Base.{Base, Spellings, Item}
 use Rattle.end_rules.specs.Messages.{Message, Word, OfAssociation, OfData, OfMarks, Finish, Disconnect, Values, Please, Session}
-use Rattle.end_rules.specs.Sets.{pair_of}
+use Rattle.osi_base.specs.SetPlaces.{pair_of}
 use Rattle.end_rules.specs.State.{Body}
 use Rattle.end_rules.specs.Reacting.{Takes, react}
 use Rattle.end_rules.specs.Writing.{acse_pair}

@@ -3,12 +3,14 @@ use Rattle.std.proofs.Common.{◌≡◌, refl, true, false, arith, ℕ, ◌+◌,
 use Rattle.std.specs.Prelude.{ℤ, Bool, not, ◌||◌, Option, Some, None, Ok, is_some, nat_eq, nat_le, nat_lt, if◌then◌else◌}
 use Rattle.std.specs.List.{list_any}
 use Rattle.std.proofs.lemmas.Bool.Decides.{nat_tests}
-use Rattle.osi_base.specs.declared.words.Proposal.{Proposal}
+use Rattle.osi_base.specs.declared.layer_words.Proposal.{Proposal}
+use Rattle.osi_base.specs.Limits.{most_contexts, most_alterations}
 use Rattle.dialogue.specs.declared.config.Mode.TheVariants.{Direct}
 use Rattle.dialogue.specs.declared.call.CallRefusal.{CallRefusal}
 use Rattle.dialogue.specs.declared.call.CallRefusal.TheVariants as refusals
-use Rattle.end_rules.specs.Base.{Base, most_contexts, most_alterations}
-use Rattle.end_rules.specs.Sets.{Alteration, is_among, named_ids, proposed_ids, pair_of, is_fixed, is_named_in, count_added}
+use Rattle.end_rules.specs.Base.{Base}
+use Rattle.end_rules.specs.Sets.{Alteration, is_among, named_ids, proposed_ids, is_fixed, is_named_in, count_added}
+use Rattle.osi_base.specs.SetPlaces.{pair_of}
 use Rattle.end_rules.specs.State.{Body, is_empty, is_free, is_current, is_ending}
 use Rattle.end_rules.specs.Altering.{used, has_double, is_no_context, has_bad_transfers, is_bad, additions_refusal, deletion_refusal, deletions_refusal, or_else, is_set_full, alteration_refusal, can_alter}
 use Rattle.end_model.specs.Rows.{at}

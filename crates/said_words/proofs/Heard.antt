@@ -1,9 +1,10 @@
 -- The reject that an APDU brings names the invocation of the APDU, and has a problem of X.880.
 use Rattle.std.proofs.Common.{◌≡◌, refl, true, false, arith, ℕ, ◌≤◌}
 use Rattle.std.specs.Prelude.{ℤ, Bool, not, ◌&&◌, Option, Some, None, is_some, nat_le, length, if◌then◌else◌}
-use Rattle.osi_base.specs.declared.words.Problem.{Problem}
-use Rattle.osi_base.specs.declared.words.ProblemKind.{ProblemKind}
-use Rattle.osi_base.specs.declared.words.ProblemKind.TheVariants as problems
+use Rattle.osi_base.specs.declared.layer_words.Problem.{Problem}
+use Rattle.osi_base.specs.declared.layer_words.ProblemKind.{ProblemKind}
+use Rattle.osi_base.specs.declared.layer_words.ProblemKind.TheVariants as problems
+use Rattle.osi_base.specs.Limits.{most_open}
 use Rattle.stub_tables.specs.declared.operation.Code.{Code}
 use Rattle.stub_tables.specs.declared.operation.Operation.{Operation}
 use Rattle.stub_tables.specs.declared.operation.ErrorRow.{ErrorRow}
@@ -11,7 +12,7 @@ use Rattle.stub_tables.specs.declared.apdu.Apdu.{Apdu}
 use Rattle.stub_tables.specs.declared.apdu.Apdu.TheVariants as apdus
 use Rattle.stub_tables.specs.Codes.{is_error_of}
 use Rattle.stub_tables.specs.Lookup.{operation_at, operation_with, error_at, error_with}
-use Rattle.end_rules.specs.Base.{Base, Carried, most_open}
+use Rattle.end_rules.specs.Base.{Base, Carried}
 use Rattle.end_rules.specs.State.{Calls, OpenCall, opened_with, opens_of, is_empty, close}
 use Rattle.end_rules.specs.Invoking.{is_linked_to, operation_of}
 use Rattle.end_rules.specs.Hearing.{Heard, Rejecting, reject_apdu, rejected, told, unless_problem, first_problem, problem_if, problem_with, is_silent_at, has_links, is_right, is_right_result, link_problem, argument_problem, operation_problem, invoke_problem, invoked, result_problem, known_error_problem, error_problem, error_told, hear_result_of, hear_error_of, hear_reject, is_of_invocation, hear, head_of_apdu, value_in, carried_in, code_returned, value_returned}

@@ -3,13 +3,14 @@ use Rattle.std.proofs.Common.{◌≡◌, refl, true, false, ◌∙◌, sym, ap, 
 use Rattle.std.specs.Prelude.{Bool, not, ◌||◌, Option, Some, None, is_some, find, nat_eq, nat_lt, if◌then◌else◌}
 use Rattle.std.proofs.lemmas.Bool.Decides.{nat_tests}
 use Rattle.osi_base.specs.declared.syntax.Pair.{Pair}
-use Rattle.osi_base.specs.declared.words.SetItem.{SetItem}
-use Rattle.osi_base.specs.declared.words.Proposal.{Proposal}
-use Rattle.osi_base.specs.declared.words.AddAnswer.{AddAnswer}
-use Rattle.osi_base.specs.declared.words.Answers.{Answers}
-use Rattle.osi_base.specs.Limits.{most_marks}
-use Rattle.end_rules.specs.Base.{Base, most_contexts}
-use Rattle.end_rules.specs.Sets.{Alteration, Saved, is_among, pair_of, put, without_context, put_accepted, pair_accepted, accepted_pair}
+use Rattle.osi_base.specs.declared.layer_words.SetItem.{SetItem}
+use Rattle.osi_base.specs.declared.layer_words.Proposal.{Proposal}
+use Rattle.osi_base.specs.declared.layer_words.AddAnswer.{AddAnswer}
+use Rattle.osi_base.specs.declared.layer_words.Answers.{Answers}
+use Rattle.osi_base.specs.Limits.{most_marks, most_contexts}
+use Rattle.end_rules.specs.Base.{Base}
+use Rattle.end_rules.specs.Sets.{Alteration, Saved, is_among, put, put_accepted, pair_accepted, accepted_pair}
+use Rattle.osi_base.specs.SetPlaces.{pair_of, without_context}
 use Rattle.end_rules.specs.Sets.{syntax_named, with_added, with_deleted, altered, count_added, below, newest, next_number, listed}
 use Rattle.end_rules.specs.State.{Body}
 use Rattle.end_rules.specs.Altering.{has_double}

@@ -1,7 +1,7 @@
 -- Two ends of direct mode with what they share: no end acts by itself, and none ever fails.
 use Rattle.std.proofs.Common.{◌≡◌, refl, ◌∙◌, sym, subst, List, [], ◌∷◌}
 use Rattle.std.specs.Prelude.{Some, None}
-use Rattle.osi_base.specs.declared.words.SetItem.{SetItem}
+use Rattle.osi_base.specs.declared.layer_words.SetItem.{SetItem}
 use Rattle.stub_tables.specs.declared.tables.Tables.{Tables}
 use Rattle.dialogue.specs.declared.config.Config.{Config}
 use Rattle.end_rules.specs.Base.{Base, Spellings}

@@ -4,8 +4,8 @@ use Rattle.std.specs.Prelude.{ℤ, Bool, not, ◌&&◌, Option, Some, None, Ok, 
 use Rattle.std.proofs.lemmas.Bool.Decides.{nat_tests}
 use Rattle.std.proofs.lemmas.List.{length-append}
 use Rattle.osi_base.specs.declared.syntax.Pair.{Pair}
-use Rattle.osi_base.specs.declared.words.SetItem.{SetItem}
-use Rattle.osi_base.specs.declared.words.Answers.{Answers}
+use Rattle.osi_base.specs.declared.layer_words.SetItem.{SetItem}
+use Rattle.osi_base.specs.declared.layer_words.Answers.{Answers}
 use Rattle.osi_base.specs.declared.acse_word.Acse.TheVariants as acse
 use Rattle.osi_base.specs.Limits.{most_marks, last_activity}
 use Rattle.asn1_types.specs.declared.value.Val.{Val}
@@ -21,7 +21,8 @@ use Rattle.dialogue.specs.declared.call.Call.{Call}
 use Rattle.dialogue.specs.declared.call.Call.TheVariants as the_calls
 use Rattle.dialogue.specs.declared.call.CallRefusal.TheVariants as refusals
 use Rattle.end_rules.specs.Base.{Base, Spellings, Fault}
-use Rattle.end_rules.specs.Sets.{Alteration, pair_of, is_fixed}
+use Rattle.end_rules.specs.Sets.{Alteration, is_fixed}
+use Rattle.osi_base.specs.SetPlaces.{pair_of}
 use Rattle.end_rules.specs.State.{Body, Link, Calls, Sending, OpenCall, Queued, Transfer, Encoded, Suspended, NoAnswer, opened_with, is_up, is_broken, is_carrying, is_joined, is_current, is_suspended, is_free, passes_over, on_current, highest, pieces_of, confirmed_of, joined}
 use Rattle.end_rules.specs.Messages.{Message, Session, TransportUnit, ConnectionRequest, ConnectionConfirm, DisconnectRequest, TransportError, ValueContent, DataValue, Association, Part, Plea, UserValues}
 use Rattle.end_rules.specs.Messages.{Word, OfAssociation, OfData, OfMarks, OfActivities, AssociationWord, Connect, Accept, Refuse, Finish, Disconnect, Abort, AbortAccept, Values, AlterContext, AlterContextAck, Mark, MarkAck, Restart, RestartAck, Give, Please, GiveConfirm, GiveAck}

@@ -1,6 +1,6 @@
 -- Calls of two ends as their types have them: names are object identifiers whose arcs have 32 bits, and numbers have 32 bits.
 use Rattle.std.specs.Prelude.{◌≡◌, ℕ, ◌<◌, ◌^◌, List, [], ◌∷◌, true}
-use Rattle.osi_base.specs.declared.words.Proposal.{Proposal}
+use Rattle.osi_base.specs.declared.layer_words.Proposal.{Proposal}
 use Rattle.asn1_types.specs.Fits.{object_id_fits}
 use Rattle.asn1_types.specs.Value.{object_id}
 use Rattle.dialogue.specs.declared.call.Call.{Call}

@@ -2,11 +2,11 @@
 use Rattle.std.specs.Prelude.{◌≡◌, ℕ, ◌≤◌, List, [], ◌∷◌, length, Option, Some, None}
 use Rattle.osi_base.specs.Syntax.{name_of}
 use Rattle.osi_base.specs.declared.syntax.Syntax.{Syntax}
-use Rattle.osi_base.specs.declared.words.Proposal.{Proposal}
-use Rattle.osi_base.specs.declared.words.AddAnswer.{AddAnswer}
-use Rattle.osi_base.specs.declared.words.Answers.{Answers}
-use Rattle.osi_base.specs.declared.words.RestoredItem.{RestoredItem}
-use Rattle.osi_base.specs.Limits.{highest_context}
+use Rattle.osi_base.specs.declared.layer_words.Proposal.{Proposal}
+use Rattle.osi_base.specs.declared.layer_words.AddAnswer.{AddAnswer}
+use Rattle.osi_base.specs.declared.layer_words.Answers.{Answers}
+use Rattle.osi_base.specs.declared.layer_words.RestoredItem.{RestoredItem}
+use Rattle.osi_base.specs.Limits.{highest_context, most_contexts, most_transfers}
 use Rattle.said_words.specs.Calls.{AreNamed}
 
 abbrev pub IsContext : ℕ → Type 0
@@ -20,14 +20,14 @@ AreContexts (k ∷ ks) = IsContext k × AreContexts ks
 
 abbrev pub AreFew : List Proposal → Type 0
 AreFew [] = Unit {0}
-AreFew (p ∷ ps) = IsContext p.id × (length p.transfers ≤ 8) × AreFew ps
+AreFew (p ∷ ps) = IsContext p.id × (length p.transfers ≤ most_transfers) × AreFew ps
 
 pub record IsAlteration (add : List Proposal) (delete : List ℕ) : Type 0 where
   pub named : AreNamed add
   pub added : AreFew add
-  pub count : length add ≤ 64
+  pub count : length add ≤ most_contexts
   pub deleted : AreContexts delete
-  pub deletions : length delete ≤ 64
+  pub deletions : length delete ≤ most_contexts
 
 -- the name of one of the three transfer syntaxes
 abbrev pub IsSyntaxName : List ℕ → Type 0
@@ -56,9 +56,9 @@ AreVerdicts (answer ∷ answers) = (answer ≤ 1) × AreVerdicts answers
 
 pub record AreAnswers (answers : Answers) : Type 0 where
   pub added : AreResults answers.added
-  pub count : length answers.added ≤ 64
+  pub count : length answers.added ≤ most_contexts
   pub deleted : AreVerdicts answers.deleted
-  pub deletions : length answers.deleted ≤ 64
+  pub deletions : length answers.deleted ≤ most_contexts
 
 -- ---- restarts
 

@@ -1,7 +1,7 @@
 -- Which names, contexts, calls and events have what their types keep, as tests.
 use Rattle.std.specs.Prelude.{ℕ, Bool, true, ◌&&◌, List}
 use Rattle.std.specs.List.{list_all}
-use Rattle.osi_base.specs.declared.words.Proposal.{Proposal}
+use Rattle.osi_base.specs.declared.layer_words.Proposal.{Proposal}
 use Rattle.asn1_types.specs.Fits.{object_id_fits, has_32_bits}
 use Rattle.asn1_types.specs.Value.{object_id}
 use Rattle.dialogue.specs.declared.call.Call.{Call}

@@ -47,7 +47,7 @@ fn amount_of(word: &[u8]) -> Option<Option<u32>>
     if word == b"all".as_slice() {
         Some(None)
     } else {
-        Some(Some(value_text::number(word)?))
+        Some(Some(value_text::decimal_number(word)?))
     }
 }
 

@@ -1,7 +1,7 @@
 -- Which operation an invocation names: by its place among the invocations of its end.
 use Rattle.std.specs.Prelude.{ℕ, ℤ, zero, suc, pos, negsuc, ◌==◌, if◌then◌else◌, List, [], ◌∷◌, ◌++◌, length, Option, None, Some, option_and_then, slice_get, slice_set}
-use Rattle.osi_base.specs.declared.words.Side.{Side}
-use Rattle.osi_base.specs.declared.words.Side.TheVariants.{A, B}
+use Rattle.osi_base.specs.declared.layer_words.Side.{Side}
+use Rattle.osi_base.specs.declared.layer_words.Side.TheVariants.{A, B}
 use Rattle.asn1_types.specs.declared.row.TypeId.{TypeId}
 use Rattle.stub_tables.specs.declared.operation.Operation.{Operation}
 use Rattle.stub_tables.specs.declared.tables.Tables.{Tables}

@@ -67,7 +67,7 @@ pub fn field(text: &[u8]) -> Result<(&[u8], &[u8]), ScriptLineFault>
 fn number_of(field: &[u8]) -> Result<u32, ScriptLineFault>
     ensures { Gives (λ x. x) result (or_kind ScriptKind.BadNumber (number_of field.now)) }
 {
-    match value_text::number(field) {
+    match value_text::decimal_number(field) {
         Some(number) => Ok(number),
         None => Err(ScriptLineFault::Kind(ScriptKind::BadNumber)),
     }
@@ -77,7 +77,7 @@ fn number_of(field: &[u8]) -> Result<u32, ScriptLineFault>
 fn identifier_of(field: &[u8]) -> Result<i64, ScriptLineFault>
     ensures { Gives (λ x. x) result (or_kind ScriptKind.BadNumber (identifier_of field.now)) }
 {
-    match value_text::identifier(field) {
+    match value_text::invocation_identifier(field) {
         Some(id) => Ok(id),
         None => Err(ScriptLineFault::Kind(ScriptKind::BadNumber)),
     }

@@ -1,10 +1,11 @@
 -- A base whose spellings nothing asks for.
 use Rattle.std.specs.Prelude.{ℕ, List, [], Bool, not, ◌||◌, is_some, Err}
-use Rattle.osi_base.specs.declared.words.SetItem.{SetItem}
+use Rattle.osi_base.specs.declared.layer_words.SetItem.{SetItem}
 use Rattle.stub_tables.specs.declared.tables.Tables.{Tables}
 use Rattle.dialogue.specs.declared.config.Config.{Config}
 use Rattle.end_rules.specs.Base.{Base, Spellings, BadReject, base_of}
-use Rattle.end_rules.specs.Sets.{pair_of, has_parity}
+use Rattle.end_rules.specs.Sets.{has_parity}
+use Rattle.osi_base.specs.SetPlaces.{pair_of}
 use Rattle.end_rules.specs.Faults.{rtse_fault}
 
 abbrev pub no_spellings : Spellings

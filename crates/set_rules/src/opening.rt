@@ -13,11 +13,11 @@ ghost use Rattle.set_rules.specs.Plain.{plain_base, is_taken_id};
 
 use crate::answering::plain_answers;
 use association_ground::is_reliable;
-use association_sets::{accepted_set, has_name, has_parity, is_proposed, pair_of};
+use association_sets::{accepted_set, has_name, has_parity, is_proposed};
 use dialogue::Config;
 use osi_base::{
     AddAnswer, AddAnswers, Copied, ListOf, NoMemory, Oid, Oids, PresentationAccept,
-    PresentationConnect, Proposal, Proposals, SetItem, SetList,
+    PresentationConnect, Proposal, Proposals, SetItem, SetList, pair_of,
 };
 use std::alloc::Global;
 use stub_tables::Tables;

@@ -1,6 +1,7 @@
 //! Sets, proposals and rules for the tests.
 
 ghost use Rattle.std.specs.Prelude.{◌≤◌, IfOk, length};
+ghost use Rattle.osi_base.specs.Limits.{most_contexts};
 ghost use Rattle.context_sets.specs.Sets.{IsRising};
 
 use context_sets::{Alteration, Contexts, Rules, SetFault, accepted_list};
@@ -52,7 +53,7 @@ fn acceptances(alloc: Global, transfer: Syntax, count: usize) -> Result<AddAnswe
 /// The set of these proposed contexts, which are all accepted.
 fn accepted(alloc: Global, proposals: Proposals, transfer: Syntax) -> Result<SetList, SetFault>
     ensures rises { IfOk result (λ list. IsRising list) }
-    ensures within { IfOk result (λ list. length list ≤ 64) }
+    ensures within { IfOk result (λ list. length list ≤ most_contexts) }
 {
     let answers = acceptances(alloc, transfer, proposals.len())?;
     let list = accepted_list(alloc, &proposals, &answers)?;

@@ -2,7 +2,7 @@
 use Rattle.std.proofs.Common.{◌≡◌, ℕ, zero, suc, ◌+◌, ◌*◌, ◌<◌, ◌≤◌, ◌==◌, ltb, List, [], ◌∷◌, length, take, drop, Option, Result, Ok, refl, sym, ap, subst, ◌∙◌, inl, inr, arith}
 use Rattle.std.proofs.lemmas.Bool.{ltb-false}
 use Rattle.std.proofs.lemmas.List.{length-take, length-drop}
-use Rattle.osi_base.specs.declared.words.Kind.TheVariants as why
+use Rattle.osi_base.specs.declared.layer_words.Kind.TheVariants as why
 use Rattle.spdu_codec.specs.declared.fault.SFault.{SFault}
 use Rattle.spdu_codec.specs.declared.fault.SFault.TheVariants as faults
 use Rattle.spdu_codec.specs.declared.parameters.Slot.{Slot}

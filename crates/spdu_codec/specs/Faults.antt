@@ -1,6 +1,6 @@
 -- The first field of a transport unit that breaks the grammar of session units: all before it is right (X.225 8.2, 8.3).
 use Rattle.std.specs.Prelude.{◌≡◌, ℕ, ◌+◌, ◌<◌, ◌⊎◌, true, false, List, [], ◌∷◌, ◌++◌, length, Option, Some, None}
-use Rattle.osi_base.specs.declared.words.Kind.TheVariants as why
+use Rattle.osi_base.specs.declared.layer_words.Kind.TheVariants as why
 use Rattle.osi_base.specs.declared.session_word.SessionWord.{SessionWord}
 use Rattle.spdu_codec.specs.declared.fault.SFault.{SFault}
 use Rattle.spdu_codec.specs.declared.fault.SFault.TheVariants as faults

@@ -1,6 +1,6 @@
 -- The parameters of a unit, put in one after the other, each at most once (X.225 8.3).
 use Rattle.std.specs.Prelude.{ℕ, ◌==◌, Bool, true, false, not, List, [], ◌∷◌, length, Option, Some, None, is_none, nat_le, if◌then◌else◌}
-use Rattle.osi_base.specs.Limits.{most_connect_data}
+use Rattle.osi_base.specs.Limits.{most_connect_data, most_short_data}
 use Rattle.spdu_codec.specs.declared.parameters.Slot.{Slot}
 use Rattle.spdu_codec.specs.declared.parameters.Slot.TheVariants.{Identifier, ConnectItem, AcceptItem, Linking, CallingReference, CommonReference, Options, Version, Initial, TokenSetting, Requirements, CallingSelector, CalledSelector, ConnectData, ExtendedData, UserData, Transport, RefuseReason, ActivityReason, Tokens, ResyncType, Number, Activity, OldActivity, OldMark}
 use Rattle.spdu_codec.specs.declared.parameters.Parameters.{Parameters}
@@ -85,10 +85,6 @@ put_octet ActivityReason x p = Some (record p { reason = Some x })
 put_octet Tokens x p = Some (record p { tokens = Some x })
 put_octet ResyncType x p = if x == 0 then Some (record p { resync = true }) else None
 put_octet _ x p = None
-
--- octets of user data of a CONNECT that stand in the parameter User Data; more of them stand in Extended User Data
-abbrev pub most_short_data : ℕ
-most_short_data = 512
 
 -- parameters of any octets
 abbrev pub put_octets : Slot → List ℕ → Parameters → Option Parameters

@@ -1,6 +1,7 @@
 -- Session units as octets (X.225 8.2, 8.3).
 use Rattle.std.specs.Prelude.{◌≡◌, ℕ, ◌/◌, ◌%◌, ◌<◌, ◌⊎◌, true, false, List, [], ◌∷◌, ◌++◌, length, slice_index, Option, Some, None}
 use Rattle.osi_base.specs.declared.session_word.SessionWord.{SessionWord}
+use Rattle.osi_base.specs.Limits.{past_two_octets}
 use Rattle.spdu_codec.specs.declared.kind.SpduKind.{SpduKind}
 use Rattle.spdu_codec.specs.declared.parameters.Slot.{Slot}
 use Rattle.spdu_codec.specs.declared.parameters.Parameters.{Parameters}
@@ -14,7 +15,7 @@ IsOctets xs = (i : ℕ) → slice_index xs i < 256
 
 -- a length: one octet up to 254, or FF and two octets, the higher first, for any (X.225 8.2.5)
 abbrev pub IsLength : ℕ → List ℕ → Type 0
-IsLength n octets = ((n < 255) × (octets ≡ n ∷ [])) ⊎ ((n < 65536) × (octets ≡ 255 ∷ n / 256 ∷ n % 256 ∷ []))
+IsLength n octets = ((n < 255) × (octets ≡ n ∷ [])) ⊎ ((n < past_two_octets) × (octets ≡ 255 ∷ n / 256 ∷ n % 256 ∷ []))
 
 -- a code, a length, and so many octets: a unit without user information, a group or a parameter (X.225 8.2.2 to 8.2.4)
 abbrev pub IsCoded : ℕ → List ℕ → List ℕ → Type 0

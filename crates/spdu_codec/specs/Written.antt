@@ -3,11 +3,10 @@ use Rattle.std.specs.Prelude.{◌≡◌, ℕ, ◌+◌, ◌/◌, ◌%◌, ◌<◌
 use Rattle.std.specs.Option.{option_map}
 use Rattle.std.specs.List.{flat_map}
 use Rattle.std.specs.Int.Digits.{digits_of}
-use Rattle.spdu_codec.specs.Parameters.{most_short_data}
 use Rattle.osi_base.specs.declared.session_word.SessionConnect.{SessionConnect}
 use Rattle.osi_base.specs.declared.session_word.SessionWord.{SessionWord}
 use Rattle.osi_base.specs.declared.session_word.SessionWord.TheVariants.{Connect, Accept, Refuse, Finish, Disconnect, Abort, AbortAccept, GiveTokens, PleaseTokens, GiveTokensConfirm, GiveTokensAck, TypedData, Data, Mark, MarkAck, Resynchronize, ResynchronizeAck, ActivityStart, ActivityResume, ActivityInterrupt, ActivityInterruptAck, ActivityDiscard, ActivityDiscardAck, ActivityEnd, ActivityEndAck}
-use Rattle.osi_base.specs.Limits.{last_activity, most_connect_data}
+use Rattle.osi_base.specs.Limits.{last_activity, most_connect_data, most_short_data, past_two_octets}
 
 -- a length below 65,536, in one octet where it can be
 abbrev pub written_length : ℕ → List ℕ
@@ -170,7 +169,7 @@ AreFields _ = Unit {0}
 -- a length can tell the octets of the parameters
 pub record Fits (word : SessionWord) : Type 0 where
   pub fields : AreFields word
-  pub size : length (spelled (parameters_written word)) < 65536
+  pub size : length (spelled (parameters_written word)) < past_two_octets
 
 abbrev pub is_some_octet : Option ℕ → Bool
 is_some_octet None = false

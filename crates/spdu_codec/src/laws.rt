@@ -1,7 +1,7 @@
 //! Laws of session units: each is the contract of a function that does nothing.
 
 ghost use Rattle.std.specs.Prelude.{◌≡◌, ◌≢◌, ◌≤◌, ◌+◌, ◌++◌, ◌⊎◌, ℕ, List, length, Ok};
-ghost use Rattle.osi_base.specs.declared.words.Kind.{Kind};
+ghost use Rattle.osi_base.specs.declared.layer_words.Kind.{Kind};
 ghost use Rattle.osi_base.specs.declared.session_word.SessionWord.{SessionWord};
 ghost use Rattle.spdu_codec.specs.Reading.{UnitFault, units_at};
 ghost use Rattle.spdu_codec.specs.Wire.{AreUnits, IsOctets};

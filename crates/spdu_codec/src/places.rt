@@ -1,8 +1,9 @@
 //! Where the user data of session units begin in their transport unit.
 
-ghost use Rattle.std.specs.Prelude.{◌≡◌, ◌+◌, ◌<◌, ◌≤◌, ◌^◌, List, length, IfSome, None};
+ghost use Rattle.std.specs.Prelude.{◌≡◌, ◌+◌, ◌<◌, ◌≤◌, List, length, IfSome, None};
 ghost use Rattle.std.specs.Option.{option_map, ForSome};
 ghost use Rattle.osi_base.specs.declared.session_word.SessionWord.{SessionWord};
+ghost use Rattle.osi_base.specs.Limits.{past_places};
 ghost use Rattle.spdu_codec.specs.Wire.{AreUnits};
 ghost use Rattle.spdu_codec.specs.Places.{behind_code, placed, user_among, head, head_at, user_in, user_of_last, last_of, user_places, ArePlaced, HoldUser};
 
@@ -30,7 +31,7 @@ struct UnitHead<'a> {
 }
 
 fn behind_code(value: &[u8], start: usize) -> Option<usize>
-    requires { start < 2 ^ 63 }
+    requires { start < past_places }
     ensures { result ≡ behind_code value.now start }
 {
     match value {
@@ -41,7 +42,7 @@ fn behind_code(value: &[u8], start: usize) -> Option<usize>
 
 /// Where user data begin, once a parameter was looked at whose value begins at `start`.
 fn placed(slot: Option<Slot>, value: &[u8], start: usize, before: Option<usize>) -> Option<usize>
-    requires { start < 2 ^ 63 }
+    requires { start < past_places }
     ensures { result ≡ placed slot value.now start before }
 {
     match slot {
@@ -54,7 +55,7 @@ fn placed(slot: Option<Slot>, value: &[u8], start: usize, before: Option<usize>)
 /// Where user data begin among parameters that end at this place.
 fn user_among(table: &[(u8, Slot)], end: usize, octets: &[u8]) -> Option<usize>
     requires within { length octets.now ≤ end }
-    requires fits { end < 2 ^ 63 }
+    requires fits { end < past_places }
     ensures { result ≡ user_among table.now (length octets.now) end None octets.now }
 {
     let mut at = None;
@@ -93,7 +94,7 @@ fn head_at<'a>(table: &[(u8, SpduKind)], end: usize, octets: &'a [u8]) -> Option
 
 fn user_in(end: usize, unit: UnitHead<'_>) -> Option<usize>
     requires within { length unit.value.now + length unit.behind.now ≤ end }
-    requires fits { end < 2 ^ 63 }
+    requires fits { end < past_places }
     ensures { result ≡ user_in end (head unit.entry.kind unit.entry.value.now
         unit.entry.behind.now) }
 {
@@ -106,7 +107,7 @@ fn user_in(end: usize, unit: UnitHead<'_>) -> Option<usize>
 
 fn user_of_last(end: usize, unit: UnitHead<'_>) -> Option<usize>
     requires within { length unit.value.now + length unit.behind.now ≤ end }
-    requires fits { end < 2 ^ 63 }
+    requires fits { end < past_places }
     ensures { result ≡ user_of_last end
         (head unit.entry.kind unit.entry.value.now unit.entry.behind.now) }
 {
@@ -118,7 +119,7 @@ fn user_of_last(end: usize, unit: UnitHead<'_>) -> Option<usize>
 
 fn last_of(end: usize, unit: Option<UnitHead<'_>>) -> Option<usize>
     requires within { ForSome unit (λ u. length u.value.now + length u.behind.now ≤ end) }
-    requires fits { end < 2 ^ 63 }
+    requires fits { end < past_places }
     ensures { result ≡ last_of end (option_map (λ u. head u.kind u.value.now u.behind.now)
         unit.entry) }
 {

@@ -3,7 +3,7 @@ use Rattle.std.proofs.Common.{◌≡◌, ℕ, zero, suc, ◌+◌, ◌-◌, ◌*�
 use Rattle.std.proofs.lemmas.Bool.Decides.{nat_tests}
 use Rattle.std.proofs.Math.ListN.{drop_of_length-le}
 use Rattle.std.proofs.lemmas.Option.{slice_get_within, get_or_from_slice_get}
-use Rattle.osi_base.specs.declared.words.Kind.TheVariants.{Tag}
+use Rattle.osi_base.specs.declared.layer_words.Kind.TheVariants.{Tag}
 use Rattle.std.proofs.lemmas.List.{take_more, take-append-drop, take-append-le, drop-append-le, append-nil}
 use Rattle.std.specs.Prelude.{nat_lt, nat_eq, slice_get, if◌then◌else◌}
 use Rattle.asn1_types.specs.Value.{Value, any}

@@ -1,7 +1,7 @@
 -- What stands first in octets: one whole value of any type (X.690 8.1).
 use Rattle.std.specs.Prelude.{ℕ, Bool, List, Result, Ok, Err}
+use Rattle.osi_base.specs.Limits.{most_octets}
 use Rattle.asn1_types.specs.Value.{Value}
-use Rattle.asn1_types.specs.Limits.{most_octets}
 use Rattle.ber_spelling.specs.declared.fault.ReadFault.{ReadFault}
 use Rattle.ber_spelling.specs.declared.fault.ReadFault.TheVariants as faults
 use Rattle.ber_spelling.specs.Rules.{read_at}

@@ -1,8 +1,8 @@
 -- Reading that is left somewhere in a value, and goes on there: what the octets that follow make of it.
 use Rattle.std.specs.Prelude.{◌≡◌, ℕ, zero, suc, ◌+◌, ◌-◌, ◌<◌, ◌≤◌, ◌^◌, Bool, true, false, ◌&&◌, ◌||◌, Option, Some, None, List, [], ◌∷◌, ◌++◌, length, take, drop, Ok, Err, nat_lt, nat_eq, slice_index, if◌then◌else◌}
-use Rattle.osi_base.specs.declared.words.Kind.TheVariants.{Tag, Length}
+use Rattle.osi_base.specs.declared.layer_words.Kind.TheVariants.{Tag, Length}
+use Rattle.osi_base.specs.Limits.{most_octets, most_levels}
 use Rattle.asn1_types.specs.Whole.{is_marked, number_256}
-use Rattle.asn1_types.specs.Limits.{most_octets}
 use Rattle.ber_spelling.specs.declared.fault.ReadFault.TheVariants as faults
 use Rattle.ber_spelling.specs.declared.spot.Scope.{Scope}
 use Rattle.ber_spelling.specs.Reading.{Spot, Reading, ◌>>=◌, refuse, within}
@@ -29,11 +29,11 @@ is_inside zero = false
 is_inside (suc depth) = true
 
 abbrev pub scope_in : ℕ → Scope
-scope_in depth = record { levels = 32 - depth; limit = most_octets; end = None; marked = is_inside depth; strict = false }
+scope_in depth = record { levels = most_levels - depth; limit = most_octets; end = None; marked = is_inside depth; strict = false }
 
 -- values up to end-of-contents (X.690 8.1.3.6)
 abbrev pub values_in : ℕ → Spot → Reading End
-values_in depth s = all_items_at (whole_at (32 - depth)) (λ (u : Unit {0}). Some u) tt (scope_in depth) s
+values_in depth s = all_items_at (whole_at (most_levels - depth)) (λ (u : Unit {0}). Some u) tt (scope_in depth) s
 
 -- behind a whole value: more values up to end-of-contents, and so on outwards
 abbrev pub goes_on : ℕ → Spot → Reading End
@@ -42,7 +42,7 @@ goes_on (suc depth) s = values_in (suc depth) s >>= λ x. goes_on depth x.1
 
 -- the value itself, from its identifier on
 abbrev pub outermost : Spot → Reading End
-outermost s = identifier_at (scope_in 0) s.place s.rest >>= λ x. whole_at 32 tt (scope_in 0) x.0 x.1
+outermost s = identifier_at (scope_in 0) s.place s.rest >>= λ x. whole_at most_levels tt (scope_in 0) x.0 x.1
 
 -- where a value or an end-of-contents stands next
 abbrev pub next_at : ℕ → Spot → Reading End
@@ -114,13 +114,13 @@ outcome (Err fault) = faulty fault
 -- At most 32 indefinite lengths are open; only inside one of them a zero octet may begin an end-of-contents. A length
 -- that isn't whole lies within the limit.
 abbrev pub IsSoundStage : stages.Stage → ℕ → ℕ → Type 0
-IsSoundStage stage.Next seen depth = depth ≤ 32
-IsSoundStage stage.Zero seen depth = depth ≤ 32
-IsSoundStage (stage.High constructed) seen depth = depth < 32
-IsSoundStage (stage.Digits constructed padded number) seen depth = (depth < 32) × (number ≤ 2 ^ 32)
-IsSoundStage (stage.Length constructed) seen depth = depth < 32
-IsSoundStage (stage.Size size left number) seen depth = (depth < 32) × (0 < left) × (number ≤ 2 ^ 32) × (seen ≤ most_octets)
-IsSoundStage (stage.Contents left) seen depth = (depth < 32) × (0 < left)
+IsSoundStage stage.Next seen depth = depth ≤ most_levels
+IsSoundStage stage.Zero seen depth = depth ≤ most_levels
+IsSoundStage (stage.High constructed) seen depth = depth < most_levels
+IsSoundStage (stage.Digits constructed padded number) seen depth = (depth < most_levels) × (number ≤ 2 ^ 32)
+IsSoundStage (stage.Length constructed) seen depth = depth < most_levels
+IsSoundStage (stage.Size size left number) seen depth = (depth < most_levels) × (0 < left) × (number ≤ 2 ^ 32) × (seen ≤ most_octets)
+IsSoundStage (stage.Contents left) seen depth = (depth < most_levels) × (0 < left)
 IsSoundStage stage.Whole seen depth = Unit {0}
 IsSoundStage (stage.Faulty place) seen depth = Unit {0}
 

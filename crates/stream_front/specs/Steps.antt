@@ -1,9 +1,9 @@
 -- What one octet makes of a scanner.
 use Rattle.std.specs.Prelude.{ℕ, zero, suc, ◌+◌, ◌-◌, ◌*◌, ◌%◌, Bool, true, false, ◌&&◌, ◌||◌, nat_lt, nat_le, nat_eq, if◌then◌else◌}
+use Rattle.osi_base.specs.Limits.{most_octets, most_levels}
 use Rattle.asn1_types.specs.Rows.{is_no_tag}
 use Rattle.ber_spelling.specs.Fields.{is_constructed}
 use Rattle.asn1_types.specs.Tags.{class_of, capped}
-use Rattle.asn1_types.specs.Limits.{most_octets}
 use Rattle.stream_front.specs.declared.scanner.Scanner.{Scanner}
 use Rattle.stream_front.specs.declared.scanner.Stage.{Stage}
 use Rattle.stream_front.specs.declared.scanner.Stage.TheVariants as stage
@@ -49,7 +49,7 @@ begun s octet =
 abbrev pub first_octet : Scanner → ℕ → Scanner
 first_octet s octet =
     if nat_eq octet 0 && is_inside s.depth then limited s s.seen (in_field s stage.Zero)
-    else (if nat_le 32 s.depth then faulty_at s s.seen else limited s s.seen (begun s octet))
+    else (if nat_le most_levels s.depth then faulty_at s s.seen else limited s s.seen (begun s octet))
 
 -- the second octet of an end-of-contents
 abbrev pub second_zero : Scanner → ℕ → Scanner

@@ -1,8 +1,8 @@
 //! What one octet makes of a scanner.
 
 ghost use Rattle.std.specs.Prelude.{◌≡◌, ◌<◌, ◌≤◌, ◌^◌, ◌+◌, nat_lt};
+ghost use Rattle.osi_base.specs.Limits.{most_octets, past_places, most_levels};
 ghost use Rattle.asn1_types.specs.Tags.{capped};
-ghost use Rattle.asn1_types.specs.Limits.{most_octets};
 ghost use Rattle.stream_front.specs.Resuming.{IsSoundStage};
 ghost use Rattle.stream_front.specs.Steps as steps;
 
@@ -18,7 +18,7 @@ const LEVELS: u32 = 32;
 
 /// In the same field.
 fn on(scanner: Scanner, stage: Stage) -> Scanner
-    requires seen { scanner.seen < 2 ^ 63 }
+    requires seen { scanner.seen < past_places }
     ensures { result ≡ steps.on scanner stage }
 {
     Scanner {
@@ -31,7 +31,7 @@ fn on(scanner: Scanner, stage: Stage) -> Scanner
 
 /// The field at this place breaks the rules.
 fn faulty_at(scanner: Scanner, place: usize) -> Scanner
-    requires seen { scanner.seen < 2 ^ 63 }
+    requires seen { scanner.seen < past_places }
     ensures { result ≡ steps.faulty_at scanner place }
 {
     on(scanner, Stage::Faulty { place })
@@ -39,7 +39,7 @@ fn faulty_at(scanner: Scanner, place: usize) -> Scanner
 
 /// Behind a field, inside so many indefinite lengths.
 fn at_field(scanner: Scanner, depth: u32, stage: Stage) -> Scanner
-    requires seen { scanner.seen < 2 ^ 63 }
+    requires seen { scanner.seen < past_places }
     ensures { result ≡ steps.at_field scanner depth stage }
 {
     Scanner {
@@ -52,7 +52,7 @@ fn at_field(scanner: Scanner, depth: u32, stage: Stage) -> Scanner
 
 /// In a field that begins with this octet.
 fn in_field(scanner: Scanner, stage: Stage) -> Scanner
-    requires seen { scanner.seen < 2 ^ 63 }
+    requires seen { scanner.seen < past_places }
     ensures { result ≡ steps.in_field scanner stage }
 {
     Scanner {
@@ -65,7 +65,7 @@ fn in_field(scanner: Scanner, stage: Stage) -> Scanner
 
 /// Whether the next octet lies past the limit.
 fn is_past(scanner: Scanner) -> bool
-    requires seen { scanner.seen < 2 ^ 63 }
+    requires seen { scanner.seen < past_places }
     ensures { result ≡ nat_lt most_octets (scanner.seen + 1) }
 {
     MOST < scanner.seen as u64 + 1
@@ -73,7 +73,7 @@ fn is_past(scanner: Scanner) -> bool
 
 /// Behind a whole value or an end-of-contents.
 fn behind(scanner: Scanner, depth: u32) -> Scanner
-    requires seen { scanner.seen < 2 ^ 63 }
+    requires seen { scanner.seen < past_places }
     ensures { result ≡ steps.behind scanner depth }
 {
     let stage = if depth == 0 {
@@ -86,7 +86,7 @@ fn behind(scanner: Scanner, depth: u32) -> Scanner
 
 /// A length of so many octets of contents, which end within the limit.
 fn announced(scanner: Scanner, field: usize, count: u64) -> Scanner
-    requires seen { scanner.seen < 2 ^ 63 }
+    requires seen { scanner.seen < past_places }
     requires count { count < 2 ^ 41 }
     ensures { result ≡ steps.announced scanner field count }
 {
@@ -101,7 +101,7 @@ fn announced(scanner: Scanner, field: usize, count: u64) -> Scanner
 
 /// A value begins.
 fn begun(scanner: Scanner, octet: u8) -> Scanner
-    requires seen { scanner.seen < 2 ^ 63 }
+    requires seen { scanner.seen < past_places }
     ensures { result ≡ steps.begun scanner octet }
 {
     let constructed = octet / 32 % 2 == 1;
@@ -116,7 +116,7 @@ fn begun(scanner: Scanner, octet: u8) -> Scanner
 
 /// The first octet of a value or an end-of-contents.
 fn first_octet(scanner: Scanner, octet: u8) -> Scanner
-    requires seen { scanner.seen < 2 ^ 63 }
+    requires seen { scanner.seen < past_places }
     ensures { result ≡ steps.first_octet scanner octet }
 {
     let ends = octet == 0 && scanner.depth > 0;
@@ -132,7 +132,7 @@ fn first_octet(scanner: Scanner, octet: u8) -> Scanner
 
 /// The second octet of an end-of-contents.
 fn second_zero(scanner: Scanner, octet: u8) -> Scanner
-    requires seen { scanner.seen < 2 ^ 63 }
+    requires seen { scanner.seen < past_places }
     ensures { result ≡ steps.second_zero scanner octet }
 {
     if octet != 0 || is_past(scanner) {
@@ -143,7 +143,7 @@ fn second_zero(scanner: Scanner, octet: u8) -> Scanner
 
 /// A digit of a tag number.
 fn digit(scanner: Scanner, constructed: bool, padded: bool, number: u64, octet: u8) -> Scanner
-    requires seen { scanner.seen < 2 ^ 63 }
+    requires seen { scanner.seen < past_places }
     requires number { number ≤ 2 ^ 32 }
     ensures { result ≡ steps.digit scanner constructed padded number octet }
 {
@@ -168,8 +168,8 @@ fn digit(scanner: Scanner, constructed: bool, padded: bool, number: u64, octet: 
 
 /// The first octet of a length.
 fn length_octet(scanner: Scanner, constructed: bool, octet: u8) -> Scanner
-    requires seen { scanner.seen < 2 ^ 63 }
-    requires depth { scanner.depth < 32 }
+    requires seen { scanner.seen < past_places }
+    requires depth { scanner.depth < most_levels }
     ensures { result ≡ steps.length_octet scanner constructed octet }
 {
     if is_past(scanner) {
@@ -193,7 +193,7 @@ fn length_octet(scanner: Scanner, constructed: bool, octet: u8) -> Scanner
 
 /// A further octet of a length.
 fn size_octet(scanner: Scanner, size: u8, left: u8, number: u64, octet: u8) -> Scanner
-    requires seen { scanner.seen < 2 ^ 63 }
+    requires seen { scanner.seen < past_places }
     requires left { 0 < left }
     requires number { number ≤ 2 ^ 32 }
     ensures { result ≡ steps.size_octet scanner size left number octet }
@@ -218,7 +218,7 @@ fn size_octet(scanner: Scanner, size: u8, left: u8, number: u64, octet: u8) -> S
 
 /// An octet of contents.
 fn content(scanner: Scanner, left: u64) -> Scanner
-    requires seen { scanner.seen < 2 ^ 63 }
+    requires seen { scanner.seen < past_places }
     requires left { 0 < left }
     ensures { result ≡ steps.content scanner left }
 {
@@ -232,7 +232,7 @@ fn content(scanner: Scanner, left: u64) -> Scanner
 /// What one octet makes of a scanner.
 #[tactic(auto, unfolding(crate::specs::Steps::step))]
 pub(crate) fn step(scanner: Scanner, octet: u8) -> Scanner
-    requires seen { scanner.seen < 2 ^ 63 }
+    requires seen { scanner.seen < past_places }
     requires sound { IsSoundStage scanner.stage scanner.seen scanner.depth }
     ensures { result ≡ steps.step scanner octet }
 {

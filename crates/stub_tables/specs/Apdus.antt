@@ -3,7 +3,7 @@ use Rattle.std.specs.Prelude.{◌≡◌, ℕ, ◌≤ℤ◌, ℤ, pos, negsuc, Li
 use Rattle.std.specs.Option.{option_map}
 use Rattle.osi_base.specs.declared.syntax.Syntax.{Syntax}
 use Rattle.osi_base.specs.declared.syntax.Syntax.TheVariants as syntax
-use Rattle.osi_base.specs.Limits.{last_invocation}
+use Rattle.osi_base.specs.Limits.{last_invocation, most_octets}
 use Rattle.asn1_types.specs.declared.value.Val.{Val}
 use Rattle.asn1_types.specs.declared.table.TypeTable.{TypeTable}
 use Rattle.asn1_types.specs.declared.row.TypeId.{TypeId}
@@ -13,7 +13,6 @@ use Rattle.ber_spelling.specs.declared.fault.ReadFault.TheVariants.{NotSpelled, 
 use Rattle.ber_spelling.specs.Rules.{read_at}
 use Rattle.ber_spelling.specs.Spelling.{Ber}
 use Rattle.asn1_types.specs.Writing.{written}
-use Rattle.asn1_types.specs.Limits.{most_octets}
 use Rattle.stub_tables.specs.declared.tables.Tables.{Tables}
 use Rattle.stub_tables.specs.declared.operation.Code.{Code}
 use Rattle.stub_tables.specs.declared.operation.Use.{Use}

@@ -1,7 +1,7 @@
 -- The heads of APDUs of remote operations as rows of types (X.880 9, X.882 9). What an operation or
 -- an error carries stands in them as one whole value of any type.
 use Rattle.std.specs.Prelude.{ℕ, ℤ, pos, negsuc, true, false, List, [], ◌∷◌, Option, Some, None, codes}
-use Rattle.osi_base.specs.Limits.{last_invocation}
+use Rattle.osi_base.specs.Limits.{last_invocation, most_signed}
 use Rattle.asn1_types.specs.declared.row.Part.{Part}
 use Rattle.asn1_types.specs.declared.row.Class.TheVariants.{Context}
 use Rattle.asn1_types.specs.declared.row.TypeRow.{TypeRow}
@@ -29,7 +29,7 @@ head_rows =
     -- 0: an identifier of an invocation
     Integer (negsuc last_invocation) (pos last_invocation)
     -- 1 to 3: a code
-    ∷ Integer (negsuc 9223372036854775807) (pos 9223372036854775807)
+    ∷ Integer (negsuc most_signed) (pos most_signed)
     ∷ ObjectId
     ∷ Choice (part (codes "local") 1 ∷ part (codes "global") 2 ∷ [])
     -- 4: the identifier that an invocation is linked to

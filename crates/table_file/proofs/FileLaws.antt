@@ -8,7 +8,7 @@ use Rattle.asn1_types.specs.declared.row.Part.{Part}
 use Rattle.asn1_types.specs.declared.row.TypeRow.{TypeRow}
 use Rattle.asn1_types.specs.declared.row.TypeRow.TheVariants as rows
 use Rattle.notation_tokens.specs.Words.{is_name_of_type}
-use Rattle.packed_codec.specs.Octets.{AreOctets}
+use Rattle.ber_spelling.specs.Octets.{AreOctets}
 use Rattle.packed_codec.specs.Writing.{counted}
 use Rattle.packed_codec.proofs.Taking.{octets_right}
 use Rattle.stub_tables.specs.declared.operation.Operation.{Operation}

@@ -15,7 +15,7 @@ use Rattle.asn1_types.specs.declared.refusal.RowRefusal.{RowRefusal}
 use Rattle.asn1_types.specs.Rows.{class_number}
 use Rattle.asn1_types.specs.Table.{refusal}
 use Rattle.notation_tokens.specs.Words.{is_name_of_value}
-use Rattle.packed_codec.specs.Octets.{AreOctets}
+use Rattle.ber_spelling.specs.Octets.{AreOctets}
 use Rattle.packed_codec.specs.Writing.{counted}
 use Rattle.table_file.specs.declared.row_parts.Version.{Version}
 use Rattle.table_file.specs.declared.row_parts.Version.TheVariants as versions

@@ -11,7 +11,7 @@ use Rattle.indexmap.specs.IndexSet.{insert_key}
 use Rattle.stub_tables.specs.declared.operation.Code.{Code}
 use Rattle.stub_tables.specs.declared.operation.Code.TheVariants.{Local, Global}
 use Rattle.stub_tables.specs.Codes.{same_code}
-use Rattle.table_file.specs.declared.known.Codes.{Codes}
+use Rattle.table_file.specs.declared.names_and_codes.Codes.{Codes}
 use Rattle.table_file.specs.Known.{has_code}
 
 text_swap : (a b : List ℕ) → pointwise nat_eq a b ≡ pointwise nat_eq b a

@@ -1,10 +1,10 @@
 -- The fields of a table file, read from the left in the packed syntax: octets, counts, truth values, texts, numbers and object identifiers.
-use Rattle.std.specs.Prelude.{ℕ, zero, suc, ◌+◌, ◌<◌, ◌^◌, ℤ, Bool, true, false, List, length, take, Result, Ok, Err, Option, Some, None, nat_lt, slice_index, if◌then◌else◌}
+use Rattle.std.specs.Prelude.{ℕ, zero, suc, ◌+◌, ◌<◌, ℤ, Bool, true, false, List, length, take, Result, Ok, Err, Option, Some, None, nat_lt, slice_index, if◌then◌else◌}
+use Rattle.osi_base.specs.Limits.{most_spelled, past_places}
 use Rattle.byteorder.specs.Endian.{big_number}
 use Rattle.asn1_types.specs.declared.row.TextKind.TheVariants.{Ia5}
 use Rattle.asn1_types.specs.Fits.{is_text}
 use Rattle.asn1_types.specs.Value.{Value, integer, object_id}
-use Rattle.asn1_types.specs.Limits.{most_spelled}
 use Rattle.packed_codec.specs.declared.fault.PackedFault.{PackedFault}
 use Rattle.packed_codec.specs.declared.fault.PackedFault.TheVariants as packed
 use Rattle.packed_codec.specs.Rules.{read_at}
@@ -63,7 +63,7 @@ text_at s = do
 
 -- a fault's place is a number of 64 bits, also counted from where its field begins
 abbrev pub IsNear : ℕ → PackedFault → Type 0
-IsNear start (packed.NotSpelled place kind) = start + place < 2 ^ 63
+IsNear start (packed.NotSpelled place kind) = start + place < past_places
 IsNear start fault = Unit {0}
 
 -- A fault within a field stands behind where the field begins.

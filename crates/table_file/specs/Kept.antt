@@ -3,8 +3,8 @@ use Rattle.std.specs.Prelude.{◌≡◌, ◌||◌, ℕ, List}
 use Rattle.stub_tables.specs.declared.operation.Code.{Code}
 use Rattle.stub_tables.specs.declared.operation.Operation.{Operation}
 use Rattle.stub_tables.specs.declared.operation.ErrorRow.{ErrorRow}
-use Rattle.table_file.specs.declared.known.Codes.{Codes}
-use Rattle.table_file.specs.declared.known.Names.{Names}
+use Rattle.table_file.specs.declared.names_and_codes.Codes.{Codes}
+use Rattle.table_file.specs.declared.names_and_codes.Names.{Names}
 use Rattle.table_file.specs.Known.{has_code, has_name}
 use Rattle.table_file.specs.Sections.{error_named, error_coded, operation_named, operation_coded}
 

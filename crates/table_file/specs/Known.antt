@@ -5,8 +5,8 @@ use Rattle.std.specs.Cmp.Lexicographic.{pointwise}
 use Rattle.std.specs.HashSet.{contains_by}
 use Rattle.stub_tables.specs.declared.operation.Code.{Code}
 use Rattle.stub_tables.specs.declared.operation.Code.TheVariants.{Local, Global}
-use Rattle.table_file.specs.declared.known.Codes.{Codes}
-use Rattle.table_file.specs.declared.known.Names.{Names}
+use Rattle.table_file.specs.declared.names_and_codes.Codes.{Codes}
+use Rattle.table_file.specs.declared.names_and_codes.Names.{Names}
 
 abbrev pub has_code : Codes → Code → Bool
 has_code codes (Local number) = contains_by (λ n. int_eq number n) codes.locals

@@ -1,6 +1,6 @@
 -- Tables that have a table file, row by row: names and numbers have their forms, and each row may stand behind those before it.
 use Rattle.std.specs.Prelude.{◌≡◌, ℕ, suc, ◌+◌, ◌<◌, ◌^◌, ℤ, pos, negsuc, Bool, true, false, ◌||◌, List, [], ◌∷◌, ◌++◌, length, Option, Some, None, ◌≤◌}
-use Rattle.osi_base.specs.Limits.{most_32}
+use Rattle.osi_base.specs.Limits.{most_32, most_signed}
 use Rattle.asn1_types.specs.declared.row.Item.{Item}
 use Rattle.asn1_types.specs.declared.row.Part.{Part}
 use Rattle.asn1_types.specs.declared.row.TypeId.{TypeId}
@@ -49,7 +49,7 @@ IsTitled name = (is_name_of_type name ≡ true) × (length name < 2 ^ 32)
 
 -- a number of 64 bits
 abbrev pub IsNumber : ℤ → Type 0
-IsNumber z = integer_fits (negsuc 9223372036854775807) (pos 9223372036854775807) (integer z) ≡ true
+IsNumber z = integer_fits (negsuc most_signed) (pos most_signed) (integer z) ≡ true
 
 -- a number of 32 bits
 abbrev pub IsShortNumber : ℕ → Type 0

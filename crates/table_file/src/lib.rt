@@ -4,10 +4,10 @@
 mod fault;
 mod field_types;
 mod fields;
-mod known;
 mod laws;
 mod loading;
 mod migrating;
+mod names_and_codes;
 mod putting;
 mod row_parts;
 mod rows;

@@ -10,7 +10,7 @@ ghost use Rattle.table_file.specs.Loading.{version_at, module_name_at, contents_
 use crate::fault::{LoadFault, Stop};
 use crate::field_types::field_types;
 use crate::fields::{object_id, text};
-use crate::known::Names;
+use crate::names_and_codes::Names;
 use crate::row_parts::Version;
 use crate::rows::rows;
 use crate::sections::{errors, operations};

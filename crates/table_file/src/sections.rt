@@ -10,7 +10,7 @@ ghost use Rattle.table_file.specs.Kept.{AreErrorNames, AreErrorCodes, AreNames, 
 
 use crate::fault::Stop;
 use crate::fields::{counted, integer, object_id, octet, truth};
-use crate::known::{Codes, Names};
+use crate::names_and_codes::{Codes, Names};
 use crate::row_parts::{indices, name, row_number};
 use crate::spot::Spot;
 use asn1_types::{TypeId, TypeTable};

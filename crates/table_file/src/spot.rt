@@ -1,6 +1,6 @@
 //! Where reading stands.
 
-ghost use Rattle.std.specs.Prelude.{◌+◌, ◌<◌, ◌^◌, length};
+ghost use Rattle.osi_base.specs.OctetPlaces.{HasPlaces};
 
 /// A place in the octets, what stands from there on, and how many items the lists that follow may
 /// have together.
@@ -12,5 +12,5 @@ pub struct Spot<'a> {
     pub rest: &'a [u8],
     /// How many items the lists that follow may have together.
     pub left: u32,
-    ghost whole: { place + length rest.now < 2 ^ 63 },
+    ghost whole: { HasPlaces place rest.now },
 }

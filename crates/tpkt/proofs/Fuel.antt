@@ -2,7 +2,7 @@
 use Rattle.std.proofs.Common.{◌≡◌, ℕ, zero, suc, ◌+◌, ◌-◌, ◌<◌, ◌≤◌, ◌==◌, List, [], ◌∷◌, length, take, drop, cond, ltb, Result, Ok, Err, refl, sym, ap, ◌∙◌, arith}
 use Rattle.std.proofs.lemmas.Bool.{ltb-false}
 use Rattle.std.proofs.lemmas.List.{length-take}
-use Rattle.osi_base.specs.declared.words.Kind.TheVariants as kinds
+use Rattle.osi_base.specs.declared.layer_words.Kind.TheVariants as kinds
 use Rattle.tpkt.specs.declared.header_stops.Stop.TheVariants.{Short, At}
 use Rattle.tpkt.specs.declared.header_stops.Halt.{Halt}
 use Rattle.tpkt.specs.declared.header_stops.Halt.TheVariants as halts

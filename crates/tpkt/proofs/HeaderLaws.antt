@@ -4,7 +4,7 @@ use Rattle.std.specs.Prelude.{◌&&◌, ◌||◌, nat_le}
 use Rattle.std.specs.List.{flat_map}
 use Rattle.std.proofs.lemmas.Bool.{lt-leb, ltb-false, le-ltb, leb-true, leb-false, le-leb, and_parts, or_parts}
 use Rattle.std.proofs.lemmas.List.{take-append-drop, length-append, length-take}
-use Rattle.osi_base.specs.declared.words.Kind.TheVariants as kinds
+use Rattle.osi_base.specs.declared.layer_words.Kind.TheVariants as kinds
 use Rattle.osi_base.specs.Limits.{tsdu_limit}
 use Rattle.tpkt.specs.declared.packet.ConnectionFields.{ConnectionFields}
 use Rattle.tpkt.specs.declared.packet.Packet.{Packet}

@@ -4,7 +4,7 @@ use Rattle.std.specs.Prelude.{is_none}
 use Rattle.std.specs.List.{flat_map}
 use Rattle.std.proofs.lemmas.Bool.{ltb-false, le-ltb, cases_Bool}
 use Rattle.std.proofs.lemmas.List.{append-nil, take-append-drop, length-append, length-take, take_at, drop_at}
-use Rattle.osi_base.specs.declared.words.Kind.TheVariants as kinds
+use Rattle.osi_base.specs.declared.layer_words.Kind.TheVariants as kinds
 use Rattle.tpkt.specs.declared.parameters.Seen.{Seen}
 use Rattle.tpkt.specs.declared.header_stops.Stop.{Stop}
 use Rattle.tpkt.specs.declared.header_stops.Stop.TheVariants.{Short, At}

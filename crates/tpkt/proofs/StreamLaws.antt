@@ -19,7 +19,7 @@ use Rattle.tpkt.proofs.HeaderLaws.{front, found_data, found_control, again_data,
 use Rattle.tpkt.proofs.UnitLaws.{part_packet, part_unit, unit_found, unit_again, unit_stays, faulty, short_yet, data_yet}
 use Rattle.tpkt.proofs.ReaderLaws.{short_empty, still_open, after-append, after_fault}
 use Rattle.tpkt.proofs.Results.{ok_is}
-use Rattle.osi_base.specs.declared.words.Kind.{Kind}
+use Rattle.osi_base.specs.declared.layer_words.Kind.{Kind}
 use Rattle.osi_base.specs.Limits.{tsdu_limit}
 
 abbrev pub fed : List Packet → Held → ReaderProgress

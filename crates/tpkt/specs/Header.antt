@@ -1,7 +1,7 @@
 -- Reading the header of a packet from left to right, with the first field that breaks the grammar.
 use Rattle.std.specs.Prelude.{◌≡◌, ℕ, zero, suc, ◌+◌, ◌-◌, ◌*◌, ◌==◌, ◌&&◌, ◌||◌, Bool, true, false, List, [], ◌∷◌, length, take, drop, Option, Some, None, Result, Ok, Err, nat_lt, nat_le, is_none, if◌then◌else◌}
-use Rattle.osi_base.specs.declared.words.Kind.TheVariants as kinds
-use Rattle.osi_base.specs.Limits.{tsdu_limit}
+use Rattle.osi_base.specs.declared.layer_words.Kind.TheVariants as kinds
+use Rattle.osi_base.specs.Limits.{tsdu_limit, reserved_length}
 use Rattle.tpkt.specs.declared.packet.ConnectionFields.{ConnectionFields}
 use Rattle.tpkt.specs.declared.packet.Packet.{Packet}
 use Rattle.tpkt.specs.declared.packet.Packet.TheVariants.{Connect, Confirm, Disconnect, Problem}
@@ -120,7 +120,7 @@ code_at begun room li (code ∷ rest) =
 
 unfoldable pub indicator_at : ℕ → ℕ → List ℕ → Result Header Stop
 indicator_at begun room [] = Err Short
-indicator_at begun room (li ∷ rest) = if li == 0 || nat_le 255 li || nat_lt room li then Err (At 4 kinds.Length) else code_at begun room li rest
+indicator_at begun room (li ∷ rest) = if li == 0 || nat_le reserved_length li || nat_lt room li then Err (At 4 kinds.Length) else code_at begun room li rest
 
 unfoldable pub length_at : ℕ → List ℕ → Result Header Stop
 length_at begun (high ∷ low ∷ rest) =

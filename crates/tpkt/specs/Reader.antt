@@ -1,6 +1,6 @@
 -- A reader takes the octets of a stream one by one, so it is all one how the stream is cut.
 use Rattle.std.specs.Prelude.{◌≡◌, ℕ, ◌+◌, ◌-◌, ◌^◌, ◌<◌, ◌≤◌, ◌==◌, min, Bool, true, false, List, [], ◌∷◌, ◌++◌, length, Option, Some, None, Result, Ok, Err, if◌then◌else◌}
-use Rattle.osi_base.specs.Limits.{tsdu_limit}
+use Rattle.osi_base.specs.Limits.{tsdu_limit, unit_most}
 use Rattle.tpkt.specs.declared.packet.Packet.{Packet}
 use Rattle.tpkt.specs.declared.packet.Packet.TheVariants.{Tsdu}
 use Rattle.tpkt.specs.declared.packet.TFault.{TFault}
@@ -12,7 +12,6 @@ use Rattle.tpkt.specs.declared.header.Header.TheVariants.{Control, Data}
 use Rattle.tpkt.specs.declared.header_stops.Stop.{Stop}
 use Rattle.tpkt.specs.declared.header_stops.Stop.TheVariants.{Short, At}
 use Rattle.tpkt.specs.Header.{header_at}
-use Rattle.tpkt.specs.Wire.{unit_most}
 
 -- what a reader holds, and the packets that it has handed up
 pub record ReaderProgress : Type 0 where

@@ -1,7 +1,7 @@
 -- Packets, and the transport units in them, as octets (RFC 1006 6; X.224 13, class 0).
 use Rattle.std.specs.Prelude.{◌≡◌, ℕ, ◌+◌, ◌/◌, ◌%◌, ◌<◌, ◌≤◌, ◌==◌, Bool, true, false, List, [], ◌∷◌, ◌++◌, length, Option, Some, None, if◌then◌else◌}
 use Rattle.std.specs.List.{flat_map}
-use Rattle.osi_base.specs.Limits.{tsdu_limit}
+use Rattle.osi_base.specs.Limits.{tsdu_limit, unit_most, past_two_octets, most_header}
 use Rattle.tpkt.specs.declared.packet.ConnectionFields.{ConnectionFields}
 use Rattle.tpkt.specs.declared.packet.Packet.{Packet}
 use Rattle.tpkt.specs.declared.packet.Packet.TheVariants.{Connect, Confirm, Disconnect, Problem, Tsdu}
@@ -12,7 +12,7 @@ two n = n / 256 ∷ n % 256 ∷ []
 
 -- a number of two octets
 abbrev pub IsTwo : ℕ → Type 0
-IsTwo n = n < 65536
+IsTwo n = n < past_two_octets
 
 -- a packet: version 3, an octet that is 0, the length of the whole packet, and one unit (RFC 1006 6)
 abbrev pub packet : List ℕ → List ℕ
@@ -81,10 +81,10 @@ mark false = 0
 -- the units of class 0, without the limits on their length
 abbrev pub Spells : Tpdu → List ℕ → Type 0
 Spells (Part last octets) unit = unit ≡ header (240 ∷ mark last ∷ []) ++ octets
-Spells (Whole (Connect ends)) unit = IsConnection 224 ends unit × (length unit ≤ 255)
-Spells (Whole (Confirm ends)) unit = IsConnection 208 ends unit × (length unit ≤ 255)
-Spells (Whole Disconnect) unit = IsDisconnect unit × (length unit ≤ 255)
-Spells (Whole Problem) unit = IsProblem unit × (length unit ≤ 255)
+Spells (Whole (Connect ends)) unit = IsConnection 224 ends unit × (length unit ≤ most_header)
+Spells (Whole (Confirm ends)) unit = IsConnection 208 ends unit × (length unit ≤ most_header)
+Spells (Whole Disconnect) unit = IsDisconnect unit × (length unit ≤ most_header)
+Spells (Whole Problem) unit = IsProblem unit × (length unit ≤ most_header)
 Spells (Whole (Tsdu octets)) unit = ⊥
 
 -- the data of a TSDU that has begun, after a unit
@@ -92,18 +92,6 @@ abbrev pub begun_after : List ℕ → Tpdu → List ℕ
 begun_after begun (Whole p) = begun
 begun_after begun (Part true octets) = []
 begun_after begun (Part false octets) = begun ++ octets
-
--- the least size of a unit that both ends can agree on (X.224 13.3.4)
-abbrev pub unit_least : ℕ
-unit_least = 128
-
--- a unit has at most this many octets, so that its packet has at most 65,535 (RFC 1006 5)
-abbrev pub unit_most : ℕ
-unit_most = 65531
-
--- the greatest size of a unit that a CR or a CC can name (X.224 13.3.4)
-abbrev pub named_most : ℕ
-named_most = 8192
 
 -- the TSDU that a unit goes on with stays within its limit
 abbrev pub IsWithin : List ℕ → Tpdu → Type 0

@@ -1,6 +1,7 @@
 -- The one spelling of what is written.
 use Rattle.std.specs.Prelude.{ℕ, zero, suc, ◌-◌, ◌≤◌, Bool, true, false, List, [], ◌∷◌, ◌++◌, length, take, drop, Option, Some, None, nat_le, if◌then◌else◌}
 use Rattle.std.specs.List.{flat_map}
+use Rattle.osi_base.specs.Limits.{most_header_fields}
 use Rattle.tpkt.specs.declared.packet.ConnectionFields.{ConnectionFields}
 use Rattle.tpkt.specs.Wire.{two, packet, header, parameter, mark}
 
@@ -42,4 +43,4 @@ control_packet fields = packet (header fields)
 
 -- the header of a connection request or confirm has room for its fields
 abbrev pub HasRoom : ConnectionFields → Type 0
-HasRoom ends = length (connection_fields 0 ends) ≤ 254
+HasRoom ends = length (connection_fields 0 ends) ≤ most_header_fields

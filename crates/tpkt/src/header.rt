@@ -1,7 +1,7 @@
 //! The header of a packet, as far as its octets are there (RFC 1006 6; X.224 13).
 
 ghost use Rattle.std.specs.Prelude.{◌≡◌, ◌≤◌, ◌<◌, ◌-◌, length};
-ghost use Rattle.osi_base.specs.Limits.{tsdu_limit};
+ghost use Rattle.osi_base.specs.Limits.{tsdu_limit, last_octet};
 ghost use Rattle.tpkt.specs.Header.{Gives, or_empty, ends_at, passed_at, data_at, mark_at, code_at, indicator_at, length_at, header_at};
 
 use crate::header_stops::{Halt, fault, short};
@@ -35,7 +35,7 @@ fn selector(alloc: Global, seen: Option<Octets>) -> Octets
 #[tactic(auto, unfolding(crate::specs::Header::ends_at))]
 fn ends_at(alloc: Global, li: usize, octets: &[u8]) -> Result<ConnectionFields, Halt>
     requires least { 6 ≤ li }
-    requires most { li ≤ 255 }
+    requires most { li ≤ last_octet }
     ensures { Gives result (ends_at li octets.now) }
 {
     let [a, b, c, d, class, rest @ ..] = octets else {
@@ -89,7 +89,7 @@ fn code_at(
 ) -> Result<Header, Halt>
     requires begun { begun ≤ tsdu_limit }
     requires least { 0 < li }
-    requires most { li ≤ 255 }
+    requires most { li ≤ last_octet }
     requires room { li ≤ room }
     ensures { Gives result (code_at begun room li octets.now) }
 {

@@ -1,15 +1,15 @@
 //! Laws of streams: each is the contract of a function that does nothing.
 
 ghost use Rattle.std.specs.Prelude.{◌≡◌, ℕ, ◌<◌, ◌≤◌, ◌++◌, ◌∷◌, List, [], length, take, Option, Some, None, Err, Ok};
-ghost use Rattle.osi_base.specs.declared.words.Kind.{Kind};
-ghost use Rattle.osi_base.specs.Limits.{tsdu_limit};
+ghost use Rattle.osi_base.specs.declared.layer_words.Kind.{Kind};
+ghost use Rattle.osi_base.specs.Limits.{tsdu_limit, unit_least, unit_most};
 ghost use Rattle.tpkt.specs.declared.reader_state.Held.{Held};
 ghost use Rattle.tpkt.specs.declared.packet.TFault.{TFault};
 ghost use Rattle.tpkt.specs.declared.header_stops.Stop.{Stop};
 ghost use Rattle.tpkt.specs.declared.packet.ConnectionFields.{ConnectionFields};
 ghost use Rattle.tpkt.specs.declared.packet.Packet.{Packet};
 ghost use Rattle.tpkt.specs.declared.packet.Packet.TheVariants.{Connect, Confirm, Disconnect, Problem, Tsdu};
-ghost use Rattle.tpkt.specs.Wire.{packet, header, two, Tpdu, Whole, IsTwo, IsUnit, Splits, begun_by, handed_for, handed, unit_least, unit_most};
+ghost use Rattle.tpkt.specs.Wire.{packet, header, two, Tpdu, Whole, IsTwo, IsUnit, Splits, begun_by, handed_for, handed};
 ghost use Rattle.tpkt.specs.Written.{written_tsdu, connection_fields, control_packet, HasRoom};
 ghost use Rattle.tpkt.specs.Reader.{reading, nothing};
 ghost use Rattle.tpkt.specs.Stream.{IsOctets, unit_at, OneHolds, ReadsAsPackets, HasRead, IsReadAs};

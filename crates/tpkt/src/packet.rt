@@ -2,6 +2,7 @@
 
 ghost use Rattle.std.specs.Prelude.{◌≡◌, ◌≤◌, ◌+◌, ◌↔◌, ℕ, length, IsTrue};
 ghost use Rattle.std.specs.List.{flat_map};
+ghost use Rattle.osi_base.specs.Limits.{most_header_fields};
 ghost use Rattle.tpkt.specs.Wire.{parameter};
 ghost use Rattle.tpkt.specs.Written.{size_parameter, selector_parameter, connection_fields, HasRoom};
 
@@ -77,7 +78,7 @@ pub struct TFed {
 }
 
 fn selector_len(selector: &Octets) -> usize
-    requires { length selector.now ≤ 254 }
+    requires { length selector.now ≤ most_header_fields }
     ensures len { (code : ℕ)
         → result ≡ length (flat_map parameter (selector_parameter code selector.now)) }
     ensures bound { result ≤ 256 }
@@ -99,8 +100,8 @@ fn size_len(size: Option<u8>) -> usize
 }
 
 fn fields_len(ends: &ConnectionFields) -> usize
-    requires calling { length ends.now.calling ≤ 254 }
-    requires called { length ends.now.called ≤ 254 }
+    requires calling { length ends.now.calling ≤ most_header_fields }
+    requires called { length ends.now.called ≤ most_header_fields }
     ensures { result ≡ length (connection_fields 0 ends.now) }
 {
     6 + size_len(ends.size) + selector_len(&ends.calling) + selector_len(&ends.called)

@@ -1,6 +1,7 @@
 //! The parameters of a connection request or confirm (X.224 13.3.4, 13.4.4).
 
 ghost use Rattle.std.specs.Prelude.{◌≡◌, ◌+◌, ◌≤◌, ◌<◌, length};
+ghost use Rattle.osi_base.specs.Limits.{last_octet};
 ghost use Rattle.tpkt.specs.Header.{Gives, GivesBy, nothing_seen, with_size, with_parameter, parameter_at, parameters_at};
 
 use crate::header_stops::{Halt, fault, short};
@@ -70,7 +71,7 @@ fn with_parameter(
 
 #[tactic(auto, unfolding(crate::specs::Header::parameter_at, crate::specs::Header::value_at))]
 fn parameter_at(left: usize, offset: usize, octets: &[u8]) -> Result<(u8, &[u8], &[u8]), Halt>
-    requires { left ≤ 255 }
+    requires { left ≤ last_octet }
     ensures { GivesBy (λ p. (p.0, p.1.now, p.2.now)) result (parameter_at left offset octets.now) }
 {
     let [code, rest @ ..] = octets else {
@@ -95,7 +96,7 @@ fn parameter_at(left: usize, offset: usize, octets: &[u8]) -> Result<(u8, &[u8],
 
 /// The parameters in what is left of a header, of which the octets may not all be there.
 pub(crate) fn parameters_at(alloc: Global, left: usize, octets: &[u8]) -> Result<Seen, Halt>
-    requires { left ≤ 255 }
+    requires { left ≤ last_octet }
     ensures { Gives result (parameters_at left left 11 nothing_seen octets.now) }
 {
     let mut seen = Seen {

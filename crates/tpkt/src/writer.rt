@@ -2,7 +2,8 @@
 
 ghost use Rattle.std.specs.Prelude.{◌≡◌, ◌+◌, ◌≤◌, ◌<◌, ◌++◌, [], ◌∷◌, length, true, false, OnOk, IfOk};
 ghost use Rattle.std.specs.List.{flat_map};
-ghost use Rattle.tpkt.specs.Wire.{two, packet, header, parameter, unit_least, unit_most};
+ghost use Rattle.osi_base.specs.Limits.{unit_least, unit_most, last_octet, most_header_fields};
+ghost use Rattle.tpkt.specs.Wire.{two, packet, header, parameter};
 ghost use Rattle.tpkt.specs.Written.{part_packet, written_tsdu, size_parameter, selector_parameter, connection_fields, control_packet, HasRoom};
 
 use crate::numbers::push_number;
@@ -51,7 +52,7 @@ fn push_size(out: &mut Octets, size: Option<u8>) -> Result<(), NoMemory>
 }
 
 fn push_selector(out: &mut Octets, code: u8, selector: &[u8]) -> Result<(), NoMemory>
-    requires { length selector.now ≤ 255 }
+    requires { length selector.now ≤ last_octet }
     ensures { OnOk result (out.new
         ≡ out.old ++ flat_map parameter (selector_parameter code selector.now)) }
 {
@@ -64,7 +65,7 @@ fn push_selector(out: &mut Octets, code: u8, selector: &[u8]) -> Result<(), NoMe
 
 /// A packet of a unit whose header has these fields and fills it.
 fn control(alloc: Global, fields: &[u8]) -> Result<Octets, NoMemory>
-    requires { length fields.now ≤ 254 }
+    requires { length fields.now ≤ most_header_fields }
     ensures { IfOk result (λ octets. octets ≡ control_packet fields.now) }
 {
     let mut out = Octets::new(alloc);

@@ -4,7 +4,7 @@ use Rattle.std.specs.Prelude.{◌⊎◌, ◌&&◌, nat_le, filter}
 use Rattle.std.proofs.lemmas.Bool.Decides.{nat_tests}
 use Rattle.std.proofs.lemmas.List.{append-nil}
 use Rattle.osi_base.specs.Hexadecimal.{digit_of, by_digits, octet_of}
-use Rattle.osi_base.specs.declared.words.Side.{Side}
+use Rattle.osi_base.specs.declared.layer_words.Side.{Side}
 use Rattle.trace_file.specs.declared.reading.Recorded.{Recorded}
 use Rattle.trace_file.specs.Lines.{pieces_of, has_any, fields_of, sender_of}
 use Rattle.trace_file.specs.Grammar.{Digit, Spells, AllSpell, TellsFrom, Tells, IsFaultyField, IsFaultyLine}

@@ -1,7 +1,7 @@
 -- The steps of reading.
 use Rattle.std.proofs.Common.{◌≡◌, ℕ, ◌+◌, ◌<◌, Bool, true, false, List, [], ◌∷◌, ◌++◌, length, drop, get_or, Option, Some, None, refl, sym, ap, ◌∙◌, arith}
 use Rattle.std.proofs.lemmas.List.{at_drop_more, at_drop_all, length_push}
-use Rattle.osi_base.specs.declared.words.Side.{Side}
+use Rattle.osi_base.specs.declared.layer_words.Side.{Side}
 use Rattle.trace_file.specs.declared.reading.Recorded.{Recorded}
 use Rattle.trace_file.specs.Lines.{sender_of}
 use Rattle.std.specs.Prelude.{is_some, ◌==◌}

@@ -1,7 +1,7 @@
 -- What a file of a recorded dialogue says, and its first fault, as relations over its lines and fields.
 use Rattle.std.specs.Prelude.{◌≡◌, ℕ, ◌+◌, ◌*◌, ◌≤◌, ◌<◌, ◌⊎◌, List, [], ◌∷◌, ◌++◌, length, Option, Some, None}
 use Rattle.osi_base.specs.Limits.{text_most}
-use Rattle.osi_base.specs.declared.words.Side.{Side}
+use Rattle.osi_base.specs.declared.layer_words.Side.{Side}
 use Rattle.trace_file.specs.declared.fault.RecordingFault.{RecordingFault}
 use Rattle.trace_file.specs.declared.fault.RecordingFault.TheVariants as faults
 use Rattle.trace_file.specs.declared.fault.RecordingKind.{RecordingKind}

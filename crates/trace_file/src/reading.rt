@@ -1,7 +1,7 @@
 //! Reads a file of a recorded dialogue.
 
 ghost use Rattle.std.specs.Prelude.{◌≡◌, ◌+◌, ◌<◌, ◌^◌, List, [], ℕ, length, IfOk, IfErr, OnOk, Ok, Err};
-ghost use Rattle.osi_base.specs.declared.words.Side.{Side};
+ghost use Rattle.osi_base.specs.declared.layer_words.Side.{Side};
 ghost use Rattle.trace_file.specs.declared.fault.RecordingKind.{RecordingKind};
 ghost use Rattle.trace_file.specs.declared.reading.Recorded.{Recorded};
 ghost use Rattle.trace_file.specs.Lines.{lines_of, sender_of};

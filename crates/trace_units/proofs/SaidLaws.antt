@@ -2,7 +2,7 @@
 use Rattle.std.proofs.Common.{◌≡◌, ℕ, List, [], ◌∷◌, ◌++◌, Option, Some, None, Result, Ok, Err, refl, sym, ap, subst, ◌∙◌, append_assoc}
 use Rattle.std.specs.Prelude.{codes}
 use Rattle.std.proofs.lemmas.List.{append-nil}
-use Rattle.osi_base.specs.declared.words.Kind.{Kind}
+use Rattle.osi_base.specs.declared.layer_words.Kind.{Kind}
 use Rattle.osi_base.specs.declared.session_word.SessionWord.{SessionWord}
 use Rattle.osi_base.specs.declared.presentation_word.PresentationWord as units
 use Rattle.spdu_codec.specs.declared.places.UserPlaces.{UserPlaces}

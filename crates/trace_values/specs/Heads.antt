@@ -1,6 +1,6 @@
 -- What is told of the head of an APDU of remote operations, by the names of a module (X.880 9).
 use Rattle.std.specs.Prelude.{◌≡◌, ℕ, ℤ, Bool, true, false, List, ◌++◌, Option, Some, None, option_map, option_and_then, codes}
-use Rattle.osi_base.specs.declared.words.Problem.{Problem}
+use Rattle.osi_base.specs.declared.layer_words.Problem.{Problem}
 use Rattle.stub_tables.specs.declared.operation.Code.{Code}
 use Rattle.stub_tables.specs.declared.tables.Tables.{Tables}
 use Rattle.stub_tables.specs.Lookup.{operation_at, error_at, operation_with, error_with}

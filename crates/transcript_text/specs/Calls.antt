@@ -2,8 +2,8 @@
 use Rattle.std.specs.Prelude.{ℕ, ℤ, nat_eq, if◌then◌else◌, List, [], ◌∷◌, ◌++◌, Option, None, Some, Result, Ok, Err, codes, decimal, flat_map}
 use Rattle.std.specs.Fmt.{signed_decimal}
 use Rattle.std.specs.Cmp.Lexicographic.{pointwise}
-use Rattle.osi_base.specs.declared.words.Side.{Side}
-use Rattle.osi_base.specs.declared.words.Proposal.{Proposal}
+use Rattle.osi_base.specs.declared.layer_words.Side.{Side}
+use Rattle.osi_base.specs.declared.layer_words.Proposal.{Proposal}
 use Rattle.osi_base.specs.declared.syntax.Syntax.TheVariants.{Ber, Der, Packed}
 use Rattle.osi_base.specs.Syntax.{name_of}
 use Rattle.stub_tables.specs.declared.tables.Tables.{Tables}

@@ -1,7 +1,7 @@
 -- Words and numbers of texts.
 use Rattle.std.specs.Prelude.{ℕ, List, codes}
-use Rattle.osi_base.specs.declared.words.Side.{Side}
-use Rattle.osi_base.specs.declared.words.Side.TheVariants.{A, B}
+use Rattle.osi_base.specs.declared.layer_words.Side.{Side}
+use Rattle.osi_base.specs.declared.layer_words.Side.TheVariants.{A, B}
 use Rattle.dialogue.specs.declared.config.Mode.{Mode}
 use Rattle.dialogue.specs.declared.config.Mode.TheVariants.{Bare, Direct, Reliable}
 use Rattle.dialogue.specs.declared.config.Phase.{Phase}

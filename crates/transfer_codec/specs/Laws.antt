@@ -1,6 +1,6 @@
 -- The model's codec over the codecs' spellings of APDUs: it is shown to exist for each spelling of transfers that is read back.
 use Rattle.std.specs.Prelude.{ℕ, Bool, List, Result}
-use Rattle.osi_base.specs.declared.words.SetItem.{SetItem}
+use Rattle.osi_base.specs.declared.layer_words.SetItem.{SetItem}
 use Rattle.stub_tables.specs.declared.tables.Tables.{Tables}
 use Rattle.dialogue.specs.declared.config.Config.{Config}
 use Rattle.dialogue.specs.declared.config.Mode.{Mode}

@@ -5,7 +5,7 @@ use Rattle.osi_base.specs.PdvContent.{octets_of}
 use Rattle.osi_base.specs.declared.syntax.Pair.{Pair}
 use Rattle.osi_base.specs.declared.syntax.Syntax.{Syntax}
 use Rattle.osi_base.specs.declared.syntax.Syntax.TheVariants.{Ber, Der, Packed}
-use Rattle.osi_base.specs.declared.words.SetItem.{SetItem}
+use Rattle.osi_base.specs.declared.layer_words.SetItem.{SetItem}
 use Rattle.osi_base.specs.declared.presentation_word.Pdv.{Pdv}
 use Rattle.osi_base.specs.declared.presentation_word.PdvContent.{PdvContent}
 use Rattle.fixed_tables.specs.declared.pdu.PduFault.{PduFault}
@@ -18,8 +18,9 @@ use Rattle.apdu_spelling.specs.Writing.{written_apdu, IsWritable}
 use Rattle.apdu_spelling.proofs.Written.{written_spelled}
 use Rattle.dialogue.specs.declared.config.Config.{Config}
 use Rattle.dialogue.specs.declared.config.Mode.{Mode}
-use Rattle.end_rules.specs.Base.{Base, Head, Item, Fault, Whole, acse_name}
-use Rattle.end_rules.specs.Sets.{same_name, pair_of}
+use Rattle.end_rules.specs.Base.{Base, HeardHead, Item, Fault, Whole, acse_name}
+use Rattle.end_rules.specs.Sets.{same_name}
+use Rattle.osi_base.specs.SetPlaces.{pair_of}
 use Rattle.end_rules.specs.Faults.{fault_if, or_fault}
 use Rattle.end_rules.specs.Messages.{ValueContent, Remote}
 use Rattle.end_rules.specs.Hearing.{head_of_apdu}
@@ -31,7 +32,7 @@ use Rattle.end_model.specs.Opens.{IsProper}
 use Rattle.end_model.specs.Acting.{ReadsBack, IsSaidBack}
 use Rattle.end_model.proofs.Fitting.{same-itself}
 use Rattle.association_wire.specs.Values.{in_form}
-use Rattle.association_reading.specs.declared.carried.Carriage.TheVariants as carriage
+use Rattle.association_reading.specs.declared.layer_of_values.Carriage.TheVariants as carriage
 use Rattle.association_reading.specs.Places.{PdvPlaces, places_of, spot_at}
 use Rattle.association_reading.specs.Contexts.{is_form, is_carried, pdv_fault, invalid_at}
 use Rattle.association_reading.specs.Values.{content_under}
@@ -90,7 +91,7 @@ module _ (tables : Tables) (config : Config) (initiator : Bool) (mode : Mode) (m
   remote-content : (item : Item) → IsTransferable base item.apdu → IsPlaced base item → content_under tables carriage.Module item.pair (text item) ≡ Ok (Remote item.apdu)
   remote-content item t p =
       let s = written_spelled tables module_s.readable item.pair.transfer item.apdu (writable-so item t) in
-      let found = ap (λ (h : Head). content_of (text item) (apdu_of tables h)) (spelled_said tables item.pair.transfer module_s.readable item.apdu (text item) s) ∙ ap (content_of (text item)) (said_is tables item.pair.transfer module_s.readable item.apdu s.head s.says) in
+      let found = ap (λ (h : HeardHead). content_of (text item) (apdu_of tables h)) (spelled_said tables item.pair.transfer module_s.readable item.apdu (text item) s) ∙ ap (content_of (text item)) (said_is tables item.pair.transfer module_s.readable item.apdu s.head s.says) in
       rw (of-module item p) (ap (λ (c : ValueContent). let x : Result ValueContent Fault = Ok c in x) found)
 
   arrives-under : (item : Item) (at : PdvPlaces) → IsTransferable base item.apdu → IsPlaced base item → arrived_under tables at (pdv item) (Some item.pair) ≡ Ok (Whole item)

@@ -9,7 +9,7 @@ use Rattle.end_rules.specs.Base.{Fault, Item, Whole}
 use Rattle.end_rules.specs.Cases.{calc, config_of}
 use Rattle.end_rules.specs.Messages.{Message}
 use Rattle.end_rules.specs.State.{Body, holds_turn}
-use Rattle.end_rules.specs.Sets.{pair_of}
+use Rattle.osi_base.specs.SetPlaces.{pair_of}
 use Rattle.end_rules.specs.TakesActivities.{arrived_now}
 use Rattle.end_rules.specs.Reacting.{Fails, react}
 use Rattle.end_config.specs.Refusing.{config_refusal, early_refusal}

@@ -1,7 +1,7 @@
 -- In reliable mode no end is dead.
 use Rattle.std.proofs.Common.{◌≡◌, refl, true, false, ◌∙◌, ap, subst, List, [], ◌++◌, inl, inr, ◌⊎◌}
 use Rattle.std.specs.Prelude.{nat_eq}
-use Rattle.osi_base.specs.declared.words.Side.TheVariants.{A, B}
+use Rattle.osi_base.specs.declared.layer_words.Side.TheVariants.{A, B}
 use Rattle.stub_tables.specs.declared.tables.Tables.{Tables}
 use Rattle.dialogue.specs.declared.config.Config.{Config}
 use Rattle.dialogue.specs.declared.config.Mode.{Mode}

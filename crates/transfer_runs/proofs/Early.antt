@@ -3,7 +3,7 @@
 use Rattle.std.proofs.Common.{◌≡◌, refl, true, false, ◌∙◌, sym, ap, subst, ℕ, List, [], ◌∷◌, inl, inr, ◌⊎◌}
 use Rattle.std.specs.Prelude.{ℤ, Bool, ◌&&◌, ◌||◌, Option, Some, None, Ok, if◌then◌else◌}
 use Rattle.asn1_types.specs.declared.value.Val.{Val}
-use Rattle.osi_base.specs.declared.words.Answers.{Answers}
+use Rattle.osi_base.specs.declared.layer_words.Answers.{Answers}
 use Rattle.osi_base.specs.declared.session_word.SessionConnect.{SessionConnect}
 use Rattle.osi_base.specs.declared.presentation_word.PresentationConnect.{PresentationConnect}
 use Rattle.stub_tables.specs.declared.tables.Tables.{Tables}
@@ -16,7 +16,7 @@ use Rattle.dialogue.specs.declared.config.Phase.TheVariants as phases
 use Rattle.dialogue.specs.declared.call.Call.{Call}
 use Rattle.dialogue.specs.declared.call.Call.TheVariants as the_calls
 use Rattle.dialogue.specs.declared.indication.Indication.{Indication}
-use Rattle.end_rules.specs.Base.{Base, Spellings, Fault, Head}
+use Rattle.end_rules.specs.Base.{Base, Spellings, Fault, HeardHead}
 use Rattle.end_rules.specs.Sets.{Alteration}
 use Rattle.end_rules.specs.Messages.{Message, Transport, Session, DataValue, Word, OfAssociation, OfData, OfMarks, OfActivities, TransportUnit, ConnectionRequest, ConnectionConfirm, DisconnectRequest, TransportError}
 use Rattle.end_rules.specs.Messages.{Connect, Accept, Refuse, Finish, Disconnect, Abort, AbortAccept, Values, AlterContext, AlterContextAck, Mark, Give, Start, End, unit_of}
@@ -133,7 +133,7 @@ module _ (free : Free) (tables : Tables) (spellings : Spellings) (a b : Config) 
   reject-before body context None h = h
   reject-before body context (Some r) h = h
 
-  head-before : (body : Body) (context : ℕ) (head : Head) → Before body (take_head base body context head).body
+  head-before : (body : Body) (context : ℕ) (head : HeardHead) → Before body (take_head base body context head).body
   head-before body context head h = reject-before (record body { calls = (hear base body.calls context head).calls }) context (hear base body.calls context head).reject h
 
   values-before : (values : List DataValue) (body : Body) → Before body (take_values base body values).body

@@ -3,9 +3,10 @@
 use Rattle.std.proofs.Common.{◌≡◌, refl, true, false, ◌∙◌, sym, ap, subst, arith, ℕ, suc, ◌≤◌, List, [], ◌∷◌, map}
 use Rattle.std.specs.Prelude.{Bool, not, Option, Some, None, nat_eq, nat_lt, if◌then◌else◌}
 use Rattle.std.proofs.lemmas.Bool.Decides.{nat_tests}
-use Rattle.osi_base.specs.declared.words.SetItem.{SetItem}
+use Rattle.osi_base.specs.declared.layer_words.SetItem.{SetItem}
 use Rattle.end_rules.specs.Base.{Base}
-use Rattle.end_rules.specs.Sets.{Alteration, Saved, pair_of, is_fixed, altered, below, newest}
+use Rattle.end_rules.specs.Sets.{Alteration, Saved, is_fixed, altered, below, newest}
+use Rattle.osi_base.specs.SetPlaces.{pair_of}
 use Rattle.end_rules.specs.Policy.{policy, is_faulty_proposal}
 use Rattle.end_rules.specs.Messages.{Message, DataValue}
 use Rattle.end_rules.specs.State.{Body, Piece, Octets, Marked, Transfer, Queued, Sending, from_mark, highest, pieces_of, on_current, on_transfer}

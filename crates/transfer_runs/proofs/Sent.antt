@@ -3,7 +3,7 @@
 use Rattle.std.proofs.Common.{◌≡◌, refl, true, false, ◌∙◌, sym, ap, subst, List, [], ◌∷◌, ◌++◌, map, Ok, Err}
 use Rattle.std.specs.Prelude.{ℤ, Bool, Option, Some, None, nat_eq, if◌then◌else◌}
 use Rattle.osi_base.specs.declared.syntax.Pair.{Pair}
-use Rattle.osi_base.specs.declared.words.Side.{Side}
+use Rattle.osi_base.specs.declared.layer_words.Side.{Side}
 use Rattle.stub_tables.specs.declared.tables.Tables.{Tables}
 use Rattle.dialogue.specs.declared.config.Config.{Config}
 use Rattle.dialogue.specs.declared.config.Mode.TheVariants.{Reliable}

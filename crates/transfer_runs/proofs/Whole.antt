@@ -1,9 +1,9 @@
 -- In reliable mode each transfer of a run arrives whole, and at most once.
 use Rattle.std.proofs.Common.{◌≡◌, refl, true, false, ◌∙◌, sym, ap, subst, ℕ, List, [], ◌∷◌, ◌++◌, map, inl, inr, ◌⊎◌, None, Ok}
 use Rattle.std.specs.Prelude.{Bool, ◌||◌, Option, Some, if◌then◌else◌, Result, nat_eq, suc, length}
-use Rattle.osi_base.specs.declared.words.Side.{Side}
-use Rattle.osi_base.specs.declared.words.Side.TheVariants.{A, B}
-use Rattle.osi_base.specs.declared.words.SetItem.{SetItem}
+use Rattle.osi_base.specs.declared.layer_words.Side.{Side}
+use Rattle.osi_base.specs.declared.layer_words.Side.TheVariants.{A, B}
+use Rattle.osi_base.specs.declared.layer_words.SetItem.{SetItem}
 use Rattle.stub_tables.specs.declared.tables.Tables.{Tables}
 use Rattle.stub_tables.specs.declared.apdu.Apdu.{Apdu}
 use Rattle.dialogue.specs.declared.config.Config.{Config}
@@ -11,7 +11,7 @@ use Rattle.dialogue.specs.declared.indication.Indication.{Indication}
 use Rattle.end_rules.specs.Base.{Base, Spellings, Item, Arrived, Whole as WholeItem, Fault}
 use Rattle.end_rules.specs.Messages.{Message, Session, OfAssociation, OfActivities, Connect, Start, End}
 use Rattle.end_rules.specs.State.{Body, Queued, Transfer}
-use Rattle.end_rules.specs.Sets.{pair_of}
+use Rattle.osi_base.specs.SetPlaces.{pair_of}
 use Rattle.end_rules.specs.Connecting.{is_refused, recovers_in}
 use Rattle.end_rules.specs.Requesting.{due_of}
 use Rattle.end_rules.specs.ByItself.{OwnAct, SendsNow, EncodesOn}

@@ -18,7 +18,7 @@ use Rattle.association_runs.specs.Laws.{AreEvents, RunKeepsLaws}
 use Rattle.outcome_laws.specs.Deals.{AreDistinct, outcomes_in}
 use Rattle.outcome_laws.specs.Outcomes.{AreAllowed, AreAnswers}
 use Rattle.agreement.specs.Laws.{AreFalling}
-use Rattle.osi_base.specs.declared.words.Side.{Side}
+use Rattle.osi_base.specs.declared.layer_words.Side.{Side}
 
 -- An initiator and a responder of reliable mode with one module, whatever its name, without any type, and with configurations that
 -- no end refuses.

@@ -2,7 +2,7 @@
 
 ghost use Rattle.stub_tables.specs.declared.tables.Tables.{Tables};
 ghost use Rattle.packed_codec.specs.Laws.{HasNoAny};
-ghost use Rattle.packed_codec.specs.Octets.{AreOctets};
+ghost use Rattle.ber_spelling.specs.Octets.{AreOctets};
 ghost use Rattle.module_reading.specs.Modules.{HasTables};
 
 use table_file::loaded_are_files;

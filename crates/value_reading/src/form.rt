@@ -12,7 +12,7 @@ use crate::word::{behind_word, from, len_to, up_to, word};
 use asn1_types::{Node, Val};
 use osi_base::{NoMemory, Octets, Oid, octet_of_digits};
 use std::alloc::Global;
-use value_text::{integer, number};
+use value_text::{decimal_integer, decimal_number};
 
 /// Reads the value that stands first in a text by its form (X.680, the notation for values):
 /// `TRUE`, `FALSE`, `NULL`, a decimal number, `'0A'H`, `'0101'B`, `"text"` or `{2 999 1}`; or
@@ -54,7 +54,7 @@ fn word_value(text: &[u8]) -> Option<Val>
     if text == b"NULL".as_slice() {
         return Some(value(Node::Null));
     }
-    Some(value(Node::Int(integer(text)?)))
+    Some(value(Node::Int(decimal_integer(text)?)))
 }
 
 /// The value with this node.
@@ -268,7 +268,7 @@ fn read_arcs(alloc: Global, text: &[u8]) -> Result<Option<Front<'_>>, NoMemory>
         } else if rest[0] == b'}' {
             return Ok(oid_before(arcs, from(rest, 1)));
         } else {
-            let Some(arc) = number(word(rest)) else {
+            let Some(arc) = decimal_number(word(rest)) else {
                 return Ok(None);
             };
             arcs.push(arc)?;

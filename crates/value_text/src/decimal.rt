@@ -27,7 +27,7 @@ fn lengthened(value: u64, digit: u8) -> Option<u64>
 
 /// The number that the text writes in decimal digits without a leading zero, below 2^64.
 #[tactic(auto, using(crate::proofs::Numbers::read_none, crate::proofs::Numbers::read_some, crate::proofs::Numbers::read_end))]
-pub fn natural(text: &[u8]) -> Option<u64>
+pub fn decimal_natural(text: &[u8]) -> Option<u64>
     ensures { result ≡ below (2 ^ 64) (natural_of text.now) }
 {
     if !leads_well(text) {
@@ -41,17 +41,17 @@ pub fn natural(text: &[u8]) -> Option<u64>
 }
 
 /// The number of a text, of 32 bits.
-pub fn number(text: &[u8]) -> Option<u32>
+pub fn decimal_number(text: &[u8]) -> Option<u32>
     ensures { result ≡ number_of text.now }
 {
-    u32::try_from(natural(text)?).ok()
+    u32::try_from(decimal_natural(text)?).ok()
 }
 
 /// The identifier of an invocation: digits alone.
-pub fn identifier(text: &[u8]) -> Option<i64>
+pub fn invocation_identifier(text: &[u8]) -> Option<i64>
     ensures { result ≡ identifier_of text.now }
 {
-    i64::try_from(natural(text)?).ok()
+    i64::try_from(decimal_natural(text)?).ok()
 }
 
 /// The opposite of a number that isn't 0.
@@ -63,11 +63,11 @@ fn negative(number: u64) -> Option<i64>
 }
 
 /// The number that the text writes in decimal, with a `-` before it where it is below 0.
-pub fn integer(text: &[u8]) -> Option<i64>
+pub fn decimal_integer(text: &[u8]) -> Option<i64>
     ensures { result ≡ integer_of text.now }
 {
     match text {
-        [b'-', digits @ ..] => negative(natural(digits)?),
-        _ => identifier(text),
+        [b'-', digits @ ..] => negative(decimal_natural(digits)?),
+        _ => invocation_identifier(text),
     }
 }

@@ -1,5 +1,5 @@
 use Rattle.std.proofs.Common.{List, sym, ap, ◌∙◌}
-use Rattle.osi_base.specs.declared.words.SetItem.{SetItem}
+use Rattle.osi_base.specs.declared.layer_words.SetItem.{SetItem}
 use Rattle.end_rules.specs.Sets.{fit_proposals}
 use Rattle.association_reading.specs.Transfers.{association_spellings}
 use Rattle.association_words.specs.Seen.{seen_values}

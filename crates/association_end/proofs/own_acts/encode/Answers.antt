@@ -1,6 +1,6 @@
 use Rattle.std.proofs.Common.{Option, refl, sym, ap, ◌∙◌}
 use Rattle.std.specs.Prelude.{option_map}
-use Rattle.end_rules.specs.Sets.{pair_of}
+use Rattle.osi_base.specs.SetPlaces.{pair_of}
 use Rattle.end_rules.specs.State as rules
 use Rattle.end_rules.specs.ByItself.{item_on}
 use Rattle.association_pieces.specs.declared.sending.Transfer.{Transfer}

@@ -1,9 +1,9 @@
 use Rattle.std.proofs.Common.{Option, Some, None, sym, ap, subst, ◌≡◌, ◌∙◌}
 use Rattle.std.specs.Prelude.{IfOk}
 use Rattle.osi_base.specs.declared.syntax.Pair.{Pair}
-use Rattle.osi_base.specs.declared.words.SetItem.{SetItem}
+use Rattle.osi_base.specs.declared.layer_words.SetItem.{SetItem}
 use Rattle.end_rules.specs.Base.{Item}
-use Rattle.end_rules.specs.Sets.{pair_of}
+use Rattle.osi_base.specs.SetPlaces.{pair_of}
 use Rattle.end_rules.specs.ByItself.{item_on, encoded_as}
 use Rattle.association_pieces.specs.Sending.{seen_queued, seen_transfer}
 use Rattle.association_state.specs.Seen.{base_in, seen}

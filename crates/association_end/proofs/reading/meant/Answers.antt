@@ -8,6 +8,6 @@ use Rattle.association_end.proofs.reading.meant.Goals as goal
 
 pub returns : goal.returns
 returns c =
-    subst (λ (b : Base). GivesAs seen_word c.meaning.result (meaning b (seen c.args.body.now) c.args.unit.now c.args.start))
+    subst (λ (b : Base). GivesAs seen_word c.meaning_of_unit.result (meaning b (seen c.args.body.now) c.args.unit.now c.args.start))
     (λ i. association_base (c.reading.ensures.tables i) (c.reading.ensures.config i))
-    (c.meaning.ensures (seen c.args.body.now) (sym c.as_slice.ensures) (sym c.as_slice-2.ensures))
+    (c.meaning_of_unit.ensures (seen c.args.body.now) (sym c.as_slice.ensures) (sym c.as_slice-2.ensures))

@@ -13,4 +13,4 @@ returns-in-Ok c =
 
 pub returns-in-Err : goal.returns-in-Err
 returns-in-Err c =
-    refused_heard c.args.basis.now.tables.now c.is_readable.ensures c.args.syntax c.args.octets.now c.are_octets.ensures (base_in c.args.basis.now) c.args.context c.args.calls.now c.in-Err.fault c.refused.result c.in-Err.ensures c.refused.ensures
+    refused_heard c.args.basis.now.tables.now c.is_readable.ensures c.args.syntax c.args.octets.now c.are_octets.ensures (base_in c.args.basis.now) c.args.context c.args.calls.now c.in-Err.fault c.refused_head.result c.in-Err.ensures c.refused_head.ensures

@@ -1,5 +1,5 @@
 use Rattle.std.proofs.Common.{List, Result, Ok, sym, subst, ◌∙◌}
-use Rattle.osi_base.specs.declared.words.SetItem.{SetItem}
+use Rattle.osi_base.specs.declared.layer_words.SetItem.{SetItem}
 use Rattle.end_rules.specs.Base.{Fault}
 use Rattle.end_rules.specs.Messages.{DataValue}
 use Rattle.association_reading.specs.Values.{and_informed}

@@ -1,6 +1,6 @@
 use Rattle.std.specs.Option.{option_copied}
 use Rattle.osi_base.specs.PdvContent.{octets_of}
-use Rattle.association_reading.specs.declared.carried.Carriage.TheVariants as carriage
+use Rattle.association_reading.specs.declared.layer_of_values.Carriage.TheVariants as carriage
 use Rattle.association_reading.specs.Places.{places_of, spot_at}
 use Rattle.association_reading.specs.Values.{content_under}
 use Rattle.association_reading.specs.Transfers.{arrived_under}

@@ -6,5 +6,5 @@ use Rattle.association_reacting.proofs.faults.fails_on_accepted.Goals as goal
 
 pub returns : goal.returns
 returns c =
-    result_failed (seen c.args.body.now) (seen c.fails.new.body) (seen c.args.body.now).link.accepted c.as_slice-2.result.now (seen_fault c.args.fault) c.fails.result
-    (c.as_slice-2.ensures ∙ c.in_ok-accepted.ensures ∙ c.as_slice.ensures) c.fails.ensures.body c.fails.ensures.reaction
+    result_failed (seen c.args.body.now) (seen c.fail_association.new.body) (seen c.args.body.now).link.accepted c.as_slice-2.result.now (seen_fault c.args.fault) c.fail_association.result
+    (c.as_slice-2.ensures ∙ c.in_ok-accepted.ensures ∙ c.as_slice.ensures) c.fail_association.ensures.body c.fail_association.ensures.reaction

@@ -7,5 +7,5 @@ use Rattle.association_reacting.proofs.taking.fail_word.Goals as goal
 
 pub returns : goal.returns
 returns c =
-    result_failed (seen c.args.body.now) (seen c.fails.new.body) (contexts_of_word (base_in c.args.basis.now) (seen c.args.body.now) (seen_word c.args.word.now)) c.as_slice.result.now (seen_fault c.args.fault) c.fails.result
-    (c.as_slice.ensures ∙ c.in_ok-accepted.ensures) c.fails.ensures.body c.fails.ensures.reaction
+    result_failed (seen c.args.body.now) (seen c.fail_association.new.body) (contexts_of_word (base_in c.args.basis.now) (seen c.args.body.now) (seen_word c.args.word.now)) c.as_slice.result.now (seen_fault c.args.fault) c.fail_association.result
+    (c.as_slice.ensures ∙ c.in_ok-accepted.ensures) c.fail_association.ensures.body c.fail_association.ensures.reaction

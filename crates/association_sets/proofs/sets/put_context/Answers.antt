@@ -2,7 +2,8 @@ use Rattle.std.proofs.Common.{◌≡◌, ◌∙◌, sym, ap, length, insert, Ok,
 use Rattle.std.proofs.lemmas.Grind.{common_steps}
 use Rattle.end_rules.specs.Sets.{put}
 use Rattle.osi_base.specs.SetPlaces.{place_of}
-use Rattle.association_sets.proofs.Placing.{found_within, put_as}
+use Rattle.osi_base.proofs.Placing.{found_within}
+use Rattle.association_sets.proofs.Placing.{put_as}
 use Rattle.association_sets.proofs.sets.put_context.Goals as goal
 
 pub insert-requires : goal.insert-requires

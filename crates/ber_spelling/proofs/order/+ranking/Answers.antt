@@ -26,7 +26,7 @@ rank_by-rank_of_chosen-requires t c =
 
 pub rank_by-returns-in-Tagged : goal.rank_by-returns-in-Tagged
 rank_by-returns-in-Tagged t c =
-    c.rank-in-Tagged.ensures.value ∙ sym (tagged_rank c.args.table.now c.requires.sound c.args.of.0 c.args.row.now _ _ _ _ c.args.value.now c.requires.row c.in-Tagged.is)
+    c.tag_rank-in-Tagged.ensures.value ∙ sym (tagged_rank c.args.table.now c.requires.sound c.args.of.0 c.args.row.now _ _ _ _ c.args.value.now c.requires.row c.in-Tagged.is)
 
 pub rank_of_chosen-rank_of-requires : goal.rank_of_chosen-rank_of-requires
 rank_of_chosen-rank_of-requires t c =
@@ -36,48 +36,48 @@ rank_of_chosen-rank_of-requires t c =
 
 pub rank_by-returns-in-Boolean : goal.rank_by-returns-in-Boolean
 rank_by-returns-in-Boolean t c =
-    ranked_as (writes c.args.table.now) c.args.row.now _ c.args.value.now _ _ c.in-Boolean.is c.rank.ensures.value (definite_rank false (record { class = Universal; number = 1 }) (boolean_contents c.args.value.now))
+    ranked_as (writes c.args.table.now) c.args.row.now _ c.args.value.now _ _ c.in-Boolean.is c.tag_rank.ensures.value (definite_rank false (record { class = Universal; number = 1 }) (boolean_contents c.args.value.now))
 
 pub rank_by-returns-in-Integer : goal.rank_by-returns-in-Integer
 rank_by-returns-in-Integer t c =
-    ranked_as (writes c.args.table.now) c.args.row.now _ c.args.value.now _ _ c.in-Integer.is c.rank-in-Integer.ensures.value (definite_rank false (record { class = Universal; number = 2 }) (integer_contents c.args.value.now))
+    ranked_as (writes c.args.table.now) c.args.row.now _ c.args.value.now _ _ c.in-Integer.is c.tag_rank-in-Integer.ensures.value (definite_rank false (record { class = Universal; number = 2 }) (integer_contents c.args.value.now))
 
 pub rank_by-returns-in-BitString : goal.rank_by-returns-in-BitString
 rank_by-returns-in-BitString t c =
-    ranked_as (writes c.args.table.now) c.args.row.now _ c.args.value.now _ _ c.in-BitString.is c.rank-in-BitString.ensures.value (definite_rank false (record { class = Universal; number = 3 }) (bits_contents c.args.value.now))
+    ranked_as (writes c.args.table.now) c.args.row.now _ c.args.value.now _ _ c.in-BitString.is c.tag_rank-in-BitString.ensures.value (definite_rank false (record { class = Universal; number = 3 }) (bits_contents c.args.value.now))
 
 pub rank_by-returns-in-OctetString : goal.rank_by-returns-in-OctetString
 rank_by-returns-in-OctetString t c =
-    ranked_as (writes c.args.table.now) c.args.row.now _ c.args.value.now _ _ c.in-OctetString.is c.rank-in-OctetString.ensures.value (definite_rank false (record { class = Universal; number = 4 }) (octets_contents c.args.value.now))
+    ranked_as (writes c.args.table.now) c.args.row.now _ c.args.value.now _ _ c.in-OctetString.is c.tag_rank-in-OctetString.ensures.value (definite_rank false (record { class = Universal; number = 4 }) (octets_contents c.args.value.now))
 
 pub rank_by-returns-in-Null : goal.rank_by-returns-in-Null
 rank_by-returns-in-Null t c =
-    ranked_as (writes c.args.table.now) c.args.row.now _ c.args.value.now _ _ c.in-Null.is c.rank-in-Null.ensures.value (definite_rank false (record { class = Universal; number = 5 }) [])
+    ranked_as (writes c.args.table.now) c.args.row.now _ c.args.value.now _ _ c.in-Null.is c.tag_rank-in-Null.ensures.value (definite_rank false (record { class = Universal; number = 5 }) [])
 
 pub rank_by-returns-in-ObjectId : goal.rank_by-returns-in-ObjectId
 rank_by-returns-in-ObjectId t c =
-    ranked_as (writes c.args.table.now) c.args.row.now _ c.args.value.now _ _ c.in-ObjectId.is c.rank-in-ObjectId.ensures.value (definite_rank false (record { class = Universal; number = 6 }) (object_id_contents c.args.value.now))
+    ranked_as (writes c.args.table.now) c.args.row.now _ c.args.value.now _ _ c.in-ObjectId.is c.tag_rank-in-ObjectId.ensures.value (definite_rank false (record { class = Universal; number = 6 }) (object_id_contents c.args.value.now))
 
 pub rank_by-returns-in-Enumerated : goal.rank_by-returns-in-Enumerated
 rank_by-returns-in-Enumerated t c =
-    ranked_as (writes c.args.table.now) c.args.row.now _ c.args.value.now _ _ c.in-Enumerated.is c.rank-in-Enumerated.ensures.value (definite_rank false (record { class = Universal; number = 10 }) (integer_contents c.args.value.now))
+    ranked_as (writes c.args.table.now) c.args.row.now _ c.args.value.now _ _ c.in-Enumerated.is c.tag_rank-in-Enumerated.ensures.value (definite_rank false (record { class = Universal; number = 10 }) (integer_contents c.args.value.now))
 
 pub rank_by-returns-in-Text : goal.rank_by-returns-in-Text
 rank_by-returns-in-Text t c =
-    ranked_as (writes c.args.table.now) c.args.row.now _ c.args.value.now _ _ c.in-Text.is (c.rank-in-Text.ensures.value ∙ ap (rank Universal) c.text_number.ensures) (definite_rank false (record { class = Universal; number = (text_number c.in-Text.kind) }) (text_contents c.args.value.now))
+    ranked_as (writes c.args.table.now) c.args.row.now _ c.args.value.now _ _ c.in-Text.is (c.tag_rank-in-Text.ensures.value ∙ ap (rank Universal) c.text_number.ensures) (definite_rank false (record { class = Universal; number = (text_number c.in-Text.kind) }) (text_contents c.args.value.now))
 
 pub rank_by-returns-in-Sequence : goal.rank_by-returns-in-Sequence
 rank_by-returns-in-Sequence t c =
-    ranked_as (writes c.args.table.now) c.args.row.now _ c.args.value.now _ _ c.in-Sequence.is c.rank-in-Sequence.ensures.value (definite_rank true (record { class = Universal; number = 16 }) (sequence_contents (parts_contents (writes c.args.table.now) c.in-Sequence.field-0) c.args.value.now))
+    ranked_as (writes c.args.table.now) c.args.row.now _ c.args.value.now _ _ c.in-Sequence.is c.tag_rank-in-Sequence.ensures.value (definite_rank true (record { class = Universal; number = 16 }) (sequence_contents (parts_contents (writes c.args.table.now) c.in-Sequence.field-0) c.args.value.now))
 
 pub rank_by-returns-in-SequenceOf : goal.rank_by-returns-in-SequenceOf
 rank_by-returns-in-SequenceOf t c =
-    ranked_as (writes c.args.table.now) c.args.row.now _ c.args.value.now _ _ c.in-SequenceOf.is c.rank-in-SequenceOf.ensures.value (definite_rank true (record { class = Universal; number = 16 }) (list_contents (writes c.args.table.now c.in-SequenceOf.field-0.0) c.args.value.now))
+    ranked_as (writes c.args.table.now) c.args.row.now _ c.args.value.now _ _ c.in-SequenceOf.is c.tag_rank-in-SequenceOf.ensures.value (definite_rank true (record { class = Universal; number = 16 }) (list_contents (writes c.args.table.now c.in-SequenceOf.field-0.0) c.args.value.now))
 
 pub rank_by-returns-in-Set : goal.rank_by-returns-in-Set
 rank_by-returns-in-Set t c =
-    ranked_as (writes c.args.table.now) c.args.row.now _ c.args.value.now _ _ c.in-Set.is c.rank-in-Set.ensures.value (definite_rank true (record { class = Universal; number = 17 }) (sequence_contents (set_parts (writes c.args.table.now) c.in-Set.field-0) c.args.value.now))
+    ranked_as (writes c.args.table.now) c.args.row.now _ c.args.value.now _ _ c.in-Set.is c.tag_rank-in-Set.ensures.value (definite_rank true (record { class = Universal; number = 17 }) (sequence_contents (set_parts (writes c.args.table.now) c.in-Set.field-0) c.args.value.now))
 
 pub rank_by-returns-in-SetOf : goal.rank_by-returns-in-SetOf
 rank_by-returns-in-SetOf t c =
-    ranked_as (writes c.args.table.now) c.args.row.now _ c.args.value.now _ _ c.in-SetOf.is c.rank-in-SetOf.ensures.value (definite_rank true (record { class = Universal; number = 17 }) (list_contents (writes c.args.table.now c.in-SetOf.field-0.0) c.args.value.now))
+    ranked_as (writes c.args.table.now) c.args.row.now _ c.args.value.now _ _ c.in-SetOf.is c.tag_rank-in-SetOf.ensures.value (definite_rank true (record { class = Universal; number = 17 }) (list_contents (writes c.args.table.now c.in-SetOf.field-0.0) c.args.value.now))

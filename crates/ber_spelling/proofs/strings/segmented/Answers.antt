@@ -12,7 +12,7 @@ returns-in-Some-clause-gives c =
     let read = subst (λ (k : StringKind). all_items_at (segment_at k 32) (λ g. Some g) nothing c.in_ok-inside.inside (spot_of c.in_ok-inside.spot) ≡ Ok (c.in_ok-gathered.gathered, spot_of c.in_ok-gathered.after)) c.kind_of.ensures
     (subst (λ (n : Gathered). all_items_at (segment_at c.kind_of.result 32) (λ g. Some g) n c.in_ok-inside.inside (spot_of c.in_ok-inside.spot) ≡ Ok (c.in_ok-gathered.gathered, spot_of c.in_ok-gathered.after)) c.nothing.ensures c.in_ok-gathered.ensures.gives) in
     let ruled = sym c.whole.ensures ∙ c.in-Some.is in
-    sym (segmented_gives (kind_of c.args.rule) (whole_by c.args.rule) c.args.tag c.args.scope.now _ (opened_of c.args.opened.now) (spot_of c.args.spot) _ _ _ _ c.in_ok-expect.ensures.gives c.if-scope.false c.in_ok-inside.ensures.gives read)
+    sym (segmented_gives (kind_of c.args.rule) (whole_by c.args.rule) c.args.tag c.args.scope.now _ (opened_of c.args.opened.now) (spot_of c.args.spot) _ _ _ _ c.in_ok-expect_tag.ensures.gives c.if-scope.false c.in_ok-inside.ensures.gives read)
     ∙ ap (λ o. judge c.args.opened.now.start.place (λ v. v) o >>= λ v. Ok (v, spot_of c.in_ok-gathered.after)) ruled
 
 pub returns-in-None-clause-gives : goal.returns-in-None-clause-gives
@@ -22,5 +22,5 @@ returns-in-None-clause-gives c =
     let ruled = sym c.whole.ensures ∙ c.in-None.is in
     FailsWith-same c.refusal-in-None.result _ _
     (sym (ap (λ o. judge c.args.opened.now.start.place (λ v. v) o >>= λ v. Ok (v, spot_of c.in_ok-gathered.after)) ruled)
-    ∙ segmented_gives (kind_of c.args.rule) (whole_by c.args.rule) c.args.tag c.args.scope.now _ (opened_of c.args.opened.now) (spot_of c.args.spot) _ _ _ _ c.in_ok-expect.ensures.gives c.if-scope.false c.in_ok-inside.ensures.gives read)
+    ∙ segmented_gives (kind_of c.args.rule) (whole_by c.args.rule) c.args.tag c.args.scope.now _ (opened_of c.args.opened.now) (spot_of c.args.spot) _ _ _ _ c.in_ok-expect_tag.ensures.gives c.if-scope.false c.in_ok-inside.ensures.gives read)
     (rw c.refusal-in-None.ensures refl)

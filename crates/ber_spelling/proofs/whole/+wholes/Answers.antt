@@ -7,7 +7,7 @@ use Rattle.ber_spelling.specs.Rules.{whole_at, items_at}
 use Rattle.ber_spelling.proofs.Steps.{FailsWith-same}
 use Rattle.ber_spelling.proofs.Loops.{goes_then}
 use Rattle.ber_spelling.proofs.Turns.{whole_none, whole_no_tag, whole_marked, whole_sized, look_fails, step_fails, step_goes, turns_end, no_turns}
-use Rattle.osi_base.specs.declared.words.Kind.TheVariants.{Tag}
+use Rattle.osi_base.specs.declared.layer_words.Kind.TheVariants.{Tag}
 use Rattle.ber_spelling.proofs.whole.+wholes.Goals.{whole_value-then-levels-eq0-via-then-levels-eq0, whole_value-then-levels-eq0-via-else-levels-eq0+then-is_no_tag}
 use Rattle.ber_spelling.proofs.whole.+wholes.Goals as goal
 

@@ -1,5 +1,5 @@
 use Rattle.std.proofs.Common.{◌≡◌, ◌≤◌, ◌<◌, ◌+◌, ◌-◌, ◌*◌, drop, length, get_or}
-use Rattle.asn1_types.specs.Limits.{most_spelled}
+use Rattle.osi_base.specs.Limits.{most_spelled}
 use Rattle.asn1_types.specs.Tags.{ranks}
 use Rattle.asn1_types.specs.ValueView.{parts_of, values_of}
 use Rattle.asn1_types.specs.Writing.{parts_contents, values_contents, of_rank, risen_parts, writes}

@@ -1,6 +1,6 @@
 use Rattle.std.proofs.Common.{◌≡◌, nat_eq, drop}
 use Rattle.std.specs.List.{list_any}
-use Rattle.osi_base.specs.declared.words.Proposal.{Proposal}
+use Rattle.osi_base.specs.declared.layer_words.Proposal.{Proposal}
 use Rattle.context_sets.proofs.asking.names.Given as goal
 
 abbrev pub invariant-loop-proposal : goal.invariant-loop-proposal

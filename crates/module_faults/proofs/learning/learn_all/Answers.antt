@@ -1,5 +1,5 @@
 use Rattle.std.proofs.Common.{◌≡◌, ◌++◌, List, Option, length, take, drop, sym, ap, subst, ◌∙◌}
-use Rattle.module_faults.specs.declared.facts.Facts.{Facts as FactsGiven}
+use Rattle.module_faults.specs.declared.type_facts.Facts.{Facts as FactsGiven}
 use Rattle.module_faults.specs.Known.{AreLearned, AreSettled}
 use Rattle.module_faults.proofs.Loops.{written_back}
 use Rattle.module_faults.proofs.AllLearned.{unlearned, none_learned, all_settled}

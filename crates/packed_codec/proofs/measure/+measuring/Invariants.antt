@@ -1,5 +1,5 @@
 use Rattle.std.proofs.Common.{◌≡◌, ◌+◌, ◌*◌, ◌≤◌, min, drop, length}
-use Rattle.osi_base.specs.Outside.{last_count}
+use Rattle.osi_base.specs.Limits.{last_count}
 use Rattle.asn1_types.specs.ValueView.{parts_of, values_of}
 use Rattle.packed_codec.specs.Writing.{parts_written, values_written, packed}
 use Rattle.packed_codec.proofs.measure.+measuring.Given as goal

@@ -1,6 +1,6 @@
 use Rattle.std.proofs.Common.{◌≡◌, ◌+◌, ◌≤◌, min, drop, length}
 use Rattle.std.specs.List.{flat_map}
-use Rattle.osi_base.specs.Outside.{last_count}
+use Rattle.osi_base.specs.Limits.{last_count}
 use Rattle.packed_codec.specs.ObjectIds.{base_128}
 use Rattle.packed_codec.proofs.measure.of_each.Given as goal
 

@@ -10,15 +10,15 @@ use Rattle.association_end.proofs.end.End.broke.Goals as goal
 
 pub invariant_of-self : goal.invariant_of-self
 invariant_of-self c =
-    sound_line (view_in c.self.inside) (seen c.broke.new.body) (record { waiting = c.clear.new.self; came = c.new.result; size = c.first_size-self-inside.result }) c.self.invariant c.first_size-self-inside.ensures.least c.first_size-self-inside.ensures.most
+    sound_line (view_in c.self.inside) (seen c.connection_broke.new.body) (record { waiting = c.clear.new.self; came = c.new.result; size = c.first_size-self-inside.result }) c.self.invariant c.first_size-self-inside.ensures.least c.first_size-self-inside.ensures.most
     (subst HasMessages (sym c.new.ensures) tt) (ap is_some c.new.ensures)
 
 pub returns-clause-steps : goal.returns-clause-steps
 returns-clause-steps c =
-    broke_so (view_in c.self.inside) c.args.self.now (seen c.broke.new.body) (record { waiting = c.clear.new.self; came = c.new.result; size = c.first_size-self-inside.result }) c.self.view_is c.broke.ensures c.clear.ensures c.new.ensures c.first_size-self-inside.ensures.is
+    broke_so (view_in c.self.inside) c.args.self.now (seen c.connection_broke.new.body) (record { waiting = c.clear.new.self; came = c.new.result; size = c.first_size-self-inside.result }) c.self.view_is c.connection_broke.ensures c.clear.ensures c.new.ensures c.first_size-self-inside.ensures.is
 
 pub returns-clause-history : goal.returns-clause-history
 returns-clause-history c = λ h stood.
     stands_on c.args.self.now _ (broke ∷ [])
-    (broke_so (view_in c.self.inside) c.args.self.now (seen c.broke.new.body) (record { waiting = c.clear.new.self; came = c.new.result; size = c.first_size-self-inside.result }) c.self.view_is c.broke.ensures c.clear.ensures c.new.ensures c.first_size-self-inside.ensures.is)
+    (broke_so (view_in c.self.inside) c.args.self.now (seen c.connection_broke.new.body) (record { waiting = c.clear.new.self; came = c.new.result; size = c.first_size-self-inside.result }) c.self.view_is c.connection_broke.ensures c.clear.ensures c.new.ensures c.first_size-self-inside.ensures.is)
     h stood

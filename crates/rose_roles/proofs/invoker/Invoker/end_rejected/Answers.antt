@@ -4,7 +4,7 @@ use Rattle.end_rules.specs.Base.{RejectHead}
 use Rattle.end_rules.specs.Hearing as rules
 use Rattle.rose_roles.specs.Calls.{calls_of}
 use Rattle.rose_roles.specs.Hearing.{heard_with}
-use Rattle.rose_roles.specs.declared.taken.RoseTaken.TheVariants as taken
+use Rattle.rose_roles.specs.declared.apdu_taken.RoseTaken.TheVariants as taken
 use Rattle.rose_roles.proofs.Outcomes.{heard_rejected, heard_of_shut}
 use Rattle.rose_roles.proofs.invoker.Invoker.end_rejected.Goals as goal
 

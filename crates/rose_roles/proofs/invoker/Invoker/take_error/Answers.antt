@@ -3,14 +3,14 @@ use Rattle.end_rules.specs.Hearing as rules
 use Rattle.rose_roles.specs.Calls.{calls_of}
 use Rattle.rose_roles.specs.Hearing.{heard_with}
 use Rattle.stub_tables.specs.Lookup.{error_with}
-use Rattle.osi_base.specs.declared.words.ProblemKind.TheVariants as problems
-use Rattle.rose_roles.specs.declared.taken.RoseTaken.TheVariants as taken
+use Rattle.osi_base.specs.declared.layer_words.ProblemKind.TheVariants as problems
+use Rattle.rose_roles.specs.declared.apdu_taken.RoseTaken.TheVariants as taken
 use Rattle.rose_roles.proofs.Outcomes.{said_error, shut_error, carries_parameter}
 use Rattle.rose_roles.proofs.invoker.Invoker.take_error.Goals as goal
 
 pub returns-in-None-clause-heard : goal.returns-in-None-clause-heard
 returns-in-None-clause-heard c = λ performed context base carried same k.
-    ap (heard_with (calls_of c.args.forest.now c.args.self.now performed)) c.rejected.ensures
+    ap (heard_with (calls_of c.args.forest.now c.args.self.now performed)) c.reject_with.ensures
     ∙ ap (λ (i : Option ℤ). heard_with (calls_of c.args.forest.now c.args.self.now performed) (taken.Reject i (rules.problem_with problems.Error 0))) c.in-Some.is
     ∙ shut_error base c.args.forest.now c.args.self.now performed c.requires.own context c.in-Some.id carried c.in-Some-code.code (sym c.called_at.ensures ∙ c.in-None.is)
     ∙ ap (rules.hear base (calls_of c.args.forest.now c.args.self.now performed) context) (said_error c.args.head carried c.in-Some.id c.in-Some-code.code c.requires.kind c.in-Some.is c.in-Some-code.is)

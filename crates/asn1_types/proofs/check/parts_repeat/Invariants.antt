@@ -1,6 +1,0 @@
-use Rattle.std.proofs.Common.{◌≡◌, drop}
-use Rattle.asn1_types.specs.Table.{agrees_later, parts_agree}
-use Rattle.asn1_types.proofs.check.parts_repeat.Given as goal
-
-abbrev pub invariant-loop-index : goal.invariant-loop-index
-invariant-loop-index l = agrees_later parts_agree (drop l.index l.parts) ≡ agrees_later parts_agree l.parts

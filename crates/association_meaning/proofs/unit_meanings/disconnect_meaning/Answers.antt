@@ -1,0 +1,12 @@
+use Rattle.std.proofs.Common.{List}
+use Rattle.presentation_pdus.specs.declared.place.PpduPlace.TheVariants as place
+use Rattle.end_rules.specs.Messages.{DataValue, OfAssociation, Disconnect}
+use Rattle.association_reading.specs.declared.layer_of_values.Carriage.TheVariants as carriage
+use Rattle.association_words.specs.Seen.{seen_word}
+use Rattle.association_meaning.specs.Words.{values_with, disconnected}
+use Rattle.association_meaning.proofs.Fails.{halts, values_fail}
+use Rattle.association_meaning.proofs.unit_meanings.disconnect_meaning.Goals as goal
+
+pub returns-in_err-values : goal.returns-in_err-values
+returns-in_err-values c =
+    halts seen_word c.from_residual.result (disconnected c.args.basis.now.tables.now c.args.held.now c.args.start c.args.user.now) c.in_err-values.field-0.0 c.from_residual.ensures.1 (values_fail c.in_err-values.field-0.0 (λ (values : List DataValue). OfAssociation (Disconnect values)) (values_with c.args.basis.now.tables.now c.args.held.now carriage.Association place.Dn c.args.start c.args.user.now) c.in_err-values.ensures)

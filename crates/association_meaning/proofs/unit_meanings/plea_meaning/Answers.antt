@@ -1,0 +1,12 @@
+use Rattle.std.proofs.Common.{List, Some}
+use Rattle.presentation_pdus.specs.declared.place.PpduPlace.TheVariants as place
+use Rattle.end_rules.specs.Messages.{DataValue, OfMarks, Please}
+use Rattle.association_reading.specs.declared.layer_of_values.Carriage.TheVariants as carriage
+use Rattle.association_words.specs.Seen.{seen_word}
+use Rattle.association_meaning.specs.Words.{values_with, pleaded}
+use Rattle.association_meaning.proofs.Fails.{halts, values_fail}
+use Rattle.association_meaning.proofs.unit_meanings.plea_meaning.Goals as goal
+
+pub returns-in_err-values : goal.returns-in_err-values
+returns-in_err-values c =
+    halts seen_word c.from_residual.result (pleaded c.args.basis.now.tables.now c.args.held.now c.args.tokens c.args.start c.args.user.now) c.in_err-values.field-0.0 c.from_residual.ensures.1 (values_fail c.in_err-values.field-0.0 (λ (values : List DataValue). OfMarks (Please (Some c.args.tokens) values)) (values_with c.args.basis.now.tables.now c.args.held.now carriage.Transfer place.Pt c.args.start c.args.user.now) c.in_err-values.ensures)

@@ -1,6 +1,0 @@
-use Rattle.std.proofs.Common.{◌≡◌, ℕ, ◌+◌, ◌++◌, [], drop}
-use Rattle.context_sets.specs.Sets.{pair_of}
-use Rattle.context_sets.proofs.sets.pair_of.Given as goal
-
-abbrev pub invariant-loop-item : goal.invariant-loop-item
-invariant-loop-item l = pair_of (drop l.item-index l.items) l.id ≡ pair_of l.items l.id

@@ -1,0 +1,10 @@
+use Rattle.std.proofs.Common.{◌≡◌, length}
+use Rattle.module_faults.specs.Least.{least_from}
+use Rattle.module_faults.specs.Locals.{bodies_faults}
+use Rattle.module_faults.proofs.assignment_faults.of_bodies.Given as goal
+
+abbrev pub invariant-loop-rest : goal.invariant-loop-rest
+invariant-loop-rest l = least_from l.least.found (bodies_faults l.names l.rest) ≡ least_from l.fn.least.found (bodies_faults l.names l.names)
+
+abbrev pub decreases-loop-rest : goal.decreases-loop-rest
+decreases-loop-rest l = length l.rest

@@ -1,5 +1,0 @@
-use Rattle.reliable_model.proofs.OwnRows.{own-rows}
-use Rattle.reliable_model.proofs.own.own_messages_act.Goals as goal
-
-pub returns : goal.returns
-returns c = record { rows = own-rows }
