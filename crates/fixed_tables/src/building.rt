@@ -1,6 +1,6 @@
 //! Fixed tables of types, row by row.
 
-ghost use Rattle.std.specs.Prelude.{◌≡◌, ◌++◌, ◌∷◌, [], None, true, IfOk, OnOk};
+ghost use Rattle.std.specs.Prelude.{◌≡◌, ◌++◌, ◌∷◌, [], map, None, true, IfOk, OnOk};
 ghost use Rattle.asn1_types.specs.Table.{refusal};
 ghost use Rattle.asn1_types.specs.declared.row.TypeRow.TheVariants.{Tagged};
 ghost use Rattle.fixed_tables.specs.Rows.{part, implicit, explicit as around, all_added};
@@ -26,6 +26,17 @@ pub fn parts_of(parts: Vec<Part>) -> Parts
     ensures { result ≡ parts.items }
 {
     ListOf::from_vec(parts)
+}
+
+/// The parts that are told, each by its name, the row of its type, and whether it may be absent.
+pub fn parts(alloc: Global, told: &[(&str, u32, bool)]) -> Result<Parts, NoMemory>
+    ensures { IfOk result (λ parts. parts ≡ map (λ t. part t.0.now t.1 t.2) told.now) }
+{
+    let mut parts = Vec::new(alloc);
+    for (name, row, optional) in told {
+        parts.push(part(alloc, name, *row, *optional)?)?;
+    }
+    Ok(ListOf::from_vec(parts))
 }
 
 /// A tag around a row, or in the place of its own.

@@ -63,10 +63,8 @@ fn content_value(alloc: Global, content: &PdvContent) -> Result<Val, NoMemory>
 pub fn pdv_value(alloc: Global, pdv: &Pdv) -> Result<Val, NoMemory>
     ensures { IfOk result (λ v. v ≡ pdv_value pdv.now) }
 {
-    let parts = vec![in alloc;
-        name_part(alloc, &pdv.transfer)?,
-        Some(integer(pdv.id as i64)),
-        Some(content_value(alloc, &pdv.content)?),
-    ]?;
-    Ok(sequence(parts))
+    let transfer = name_part(alloc, &pdv.transfer)?;
+    let content = content_value(alloc, &pdv.content)?;
+    let id = integer(pdv.id as i64);
+    Ok(sequence(vec![in alloc; transfer, Some(id), Some(content)]?))
 }
