@@ -5,8 +5,8 @@ ghost use Rattle.apdu_spelling.specs.Rows as table;
 ghost use Rattle.apdu_spelling.specs.Rows.{head_rows};
 
 use asn1_types::{Parts, TypeId, TypeRow, TypeTable};
-use fixed_tables::{implicit, joined_rows, part, table_of};
-use osi_base::{ListOf, NoMemory};
+use fixed_tables::{implicit, joined_rows, parts, table_of};
+use osi_base::NoMemory;
 use std::alloc::Global;
 use std::marker::Model;
 
@@ -36,137 +36,144 @@ impl Model for Heads {
 fn code_kinds(alloc: Global) -> Result<Parts, NoMemory>
     ensures { IfOk result (λ parts. parts ≡ table.code_kinds) }
 {
-    let mut parts = ListOf::new(alloc);
-    parts.push(part(alloc, "local", 1, false)?)?;
-    parts.push(part(alloc, "global", 2, false)?)?;
-    Ok(parts)
+    parts(alloc, &[("local", 1, false), ("global", 2, false)])
 }
 
 fn problem_kinds(alloc: Global) -> Result<Parts, NoMemory>
     ensures { IfOk result (λ parts. parts ≡ table.problem_kinds) }
 {
-    let mut parts = ListOf::new(alloc);
-    parts.push(part(alloc, "general", 8, false)?)?;
-    parts.push(part(alloc, "invoke", 9, false)?)?;
-    parts.push(part(alloc, "returnResult", 10, false)?)?;
-    parts.push(part(alloc, "returnError", 11, false)?)?;
-    Ok(parts)
+    parts(
+        alloc,
+        &[
+            ("general", 8, false),
+            ("invoke", 9, false),
+            ("returnResult", 10, false),
+            ("returnError", 11, false),
+        ],
+    )
 }
 
 fn rejected_kinds(alloc: Global) -> Result<Parts, NoMemory>
     ensures { IfOk result (λ parts. parts ≡ table.rejected_kinds) }
 {
-    let mut parts = ListOf::new(alloc);
-    parts.push(part(alloc, "invokeId", 0, false)?)?;
-    parts.push(part(alloc, "absent", 4, false)?)?;
-    Ok(parts)
+    parts(alloc, &[("invokeId", 0, false), ("absent", 4, false)])
 }
 
 fn reject_parts(alloc: Global) -> Result<Parts, NoMemory>
     ensures { IfOk result (λ parts. parts ≡ table.reject_parts) }
 {
-    let mut parts = ListOf::new(alloc);
-    parts.push(part(alloc, "invokeId", 13, false)?)?;
-    parts.push(part(alloc, "problem", 12, false)?)?;
-    Ok(parts)
+    parts(alloc, &[("invokeId", 13, false), ("problem", 12, false)])
 }
 
 fn invoke_parts(alloc: Global) -> Result<Parts, NoMemory>
     ensures { IfOk result (λ parts. parts ≡ table.invoke_parts) }
 {
-    let mut parts = ListOf::new(alloc);
-    parts.push(part(alloc, "invokeId", 0, false)?)?;
-    parts.push(part(alloc, "linkedId", 7, true)?)?;
-    parts.push(part(alloc, "opcode", 3, false)?)?;
-    parts.push(part(alloc, "argument", 6, true)?)?;
-    Ok(parts)
+    parts(
+        alloc,
+        &[
+            ("invokeId", 0, false),
+            ("linkedId", 7, true),
+            ("opcode", 3, false),
+            ("argument", 6, true),
+        ],
+    )
 }
 
 fn returned_parts(alloc: Global) -> Result<Parts, NoMemory>
     ensures { IfOk result (λ parts. parts ≡ table.returned_parts) }
 {
-    let mut parts = ListOf::new(alloc);
-    parts.push(part(alloc, "opcode", 3, false)?)?;
-    parts.push(part(alloc, "result", 6, false)?)?;
-    Ok(parts)
+    parts(alloc, &[("opcode", 3, false), ("result", 6, false)])
 }
 
 fn result_parts(alloc: Global) -> Result<Parts, NoMemory>
     ensures { IfOk result (λ parts. parts ≡ table.result_parts) }
 {
-    let mut parts = ListOf::new(alloc);
-    parts.push(part(alloc, "invokeId", 0, false)?)?;
-    parts.push(part(alloc, "result", 18, true)?)?;
-    Ok(parts)
+    parts(alloc, &[("invokeId", 0, false), ("result", 18, true)])
 }
 
 fn error_parts(alloc: Global) -> Result<Parts, NoMemory>
     ensures { IfOk result (λ parts. parts ≡ table.error_parts) }
 {
-    let mut parts = ListOf::new(alloc);
-    parts.push(part(alloc, "invokeId", 0, false)?)?;
-    parts.push(part(alloc, "errcode", 3, false)?)?;
-    parts.push(part(alloc, "parameter", 6, true)?)?;
-    Ok(parts)
+    parts(
+        alloc,
+        &[
+            ("invokeId", 0, false),
+            ("errcode", 3, false),
+            ("parameter", 6, true),
+        ],
+    )
 }
 
 fn apdu_kinds(alloc: Global) -> Result<Parts, NoMemory>
     ensures { IfOk result (λ parts. parts ≡ table.apdu_kinds) }
 {
-    let mut parts = ListOf::new(alloc);
-    parts.push(part(alloc, "invoke", 17, false)?)?;
-    parts.push(part(alloc, "returnResult", 20, false)?)?;
-    parts.push(part(alloc, "returnError", 22, false)?)?;
-    parts.push(part(alloc, "reject", 15, false)?)?;
-    Ok(parts)
+    parts(
+        alloc,
+        &[
+            ("invoke", 17, false),
+            ("returnResult", 20, false),
+            ("returnError", 22, false),
+            ("reject", 15, false),
+        ],
+    )
 }
 
 fn packed_invoke_parts(alloc: Global) -> Result<Parts, NoMemory>
     ensures { IfOk result (λ parts. parts ≡ table.packed_invoke_parts) }
 {
-    let mut parts = ListOf::new(alloc);
-    parts.push(part(alloc, "invokeId", 0, false)?)?;
-    parts.push(part(alloc, "linkedId", 7, true)?)?;
-    parts.push(part(alloc, "opcode", 3, false)?)?;
-    parts.push(part(alloc, "argument", 5, false)?)?;
-    Ok(parts)
+    parts(
+        alloc,
+        &[
+            ("invokeId", 0, false),
+            ("linkedId", 7, true),
+            ("opcode", 3, false),
+            ("argument", 5, false),
+        ],
+    )
 }
 
 fn packed_result_parts(alloc: Global) -> Result<Parts, NoMemory>
     ensures { IfOk result (λ parts. parts ≡ table.packed_result_parts) }
 {
-    let mut parts = ListOf::new(alloc);
-    parts.push(part(alloc, "invokeId", 0, false)?)?;
-    parts.push(part(alloc, "opcode", 3, true)?)?;
-    Ok(parts)
+    parts(alloc, &[("invokeId", 0, false), ("opcode", 3, true)])
 }
 
 fn packed_error_parts(alloc: Global) -> Result<Parts, NoMemory>
     ensures { IfOk result (λ parts. parts ≡ table.packed_error_parts) }
 {
-    let mut parts = ListOf::new(alloc);
-    parts.push(part(alloc, "invokeId", 0, false)?)?;
-    parts.push(part(alloc, "errcode", 3, false)?)?;
-    parts.push(part(alloc, "parameter", 5, false)?)?;
-    Ok(parts)
+    parts(
+        alloc,
+        &[
+            ("invokeId", 0, false),
+            ("errcode", 3, false),
+            ("parameter", 5, false),
+        ],
+    )
 }
 
 fn packed_apdu_kinds(alloc: Global) -> Result<Parts, NoMemory>
     ensures { IfOk result (λ parts. parts ≡ table.packed_apdu_kinds) }
 {
-    let mut parts = ListOf::new(alloc);
-    parts.push(part(alloc, "none", 4, false)?)?;
-    parts.push(part(alloc, "invoke", 25, false)?)?;
-    parts.push(part(alloc, "returnResult", 27, false)?)?;
-    parts.push(part(alloc, "returnError", 29, false)?)?;
-    parts.push(part(alloc, "reject", 15, false)?)?;
-    Ok(parts)
+    parts(
+        alloc,
+        &[
+            ("none", 4, false),
+            ("invoke", 25, false),
+            ("returnResult", 27, false),
+            ("returnError", 29, false),
+            ("reject", 15, false),
+        ],
+    )
 }
 
 /// Rows 0 to 15: identifiers, codes, problems and rejects.
 fn common_rows(alloc: Global) -> Result<Vec<TypeRow>, NoMemory>
     ensures { IfOk result (λ rows. rows.items ≡ take 16 head_rows) }
 {
+    let codes = code_kinds(alloc)?;
+    let problems = problem_kinds(alloc)?;
+    let rejected = rejected_kinds(alloc)?;
+    let reject = reject_parts(alloc)?;
     Ok(vec![in alloc;
         TypeRow::Integer {
             low: -2_147_483_648,
@@ -177,7 +184,7 @@ fn common_rows(alloc: Global) -> Result<Vec<TypeRow>, NoMemory>
             high: i64::MAX
         },
         TypeRow::ObjectId,
-        TypeRow::Choice(code_kinds(alloc)?),
+        TypeRow::Choice(codes),
         TypeRow::Null,
         TypeRow::Boolean,
         TypeRow::Any,
@@ -186,9 +193,9 @@ fn common_rows(alloc: Global) -> Result<Vec<TypeRow>, NoMemory>
         implicit(1, 1),
         implicit(2, 1),
         implicit(3, 1),
-        TypeRow::Choice(problem_kinds(alloc)?),
-        TypeRow::Choice(rejected_kinds(alloc)?),
-        TypeRow::Sequence(reject_parts(alloc)?),
+        TypeRow::Choice(problems),
+        TypeRow::Choice(rejected),
+        TypeRow::Sequence(reject),
         implicit(4, 14),
     ]?)
 }
@@ -197,15 +204,20 @@ fn common_rows(alloc: Global) -> Result<Vec<TypeRow>, NoMemory>
 fn ber_rows(alloc: Global) -> Result<Vec<TypeRow>, NoMemory>
     ensures { IfOk result (λ rows. rows.items ≡ take 8 (drop 16 head_rows)) }
 {
+    let invoke = invoke_parts(alloc)?;
+    let returned = returned_parts(alloc)?;
+    let result = result_parts(alloc)?;
+    let error = error_parts(alloc)?;
+    let kinds = apdu_kinds(alloc)?;
     Ok(vec![in alloc;
-        TypeRow::Sequence(invoke_parts(alloc)?),
+        TypeRow::Sequence(invoke),
         implicit(1, 16),
-        TypeRow::Sequence(returned_parts(alloc)?),
-        TypeRow::Sequence(result_parts(alloc)?),
+        TypeRow::Sequence(returned),
+        TypeRow::Sequence(result),
         implicit(2, 19),
-        TypeRow::Sequence(error_parts(alloc)?),
+        TypeRow::Sequence(error),
         implicit(3, 21),
-        TypeRow::Choice(apdu_kinds(alloc)?),
+        TypeRow::Choice(kinds),
     ]?)
 }
 
@@ -213,14 +225,18 @@ fn ber_rows(alloc: Global) -> Result<Vec<TypeRow>, NoMemory>
 fn packed_rows(alloc: Global) -> Result<Vec<TypeRow>, NoMemory>
     ensures { IfOk result (λ rows. rows.items ≡ drop 24 head_rows) }
 {
+    let invoke = packed_invoke_parts(alloc)?;
+    let result = packed_result_parts(alloc)?;
+    let error = packed_error_parts(alloc)?;
+    let kinds = packed_apdu_kinds(alloc)?;
     Ok(vec![in alloc;
-        TypeRow::Sequence(packed_invoke_parts(alloc)?),
+        TypeRow::Sequence(invoke),
         implicit(1, 24),
-        TypeRow::Sequence(packed_result_parts(alloc)?),
+        TypeRow::Sequence(result),
         implicit(2, 26),
-        TypeRow::Sequence(packed_error_parts(alloc)?),
+        TypeRow::Sequence(error),
         implicit(3, 28),
-        TypeRow::Choice(packed_apdu_kinds(alloc)?),
+        TypeRow::Choice(kinds),
     ]?)
 }
 
