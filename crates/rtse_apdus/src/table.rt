@@ -5,7 +5,7 @@ ghost use Rattle.asn1_types.specs.declared.row.TypeRow.TheVariants as row;
 ghost use Rattle.rtse_apdus.specs.Rows.{rtse_rows};
 
 use asn1_types::{Class, Parts, TypeId, TypeRow, TypeTable};
-use fixed_tables::{explicit, implicit, part, parts_of, table_of, tagged};
+use fixed_tables::{explicit, implicit, parts, table_of, tagged};
 use osi_base::NoMemory;
 use std::alloc::Global;
 use std::marker::Model;
@@ -34,70 +34,79 @@ impl Model for RtseTable {
 fn reference_parts(alloc: Global) -> Result<Parts, NoMemory>
     ensures { IfOk result (λ parts. slice_get rtse_rows 6 ≡ Some (row.Sequence parts)) }
 {
-    Ok(parts_of(vec![in alloc;
-        part(alloc, "reference", 3, false)?,
-        part(alloc, "common", 5, false)?,
-    ]?))
+    parts(alloc, &[("reference", 3, false), ("common", 5, false)])
 }
 
 /// The two kinds of connection data.
 fn data_parts(alloc: Global) -> Result<Parts, NoMemory>
     ensures { IfOk result (λ parts. slice_get rtse_rows 9 ≡ Some (row.Choice parts)) }
 {
-    Ok(parts_of(vec![in alloc;
-        part(alloc, "open", 7, false)?,
-        part(alloc, "recover", 8, false)?,
-    ]?))
+    parts(alloc, &[("open", 7, false), ("recover", 8, false)])
 }
 
 /// The parts of an RTORQ.
 fn request_parts(alloc: Global) -> Result<Parts, NoMemory>
     ensures { IfOk result (λ parts. slice_get rtse_rows 15 ≡ Some (row.Set parts)) }
 {
-    Ok(parts_of(vec![in alloc;
-        part(alloc, "checkpoint", 12, true)?,
-        part(alloc, "window", 13, true)?,
-        part(alloc, "mode", 14, true)?,
-        part(alloc, "data", 10, false)?,
-    ]?))
+    parts(
+        alloc,
+        &[
+            ("checkpoint", 12, true),
+            ("window", 13, true),
+            ("mode", 14, true),
+            ("data", 10, false),
+        ],
+    )
 }
 
 /// The parts of an RTOAC.
 fn accept_parts(alloc: Global) -> Result<Parts, NoMemory>
     ensures { IfOk result (λ parts. slice_get rtse_rows 17 ≡ Some (row.Set parts)) }
 {
-    Ok(parts_of(vec![in alloc;
-        part(alloc, "checkpoint", 12, true)?,
-        part(alloc, "window", 13, true)?,
-        part(alloc, "data", 11, false)?,
-    ]?))
+    parts(
+        alloc,
+        &[
+            ("checkpoint", 12, true),
+            ("window", 13, true),
+            ("data", 11, false),
+        ],
+    )
 }
 
 /// A reason alone.
 fn reason_parts(alloc: Global) -> Result<Parts, NoMemory>
     ensures { IfOk result (λ parts. slice_get rtse_rows 20 ≡ Some (row.Set parts)) }
 {
-    Ok(parts_of(vec![in alloc; part(alloc, "reason", 19, false)?]?))
+    parts(alloc, &[("reason", 19, false)])
 }
 
 /// The kinds of APDUs.
 fn apdu_parts(alloc: Global) -> Result<Parts, NoMemory>
     ensures { IfOk result (λ parts. slice_get rtse_rows 23 ≡ Some (row.Choice parts)) }
 {
-    Ok(parts_of(vec![in alloc;
-        part(alloc, "openRequest", 16, false)?,
-        part(alloc, "openAccept", 18, false)?,
-        part(alloc, "openReject", 21, false)?,
-        part(alloc, "abort", 22, false)?,
-        part(alloc, "turnPlease", 2, false)?,
-        part(alloc, "transfer", 3, false)?,
-    ]?))
+    parts(
+        alloc,
+        &[
+            ("openRequest", 16, false),
+            ("openAccept", 18, false),
+            ("openReject", 21, false),
+            ("abort", 22, false),
+            ("turnPlease", 2, false),
+            ("transfer", 3, false),
+        ],
+    )
 }
 
 /// All rows.
 fn rows(alloc: Global) -> Result<Vec<TypeRow>, NoMemory>
     ensures { IfOk result (λ rows. rows.items ≡ rtse_rows) }
 {
+    let reference = reference_parts(alloc)?;
+    let data = data_parts(alloc)?;
+    let request = request_parts(alloc)?;
+    let accept = accept_parts(alloc)?;
+    let reason = reason_parts(alloc)?;
+    let kinds = apdu_parts(alloc)?;
     Ok(vec![in alloc;
         TypeRow::Integer { low: 0, high: 255 },
         TypeRow::Integer {
@@ -111,24 +120,24 @@ fn rows(alloc: Global) -> Result<Vec<TypeRow>, NoMemory>
         TypeRow::OctetString { most: u32::MAX },
         TypeRow::Any,
         tagged(Class::Universal, 23, false, 3),
-        TypeRow::Sequence(reference_parts(alloc)?),
+        TypeRow::Sequence(reference),
         explicit(0, 4),
         implicit(1, 6),
-        TypeRow::Choice(data_parts(alloc)?),
+        TypeRow::Choice(data),
         explicit(3, 9),
         explicit(2, 9),
         implicit(0, 0),
         implicit(1, 0),
         implicit(2, 1),
-        TypeRow::Set(request_parts(alloc)?),
+        TypeRow::Set(request),
         implicit(16, 15),
-        TypeRow::Set(accept_parts(alloc)?),
+        TypeRow::Set(accept),
         implicit(17, 17),
         implicit(0, 1),
-        TypeRow::Set(reason_parts(alloc)?),
+        TypeRow::Set(reason),
         implicit(18, 20),
         implicit(22, 20),
-        TypeRow::Choice(apdu_parts(alloc)?),
+        TypeRow::Choice(kinds),
     ]?)
 }
 

@@ -8,7 +8,7 @@ ghost use Rattle.rtse_apdus.specs.Transfer.{transfer_at, written_transfer};
 
 use asn1_types::{Class, Parts, TypeId, TypeRow, TypeTable};
 use ber_writing::ber_octets;
-use fixed_tables::{PduFault, part, parts_of, pdv_in, pdv_value, table_of, tagged, whole};
+use fixed_tables::{PduFault, parts, pdv_in, pdv_value, table_of, tagged, whole};
 use osi_base::{NoMemory, Octets, Pdv};
 use std::alloc::Global;
 use std::marker::Model;
@@ -40,28 +40,36 @@ impl Model for TransferTable {
 fn form_parts(alloc: Global) -> Result<Parts, NoMemory>
     ensures { IfOk result (λ parts. slice_get transfer_rows 8 ≡ Some (row.Choice parts)) }
 {
-    Ok(parts_of(vec![in alloc;
-        part(alloc, "single", 5, false)?,
-        part(alloc, "aligned", 6, false)?,
-        part(alloc, "arbitrary", 7, false)?,
-    ]?))
+    parts(
+        alloc,
+        &[
+            ("single", 5, false),
+            ("aligned", 6, false),
+            ("arbitrary", 7, false),
+        ],
+    )
 }
 
 /// A value with its context.
 fn value_parts(alloc: Global) -> Result<Parts, NoMemory>
     ensures { IfOk result (λ parts. slice_get transfer_rows 9 ≡ Some (row.Sequence parts)) }
 {
-    Ok(parts_of(vec![in alloc;
-        part(alloc, "transfer", 1, true)?,
-        part(alloc, "identifier", 0, false)?,
-        part(alloc, "values", 8, false)?,
-    ]?))
+    parts(
+        alloc,
+        &[
+            ("transfer", 1, true),
+            ("identifier", 0, false),
+            ("values", 8, false),
+        ],
+    )
 }
 
 /// All rows.
 fn rows(alloc: Global) -> Result<Vec<TypeRow>, NoMemory>
     ensures { IfOk result (λ rows. rows.items ≡ transfer_rows) }
 {
+    let forms = form_parts(alloc)?;
+    let value = value_parts(alloc)?;
     Ok(vec![in alloc;
         TypeRow::Integer {
             low: 1,
@@ -74,8 +82,8 @@ fn rows(alloc: Global) -> Result<Vec<TypeRow>, NoMemory>
         tagged(Class::Context, 0, true, 4),
         tagged(Class::Context, 1, false, 2),
         tagged(Class::Context, 2, false, 3),
-        TypeRow::Choice(form_parts(alloc)?),
-        TypeRow::Sequence(value_parts(alloc)?),
+        TypeRow::Choice(forms),
+        TypeRow::Sequence(value),
     ]?)
 }
 

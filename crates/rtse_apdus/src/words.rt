@@ -95,11 +95,12 @@ pub(crate) fn value_of(alloc: Global, apdu: &Rtse) -> Result<Val, NoMemory>
             mode,
             data,
         } => {
+            let data = data_value(alloc, data)?;
             let parts = vec![in alloc;
                 Some(integer(*checkpoint as i64)),
                 Some(integer(*window as i64)),
                 Some(integer(*mode)),
-                Some(data_value(alloc, data)?),
+                Some(data),
             ]?;
             chosen(alloc, 0, sequence(parts))
         }
@@ -108,10 +109,11 @@ pub(crate) fn value_of(alloc: Global, apdu: &Rtse) -> Result<Val, NoMemory>
             window,
             data,
         } => {
+            let data = data_value(alloc, data)?;
             let parts = vec![in alloc;
                 Some(integer(*checkpoint as i64)),
                 Some(integer(*window as i64)),
-                Some(data_value(alloc, data)?),
+                Some(data),
             ]?;
             chosen(alloc, 1, sequence(parts))
         }
