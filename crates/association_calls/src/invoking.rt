@@ -127,10 +127,14 @@ fn check_send(
     let apdu = invoke_apdu(basis.alloc, operation, next_id(body), linked, argument)?;
     let used = basis.tables.use_in(&apdu);
     if is_too_long_with(basis.tables, used, &apdu) {
+        drop(apdu);
         return Err(CallRefusal::TooLong);
     }
     match room_refusal(basis, body, operation) {
-        Some(refusal) => Err(refusal),
+        Some(refusal) => {
+            drop(apdu);
+            Err(refusal)
+        }
         None => Ok(apdu),
     }
 }

@@ -51,13 +51,16 @@ fn check_outcome(
         (Some apdu) result }
 {
     if lacks_carrier(basis, body, context) {
+        drop(apdu);
         return Err(CallRefusal::NoContext);
     }
     let used = basis.tables.use_in(&apdu);
     if is_too_long_with(basis.tables, used, &apdu) {
+        drop(apdu);
         return Err(CallRefusal::TooLong);
     }
     if is_queue_full(basis, body) {
+        drop(apdu);
         return Err(CallRefusal::QueueFull);
     }
     Ok(apdu)
