@@ -19,6 +19,58 @@ const EMPTY_FILE: [u8; 31] = [
     0, 0, 0, 0, 0, 0,
 ];
 
+/// The same file with version 3, which is none.
+const LATER_FILE: [u8; 31] = [
+    0x4F, 0x54, 0x41, 0x42, 0, 3, 0, 0, 0, 1, 0x45, 0, 0, 0, 4, 0x88, 0x37, 7, 3, 0, 0, 0, 0, 0, 0,
+    0, 0, 0, 0, 0, 0,
+];
+
+/// A table file of version 1 with two types, a BOOLEAN and a SEQUENCE of a part `a` of it: a part
+/// has no default there, so its three fields are followed by the counts of errors and operations.
+const EARLIER_FILE: [u8; 45] = [
+    0x4F, 0x54, 0x41, 0x42, 0, 1, 0, 0, 0, 1, 0x45, 0, 0, 0, 4, 0x88, 0x37, 7, 3, 0, 0, 0, 2, 0, 8,
+    0, 0, 0, 1, 0, 0, 0, 1, 0x61, 1, 0, 0, 0, 0, 0, 0, 0, 0, 0, 0,
+];
+
+/// One of version 2 with one type, an INTEGER from 1 to 0, behind the count of types.
+const UNSOUND_FILE: [u8; 36] = [
+    0x4F, 0x54, 0x41, 0x42, 0, 2, 0, 0, 0, 1, 0x45, 0, 0, 0, 4, 0x88, 0x37, 7, 3, 0, 0, 0, 1, 1, 1,
+    1, 1, 0, 0, 0, 0, 0, 0, 0, 0, 0,
+];
+
+/// A type that names a later one, another name of that, and an implicit tag over a CHOICE.
+const TYPES: &str = "E {2 999 7 3} DEFINITIONS ::= BEGIN
+L ::= SEQUENCE {b BOOLEAN, n N}
+N ::= INTEGER (0..1)
+A ::= N
+C ::= CHOICE {x NULL}
+T ::= [5] IMPLICIT C
+END
+";
+
+/// Its table file. Each type stands behind those that it names, in the order in which it names
+/// them: BOOLEAN, the INTEGER, L, NULL, C and T, whose tag is explicit. Another name makes no row.
+const TYPES_FILE: [u8; 83] = [
+    0x4F, 0x54, 0x41, 0x42, 0, 2, 0, 0, 0, 1, 0x45, 0, 0, 0, 4, 0x88, 0x37, 7, 3, 0, 0, 0, 6, 0, 1,
+    1, 0, 1, 1, 8, 0, 0, 0, 2, 0, 0, 0, 1, 0x62, 1, 0, 0, 0, 0, 0, 0, 1, 0x6E, 1, 1, 0, 0, 3, 0x0B,
+    0, 0, 0, 1, 0, 0, 0, 1, 0x78, 1, 3, 0, 0, 0x0C, 1, 2, 1, 5, 1, 1, 4, 0, 0, 0, 0, 0, 0, 0, 0,
+];
+
+/// A part that may be absent, in front of one whose tag is that of an alternative of its CHOICE.
+const TAGS_THAT_MEET: &str = "E {2 999 7 3} DEFINITIONS ::= BEGIN
+S ::= SEQUENCE {a C OPTIONAL, b INTEGER}
+C ::= CHOICE {x INTEGER, y NULL}
+END
+";
+
+/// A name that stands twice, and on the line behind it a code that does.
+const TWO_FAULTS: &str = "M {2 999 7 2} DEFINITIONS ::= BEGIN
+a OPERATION ::= {CODE local:1}
+a OPERATION ::= {CODE local:2}
+b OPERATION ::= {CODE local:1}
+END
+";
+
 /// The status and the output of a check of these octets, with these words behind `check`.
 fn checked(alloc: Global, octets: &[u8], more: &[&str]) -> Result<(Status, Octets), NoMemory> {
     let mut contents = ListOf::new(alloc);
@@ -55,7 +107,7 @@ const EMPTY: &str = "E {2 999 7 3} DEFINITIONS ::= BEGIN END\n";
 
 #[test]
 fn checks_modules(rt: HostRuntime) -> Result<(), Fail> {
-    let rows: [(&[u8], &[&str], Status, &[u8]); 7] = [
+    let rows: [(&[u8], &[&str], Status, &[u8]); 13] = [
         // a module with four operations and an error: a line for each, operations first, and their
         // counts
         (
@@ -99,6 +151,48 @@ fn checks_modules(rt: HostRuntime) -> Result<(), Fail> {
             &["module"],
             Status::ModuleRefused,
             b"module refused 0 30 Missing\n",
+        ),
+        // one of version 3: its version, behind 4 octets
+        (
+            &LATER_FILE,
+            &["module"],
+            Status::ModuleRefused,
+            b"module refused 0 4 Content\n",
+        ),
+        // one of version 1
+        (
+            &EARLIER_FILE,
+            &["module"],
+            Status::Done,
+            b"checked 0 operations 0 errors\n",
+        ),
+        // one with a row that isn't sound: the row, behind 23 octets
+        (
+            &UNSOUND_FILE,
+            &["module"],
+            Status::ModuleRefused,
+            b"module refused 0 23 Content\n",
+        ),
+        // types in the order of their rows
+        (
+            TYPES.as_bytes(),
+            &["--table", "module"],
+            Status::Done,
+            &TYPES_FILE,
+        ),
+        // two parts with one tag: the second, behind 30 octets of line 2
+        (
+            TAGS_THAT_MEET.as_bytes(),
+            &["module"],
+            Status::ModuleRefused,
+            b"module refused 2 31 TagsNotDistinct\n",
+        ),
+        // two faults: the first
+        (
+            TWO_FAULTS.as_bytes(),
+            &["module"],
+            Status::ModuleRefused,
+            b"module refused 3 1 DoubleName\n",
         ),
         // a name that no file has
         (

@@ -1,6 +1,7 @@
 //! Schedules that are refused: the line, and the kind of its first faulty field.
 
 use module_reading::read_module;
+use osi_base::{NoMemory, Octets};
 use schedule_text::{Modes, read_schedule};
 use script_lines::{ScriptFault, ScriptKind};
 use std::alloc::Global;
@@ -329,4 +330,33 @@ fn modes_that_are_not_run(rt: HostRuntime) {
     check(&rt, rt.alloc(), BARE_ALONE, &NOT_RUN);
     let text = "# bare\nmode bare\nA open\n";
     assert!(rt; is_read(&rt, rt.alloc(), BARE_ALONE, text), "bare mode");
+}
+
+/// A schedule of bare mode with so many breaks.
+fn breaks(alloc: Global, count: usize) -> Result<Octets, NoMemory> {
+    let mut text = Octets::from_slice(alloc, b"mode bare\n")?;
+    for _ in 0..count {
+        text.extend(b"break\n")?;
+    }
+    Ok(text)
+}
+
+/// Why a schedule of so many breaks is not read, if it is not.
+fn fault_of_breaks(rt: &impl Abort, alloc: Global, count: usize) -> Option<ScriptFault> {
+    let tables = calc(rt, alloc);
+    let text = breaks(alloc, count).expect(rt, "memory");
+    let fault = read_schedule(alloc, all_modes(), &tables, text.as_slice()).err();
+    drop(tables);
+    fault
+}
+
+/// A schedule has at most 20,000 events: the line of one more is told.
+#[test]
+fn an_event_too_many(rt: HostRuntime) {
+    let fault = ScriptFault::At {
+        line: 20_002,
+        kind: ScriptKind::TooMany,
+    };
+    assert!(rt; fault_of_breaks(&rt, rt.alloc(), 20_000) == None);
+    assert!(rt; fault_of_breaks(&rt, rt.alloc(), 20_001) == Some(fault));
 }

@@ -233,3 +233,25 @@ fn values_print_by_their_types(rt: HostRuntime) {
     assert!(rt; is_printed(&rt, rt.alloc(), &tables, transcript, COLOURED));
     drop(tables);
 }
+
+const COLOURS_SUMMED_UP: &'static str = "events 6
+octets A>B 1
+octets B>A 0
+values 2
+outcomes 1
+rejects 1
+cut 0
+transfers 0
+refused 2
+end A up
+end B up
+";
+
+/// Refused calls are no values: the two are a result and a reject.
+#[test]
+fn colours_summed_up(rt: HostRuntime) {
+    let transcript = of_colours(&rt, rt.alloc());
+    let text = summary_text(rt.alloc(), &transcript).expect(&rt, "memory");
+    drop(transcript);
+    assert!(rt; text.as_slice() == COLOURS_SUMMED_UP.as_bytes());
+}
