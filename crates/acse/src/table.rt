@@ -6,7 +6,7 @@ ghost use Rattle.asn1_types.specs.declared.row.TypeRow.TheVariants as row;
 ghost use Rattle.acse.specs.Rows.{acse_rows};
 
 use asn1_types::{Class, Parts, TypeId, TypeRow, TypeTable};
-use fixed_tables::{explicit, implicit, part, parts_of, table_of, tagged};
+use fixed_tables::{explicit, implicit, parts, table_of, tagged};
 use osi_base::NoMemory;
 use std::alloc::Global;
 use std::marker::Model;
@@ -35,73 +35,73 @@ impl Model for AcseTable {
 fn external_parts(alloc: Global) -> Result<Parts, NoMemory>
     ensures { IfOk result (λ parts. slice_get acse_rows 8 ≡ Some (row.Sequence parts)) }
 {
-    Ok(parts_of(vec![in alloc;
-        part(alloc, "identifier", 0, false)?,
-        part(alloc, "value", 7, false)?,
-    ]?))
+    parts(alloc, &[("identifier", 0, false), ("value", 7, false)])
 }
 
 /// The parts of an AARQ.
 fn request_parts(alloc: Global) -> Result<Parts, NoMemory>
     ensures { IfOk result (λ parts. slice_get acse_rows 14 ≡ Some (row.Sequence parts)) }
 {
-    Ok(parts_of(vec![in alloc;
-        part(alloc, "version", 12, true)?,
-        part(alloc, "context", 13, false)?,
-        part(alloc, "user", 11, true)?,
-    ]?))
+    parts(
+        alloc,
+        &[
+            ("version", 12, true),
+            ("context", 13, false),
+            ("user", 11, true),
+        ],
+    )
 }
 
 /// The two kinds of diagnostics.
 fn diagnostic_parts(alloc: Global) -> Result<Parts, NoMemory>
     ensures { IfOk result (λ parts. slice_get acse_rows 19 ≡ Some (row.Choice parts)) }
 {
-    Ok(parts_of(vec![in alloc;
-        part(alloc, "user", 17, false)?,
-        part(alloc, "provider", 18, false)?,
-    ]?))
+    parts(alloc, &[("user", 17, false), ("provider", 18, false)])
 }
 
 /// The parts of an AARE.
 fn response_parts(alloc: Global) -> Result<Parts, NoMemory>
     ensures { IfOk result (λ parts. slice_get acse_rows 21 ≡ Some (row.Sequence parts)) }
 {
-    Ok(parts_of(vec![in alloc;
-        part(alloc, "context", 13, false)?,
-        part(alloc, "result", 16, false)?,
-        part(alloc, "diagnostic", 20, false)?,
-        part(alloc, "user", 11, true)?,
-    ]?))
+    parts(
+        alloc,
+        &[
+            ("context", 13, false),
+            ("result", 16, false),
+            ("diagnostic", 20, false),
+            ("user", 11, true),
+        ],
+    )
 }
 
 /// The parts of an RLRQ and of an RLRE.
 fn release_parts(alloc: Global) -> Result<Parts, NoMemory>
     ensures { IfOk result (λ parts. slice_get acse_rows 24 ≡ Some (row.Sequence parts)) }
 {
-    Ok(parts_of(vec![in alloc; part(alloc, "reason", 23, true)?]?))
+    parts(alloc, &[("reason", 23, true)])
 }
 
 /// The parts of an ABRT.
 fn abort_parts(alloc: Global) -> Result<Parts, NoMemory>
     ensures { IfOk result (λ parts. slice_get acse_rows 28 ≡ Some (row.Sequence parts)) }
 {
-    Ok(parts_of(vec![in alloc;
-        part(alloc, "source", 27, false)?,
-        part(alloc, "user", 11, true)?,
-    ]?))
+    parts(alloc, &[("source", 27, false), ("user", 11, true)])
 }
 
 /// The kinds of APDUs.
 fn apdu_parts(alloc: Global) -> Result<Parts, NoMemory>
     ensures { IfOk result (λ parts. slice_get acse_rows 30 ≡ Some (row.Choice parts)) }
 {
-    Ok(parts_of(vec![in alloc;
-        part(alloc, "AARQ", 15, false)?,
-        part(alloc, "AARE", 22, false)?,
-        part(alloc, "RLRQ", 25, false)?,
-        part(alloc, "RLRE", 26, false)?,
-        part(alloc, "ABRT", 29, false)?,
-    ]?))
+    parts(
+        alloc,
+        &[
+            ("AARQ", 15, false),
+            ("AARE", 22, false),
+            ("RLRQ", 25, false),
+            ("RLRE", 26, false),
+            ("ABRT", 29, false),
+        ],
+    )
 }
 
 /// The tag of an APDU in the place of a row's own.
@@ -115,6 +115,13 @@ fn apdu(number: u32, inner: u32) -> TypeRow
 fn rows(alloc: Global) -> Result<Vec<TypeRow>, NoMemory>
     ensures { IfOk result (λ rows. rows.items ≡ acse_rows) }
 {
+    let external = external_parts(alloc)?;
+    let request = request_parts(alloc)?;
+    let diagnostic = diagnostic_parts(alloc)?;
+    let response = response_parts(alloc)?;
+    let release = release_parts(alloc)?;
+    let abort = abort_parts(alloc)?;
+    let kinds = apdu_parts(alloc)?;
     Ok(vec![in alloc;
         TypeRow::Integer {
             low: 1,
@@ -130,29 +137,29 @@ fn rows(alloc: Global) -> Result<Vec<TypeRow>, NoMemory>
         TypeRow::Integer { low: 0, high: 2 },
         TypeRow::Integer { low: 0, high: 1 },
         explicit(0, 3),
-        TypeRow::Sequence(external_parts(alloc)?),
+        TypeRow::Sequence(external),
         tagged(Class::Universal, 8, false, 8),
         TypeRow::SequenceOf(TypeId(9)),
         implicit(30, 10),
         implicit(0, 2),
         explicit(1, 1),
-        TypeRow::Sequence(request_parts(alloc)?),
+        TypeRow::Sequence(request),
         apdu(0, 14),
         explicit(2, 5),
         explicit(1, 4),
         explicit(2, 4),
-        TypeRow::Choice(diagnostic_parts(alloc)?),
+        TypeRow::Choice(diagnostic),
         explicit(3, 19),
-        TypeRow::Sequence(response_parts(alloc)?),
+        TypeRow::Sequence(response),
         apdu(1, 21),
         implicit(0, 4),
-        TypeRow::Sequence(release_parts(alloc)?),
+        TypeRow::Sequence(release),
         apdu(2, 24),
         apdu(3, 24),
         implicit(0, 6),
-        TypeRow::Sequence(abort_parts(alloc)?),
+        TypeRow::Sequence(abort),
         apdu(4, 28),
-        TypeRow::Choice(apdu_parts(alloc)?),
+        TypeRow::Choice(kinds),
     ]?)
 }
 

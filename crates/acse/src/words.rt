@@ -33,11 +33,9 @@ impl InValue for ExternalItems {
     }
 
     fn val(alloc: Global, item: &External) -> Result<Val, NoMemory> {
-        let parts = vec![in alloc;
-            Some(integer(item.id as i64)),
-            Some(any(alloc, &item.value)?),
-        ]?;
-        Ok(sequence(parts))
+        let value = any(alloc, &item.value)?;
+        let id = integer(item.id as i64);
+        Ok(sequence(vec![in alloc; Some(id), Some(value)]?))
     }
 }
 
@@ -140,11 +138,10 @@ pub(crate) fn value_of(alloc: Global, apdu: &Acse) -> Result<Val, NoMemory>
             context,
             user,
         } => {
-            let parts = vec![in alloc;
-                bits_part(alloc, version)?,
-                Some(object_id(alloc, context)?),
-                user_part(alloc, user)?,
-            ]?;
+            let version = bits_part(alloc, version)?;
+            let context = object_id(alloc, context)?;
+            let user = user_part(alloc, user)?;
+            let parts = vec![in alloc; version, Some(context), user]?;
             chosen(alloc, 0, sequence(parts))
         }
         Acse::AssociateResponse {
@@ -153,18 +150,18 @@ pub(crate) fn value_of(alloc: Global, apdu: &Acse) -> Result<Val, NoMemory>
             diagnostic,
             user,
         } => {
-            let parts = vec![in alloc;
-                Some(object_id(alloc, context)?),
-                Some(integer(*outcome as i64)),
-                Some(diagnostic_value(alloc, *diagnostic)?),
-                user_part(alloc, user)?,
-            ]?;
+            let context = object_id(alloc, context)?;
+            let diagnostic = diagnostic_value(alloc, *diagnostic)?;
+            let user = user_part(alloc, user)?;
+            let outcome = integer(*outcome as i64);
+            let parts = vec![in alloc; Some(context), Some(outcome), Some(diagnostic), user]?;
             chosen(alloc, 1, sequence(parts))
         }
         Acse::ReleaseRequest { reason } => chosen(alloc, 2, reason_value(alloc, *reason)?),
         Acse::ReleaseResponse { reason } => chosen(alloc, 3, reason_value(alloc, *reason)?),
         Acse::Abort { source, user } => {
-            let parts = vec![in alloc; Some(integer(*source as i64)), user_part(alloc, user)?]?;
+            let user = user_part(alloc, user)?;
+            let parts = vec![in alloc; Some(integer(*source as i64)), user]?;
             chosen(alloc, 4, sequence(parts))
         }
     }
