@@ -97,8 +97,9 @@ pub fn accept_message(
         results selected manages response.context (map seen_information response.user)) }
 {
     let alloc = basis.alloc;
-    let presentation = presentation_accept(basis, results, manages)?;
     let value = response_value(alloc, accepted, 0, response)?;
+    let values = alone(alloc, value)?;
+    let presentation = presentation_accept(basis, results, manages)?;
     Ok(Message::Session(Word::OfAssociation(AssociationWord::Accept {
         session: Accepting {
             options: Some(0),
@@ -107,7 +108,7 @@ pub fn accept_message(
             requirements: Some(selected),
         },
         presentation,
-        values: alone(alloc, value)?,
+        values,
     })))
 }
 
@@ -143,11 +144,12 @@ pub fn refuse_message(
         response.context (map seen_information response.user)) }
 {
     let value = response_value(alloc, accepted, 1, response)?;
+    let values = alone(alloc, value)?;
     Ok(Message::Session(Word::OfAssociation(AssociationWord::Refuse {
         transport: Some(1),
         reason: Some(2),
         presentation: Some(reject_with(alloc, results, None)),
-        values: alone(alloc, value)?,
+        values,
     })))
 }
 

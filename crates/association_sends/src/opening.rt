@@ -146,10 +146,13 @@ fn connect_values(basis: &Ground<'_>, recovers: bool) -> Result<Values, NoMemory
 pub fn connect_message(basis: &Ground<'_>, recovers: bool) -> Result<Message, NoMemory>
     ensures { IfOk result (λ m. seen_message m ≡ connect_message (base_in basis.now) recovers) }
 {
+    let values = connect_values(basis, recovers)?;
+    let session = session_connect(basis)?;
+    let presentation = presentation_connect(basis)?;
     Ok(Message::Session(Word::OfAssociation(AssociationWord::Connect {
-        session: session_connect(basis)?,
-        presentation: presentation_connect(basis)?,
-        values: connect_values(basis, recovers)?,
+        session,
+        presentation,
+        values,
     })))
 }
 

@@ -41,11 +41,11 @@ fn rtse_value(alloc: Global, body: &Body, content: ValueContent) -> Result<Value
         (seen_content content)) }
 {
     let id = rtse_context(body.link.accepted.as_slice());
-    Ok(Value {
-        id,
-        pair: pair_copied(alloc, body.sets.held.as_slice(), id)?,
-        content,
-    })
+    let Ok(pair) = pair_copied(alloc, body.sets.held.as_slice(), id) else {
+        drop(content);
+        return Err(NoMemory);
+    };
+    Ok(Value { id, pair, content })
 }
 
 /// PT with a plea in reliable mode, PT with the minor token else.
