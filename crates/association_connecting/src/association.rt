@@ -15,9 +15,7 @@ use crate::associated::{is_release_request, is_release_response};
 use crate::connect_faults::connect_fault;
 use crate::taking_accept::{accept_fault, take_accept};
 use crate::taking_connect::take_connect;
-use association_answers::{
-    Brought, end_association, push_cuts, with_answer, with_indication, with_nothing,
-};
+use association_answers::{Brought, end_association, one_message, push_cuts, with_indication};
 use association_sends::disconnect_message;
 use association_sets::copy_set;
 use association_state::{Awaited, Body, Ground};
@@ -119,7 +117,10 @@ fn shown_end(basis: &Ground<'_>, body: &Body, last: Indication) -> Result<Indica
     ensures { IfOk result (λ shown. shown ≡ cuts (seen body.now) ++ last ∷ []) }
 {
     let mut shown: Indications = ListOf::new(basis.alloc);
-    push_cuts(basis.alloc, body, &mut shown)?;
+    let Ok(()) = push_cuts(basis.alloc, body, &mut shown) else {
+        drop(last);
+        return Err(NoMemory);
+    };
     shown.push(last)?;
     Ok(shown)
 }
@@ -129,10 +130,12 @@ fn end_quietly(basis: &Ground<'_>, body: &mut Body, last: Indication) -> Result<
     ensures body { OnOk result (seen body.new ≡ over (seen body.old)) }
     ensures taken { IfOk result (TakenAs [] (cuts (seen body.old) ++ last ∷ [])) }
 {
-    let mut taken = with_nothing(basis.alloc);
-    taken.shown = shown_end(basis, body, last)?;
+    let shown = shown_end(basis, body, last)?;
     end_association(body);
-    Ok(taken)
+    Ok(Brought {
+        answers: ListOf::new(basis.alloc),
+        shown,
+    })
 }
 
 /// Takes FN.
@@ -142,10 +145,10 @@ fn take_finish(basis: &Ground<'_>, body: &mut Body) -> Result<Brought, NoMemory>
         body.old) ++ indications.Released ∷ [])) }
 {
     let message = disconnect_message(basis.alloc, body)?;
-    let mut taken = with_answer(basis.alloc, message)?;
-    taken.shown = shown_end(basis, body, Indication::Released)?;
+    let answers = one_message(basis.alloc, message)?;
+    let shown = shown_end(basis, body, Indication::Released)?;
     end_association(body);
-    Ok(taken)
+    Ok(Brought { answers, shown })
 }
 
 /// Takes DN.
@@ -184,17 +187,17 @@ pub fn take_association(
         (seen_association word)) (shown_of_association (base_in basis.now) (seen body.old)
         (seen_association word))) }
 {
-    match word {
+    let taken = match &word {
         AssociationWord::Connect {
             session,
             presentation,
             values,
-        } => take_connect(basis, body, &session, &presentation, values.as_slice()),
+        } => take_connect(basis, body, session, presentation, values.as_slice()),
         AssociationWord::Accept {
             session,
             presentation,
             values,
-        } => take_accept(basis, body, &session, &presentation, values.as_slice()),
+        } => take_accept(basis, body, session, presentation, values.as_slice()),
         AssociationWord::Refuse {
             transport: _,
             reason: _,
@@ -214,5 +217,7 @@ pub fn take_association(
             user: _,
         } => end_quietly(basis, body, aborted_by_peer()),
         AssociationWord::AbortAccept => end_quietly(basis, body, aborted_by_peer()),
-    }
+    };
+    drop(word);
+    taken
 }

@@ -12,6 +12,7 @@ use association_sets::copy_set;
 use association_state::{Awaited, Body, Ground, SavedSets, Stage};
 use dialogue::{Mode, Phase};
 use osi_base::{Copied, NoMemory, SessionConnect, SetItem, SetList};
+use std::mem;
 
 /// What the two ends of a connection have: the accepted contexts, the functional units selected,
 /// whether context management is, and what is agreed for transfers.
@@ -86,7 +87,8 @@ pub(crate) fn begin(
 {
     let reference = session.calling_reference.copy(basis.alloc)?;
     let common = session.common_reference.copy(basis.alloc)?;
-    *body = Body::new(basis)?;
+    let begun = Body::new(basis)?;
+    drop(mem::replace(body, begun));
     body.link.reference = reference;
     body.link.common = common;
     Ok(())

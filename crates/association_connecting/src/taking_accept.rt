@@ -16,7 +16,7 @@ use crate::answering::agreed_for;
 use crate::associated::{accept_information_fault, is_accepting, rtse_in, user_of};
 use crate::connect_faults::{has_acse, has_rtse};
 use crate::joining::{Terms, join};
-use association_answers::{Brought, push_losses, with_nothing};
+use association_answers::{Brought, push_losses};
 use association_calls::{manages_with, selected_with};
 use association_ground::{is_recovering, is_reliable};
 use association_sets::fit_proposals;
@@ -174,8 +174,10 @@ pub(crate) fn take_accept(
     ensures taken { IfOk result (TakenAs [] (shown_at_accept (seen body.old))) }
 {
     let set = set_accepted(basis.alloc, basis.tables, &basis.config, presentation)?;
-    let mut taken = with_nothing(basis.alloc);
-    taken.shown = shown_at_accept(basis, body)?;
+    let shown = shown_at_accept(basis, body)?;
     stand_on(basis, body, session, presentation, values, set.as_slice())?;
-    Ok(taken)
+    Ok(Brought {
+        answers: ListOf::new(basis.alloc),
+        shown,
+    })
 }

@@ -13,7 +13,7 @@ use crate::answering::{acceptance_message, agreed_for, refusal_message};
 use crate::associated::{rtse_in, user_of};
 use crate::connect_faults::is_refused;
 use crate::joining::{Terms, begin, join, refuse};
-use association_answers::{Brought, push_cuts, push_losses, with_answer};
+use association_answers::{Brought, one_message, push_cuts, push_losses, with_answer};
 use association_calls::{manages_with, selected_with};
 use association_ground::{is_broken, is_reliable};
 use association_state::{Body, Ground};
@@ -106,10 +106,10 @@ fn accept(basis: &Ground<'_>, body: &mut Body, asked: &Asked<'_>) -> Result<Brou
     let terms = terms_of(basis, asked);
     let message = acceptance_message(basis, &terms, asked.presentation, asked.values)?;
     let recovers = recovers_in(basis, asked.values);
-    let mut taken = with_answer(basis.alloc, message)?;
-    taken.shown = shown_opening(basis, body, recovers)?;
+    let answers = one_message(basis.alloc, message)?;
+    let shown = shown_opening(basis, body, recovers)?;
     begin_and_join(basis, body, asked.session, recovers, &terms)?;
-    Ok(taken)
+    Ok(Brought { answers, shown })
 }
 
 /// Refuses a CN.
