@@ -15,13 +15,13 @@ ghost use Rattle.association_state.specs.Seen.{base_in, seen};
 ghost use Rattle.association_answers.specs.Reacted.{TakenAs};
 ghost use Rattle.association_sends.specs.Due.{listed};
 
-use association_answers::{Brought, push_losses, with_answer, with_indication, with_nothing};
+use association_answers::{Brought, one_message, push_losses, with_indication, with_nothing};
 use association_hearing::{set_resumed, suspend, take_value};
 use association_sets::copy_set;
 use association_state::{Awaited, Body, Ground, Receiving};
 use association_words::{ActivityWord, Message, Value, Word};
 use dialogue::{Indication, Indications};
-use osi_base::NoMemory;
+use osi_base::{ListOf, NoMemory};
 use std::alloc::Global;
 use stub_tables::Apdu;
 
@@ -140,9 +140,15 @@ pub fn end_taken(
     let taken = take_arrived(basis, body, arrived)?;
     between(basis.alloc, body)?;
     let Brought { answers: _, shown } = taken;
-    let mut all = with_answer(basis.alloc, word(ActivityWord::EndAck { number }))?;
-    all.shown = shown;
-    Ok(all)
+    let answers = one_message(basis.alloc, word(ActivityWord::EndAck { number }))?;
+    Ok(Brought { answers, shown })
+}
+
+/// No own transfer is current.
+fn forget_current(body: &mut Body)
+    ensures { seen body.new ≡ without_current (seen body.old) }
+{
+    drop(body.sending.current.take());
 }
 
 /// Takes AEA.
@@ -152,7 +158,7 @@ fn take_end_ack(basis: &Ground<'_>, body: &mut Body) -> Result<Brought, NoMemory
         ∷ [])) }
 {
     between(basis.alloc, body)?;
-    body.sending.current = None;
+    forget_current(body);
     with_indication(
         basis.alloc,
         Indication::Transferred {
@@ -217,15 +223,18 @@ fn take_interrupt_ack(basis: &Ground<'_>, body: &mut Body) -> Result<Brought, No
     ensures taken { IfOk result (TakenAs [] (losses (seen body.old) ++ indications.Interrupted
         (seen body.old).sending.started ∷ [])) }
 {
-    let mut taken = with_nothing(basis.alloc);
-    push_losses(body, &mut taken.shown)?;
-    taken.shown.push(Indication::Interrupted {
+    let mut shown: Indications = ListOf::new(basis.alloc);
+    push_losses(body, &mut shown)?;
+    shown.push(Indication::Interrupted {
         number: body.sending.started,
     })?;
     between(basis.alloc, body)?;
     suspend(body);
     calm(body);
-    Ok(taken)
+    Ok(Brought {
+        answers: ListOf::new(basis.alloc),
+        shown,
+    })
 }
 
 /// The own invocation that an APDU makes.
@@ -281,17 +290,20 @@ fn take_discard_ack(basis: &Ground<'_>, body: &mut Body) -> Result<Brought, NoMe
         (seen body.old).sending.started ∷ [])) }
 {
     let invocation = invocation_in(body);
-    let mut taken = with_nothing(basis.alloc);
-    push_losses(body, &mut taken.shown)?;
-    push_cut(body, invocation, &mut taken.shown)?;
-    taken.shown.push(Indication::Discarded {
+    let mut shown: Indications = ListOf::new(basis.alloc);
+    push_losses(body, &mut shown)?;
+    push_cut(body, invocation, &mut shown)?;
+    shown.push(Indication::Discarded {
         number: body.sending.started,
     })?;
     between(basis.alloc, body)?;
     cut(body, invocation);
-    body.sending.current = None;
+    forget_current(body);
     calm(body);
-    Ok(taken)
+    Ok(Brought {
+        answers: ListOf::new(basis.alloc),
+        shown,
+    })
 }
 
 /// Takes a unit of activities but AE.

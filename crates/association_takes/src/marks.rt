@@ -13,7 +13,7 @@ ghost use Rattle.association_answers.specs.Reacted.{TakenAs};
 
 use crate::parts::has_associated;
 use association_answers::{
-    Brought, push_cuts, push_losses, with_answer, with_indication, with_nothing,
+    Brought, one_message, push_cuts, push_losses, with_answer, with_indication, with_nothing,
 };
 use association_sets::{copy_set, restored_list, same_lists};
 use association_state::{Awaited, Body, Ground};
@@ -224,12 +224,11 @@ fn take_restart(basis: &Ground<'_>, body: &mut Body, n: u32) -> Result<Brought, 
         (seen body.old) n))))) ∷ []) (shown_restarted (seen body.old) n)) }
 {
     let set = restored_set(basis, body, n)?;
-    let message = restart_answer(basis, body, n)?;
     let shown = shown_restarted(basis, body, n)?;
-    let mut taken = with_answer(basis.alloc, message)?;
-    taken.shown = shown;
+    let message = restart_answer(basis, body, n)?;
+    let answers = one_message(basis.alloc, message)?;
     restart(basis, body, n, set);
-    Ok(taken)
+    Ok(Brought { answers, shown })
 }
 
 /// Takes the answer to a restart.
@@ -238,10 +237,12 @@ fn take_restart_ack(basis: &Ground<'_>, body: &mut Body, n: u32) -> Result<Broug
     ensures taken { IfOk result (TakenAs [] (shown_restarted (seen body.old) n)) }
 {
     let set = restored_set(basis, body, n)?;
-    let mut taken = with_nothing(basis.alloc);
-    taken.shown = shown_restarted(basis, body, n)?;
+    let shown = shown_restarted(basis, body, n)?;
     restart(basis, body, n, set);
-    Ok(taken)
+    Ok(Brought {
+        answers: ListOf::new(basis.alloc),
+        shown,
+    })
 }
 
 /// Takes a giving: who takes one has none of its own unconfirmed.
