@@ -56,7 +56,10 @@ fn request(basis: &Ground<'_>, body: &mut Body, call: &Call) -> Result<CallOutco
 {
     let called = due(basis, body, call)?;
     begin(body, call);
-    send(basis, body, &called.message)?;
+    let Ok(()) = send(basis, body, &called.message) else {
+        drop(called);
+        return Err(CallRefusal::NoMemory);
+    };
     Ok(called)
 }
 

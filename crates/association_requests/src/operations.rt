@@ -40,7 +40,10 @@ fn at_once(
         (seen body.now) carrier apdu) }
 {
     match carrier {
-        None => Ok(None),
+        None => {
+            drop(apdu);
+            Ok(None)
+        }
         Some(carrier) => Ok(Some(data_on(basis, body, carrier, apdu)?)),
     }
 }
@@ -117,7 +120,10 @@ pub(crate) fn invoke(
         (the_calls.Invoke making.context making.place argument.now making.linked) result }
 {
     let apdu = check_invoke(basis, body, making, argument)?;
-    let id = open(basis, body, making)?;
+    let Ok(id) = open(basis, body, making) else {
+        drop(apdu);
+        return Err(CallRefusal::NoMemory);
+    };
     let message = hand_in(basis, body, making.context, Some(making.context), apdu)?;
     Ok(CallOutcome {
         answer: Some(id),

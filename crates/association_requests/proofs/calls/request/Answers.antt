@@ -9,7 +9,7 @@ use Rattle.association_requests.proofs.calls.request.Goals as goal
 pub returns : goal.returns
 returns c =
     made_so (can_by_rows (base_in c.args.basis.now) (seen c.args.body.now) c.args.call.now) (base_in c.args.basis.now) (seen c.args.body.now) (seen c.begin.new.body) (seen c.send.new.body) c.args.call.now c.in_ok-called.called
-    c.in_ok-called.ensures (c.begin.ensures (base_in c.args.basis.now)) c.in_ok-send.ensures
+    c.in_ok-called.ensures (c.begin.ensures (base_in c.args.basis.now)) c.in-Ok.ensures
 
 pub returns-in_err-called : goal.returns-in_err-called
 returns-in_err-called c =

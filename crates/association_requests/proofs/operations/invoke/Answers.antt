@@ -17,12 +17,12 @@ open-requires-clause-there c =
 
 pub returns : goal.returns
 returns c =
-    let fits : SFits w64 c.in_ok-id.id = search rules in
-    let same : to_z w64 (of_z w64 c.in_ok-id.id) ≡ c.in_ok-id.id = to_z-of_z w64 c.in_ok-id.id fits in
+    let fits : SFits w64 c.in-Ok.id = search rules in
+    let same : to_z w64 (of_z w64 c.in-Ok.id) ≡ c.in-Ok.id = to_z-of_z w64 c.in-Ok.id fits in
     invoke_made (base_in c.args.basis.now) (seen c.args.body.now) c.args.making.context c.args.making.place c.args.making.linked c.args.argument.now
-    (can_invoke (base_in c.args.basis.now) (seen c.args.body.now) c.args.making.context c.args.making.place c.args.argument.now c.args.making.linked) (seen c.open.new.body) (seen c.hand_in.new.body) c.in_ok-id.id c.in_ok-apdu.apdu
-    (record { answer = Some (to_z w64 (of_z w64 c.in_ok-id.id)); message = c.in_ok-message.message })
-    c.in_ok-apdu.ensures.checked c.in_ok-id.ensures.id c.in_ok-id.ensures.opened (ap (λ (z : ℤ). Some z) same) c.in_ok-message.ensures.message c.in_ok-message.ensures.body
+    (can_invoke (base_in c.args.basis.now) (seen c.args.body.now) c.args.making.context c.args.making.place c.args.argument.now c.args.making.linked) (seen c.open.new.body) (seen c.hand_in.new.body) c.in-Ok.id c.in_ok-apdu.apdu
+    (record { answer = Some (to_z w64 (of_z w64 c.in-Ok.id)); message = c.in_ok-message.message })
+    c.in_ok-apdu.ensures.checked c.in-Ok.ensures.id c.in-Ok.ensures.opened (ap (λ (z : ℤ). Some z) same) c.in_ok-message.ensures.message c.in_ok-message.ensures.body
 
 pub returns-in_err-apdu : goal.returns-in_err-apdu
 returns-in_err-apdu c =
