@@ -82,9 +82,9 @@ fn connect_unit(
         ≡ Some (pdus.Connect (record presentation.now
         { user = pdvs_of tables.now (seen_values values.now) }))) }
 {
-    let mut unit = presentation.copy(alloc)?;
-    unit.user = pdvs_of(alloc, codecs, tables, values)?;
-    Ok(Some(PresentationWord::Connect(unit)))
+    let user = pdvs_of(alloc, codecs, tables, values)?;
+    let unit = presentation.copy(alloc)?;
+    Ok(Some(PresentationWord::Connect(PresentationConnect { user, ..unit })))
 }
 
 /// CPA.
@@ -99,9 +99,9 @@ fn accept_unit(
         ≡ Some (pdus.Accept (record presentation.now
         { user = pdvs_of tables.now (seen_values values.now) }))) }
 {
-    let mut unit = presentation.copy(alloc)?;
-    unit.user = pdvs_of(alloc, codecs, tables, values)?;
-    Ok(Some(PresentationWord::Accept(unit)))
+    let user = pdvs_of(alloc, codecs, tables, values)?;
+    let unit = presentation.copy(alloc)?;
+    Ok(Some(PresentationWord::Accept(PresentationAccept { user, ..unit })))
 }
 
 /// CPR, where there is one.
@@ -118,9 +118,9 @@ fn refuse_unit(
     let Some(presentation) = presentation else {
         return Ok(None);
     };
-    let mut unit = presentation.copy(alloc)?;
-    unit.user = pdvs_of(alloc, codecs, tables, values)?;
-    Ok(Some(PresentationWord::Reject(unit)))
+    let user = pdvs_of(alloc, codecs, tables, values)?;
+    let unit = presentation.copy(alloc)?;
+    Ok(Some(PresentationWord::Reject(PresentationReject { user, ..unit })))
 }
 
 /// The provider's reason, where one below 0 counts as 0.
@@ -229,6 +229,10 @@ pub(crate) fn user_octets(
 {
     match presentation_unit(alloc, codecs, tables, word)? {
         None => Ok(None),
-        Some(unit) => Ok(Some(codecs.ppdus.write(alloc, &unit)?)),
+        Some(unit) => {
+            let octets = codecs.ppdus.write(alloc, &unit);
+            drop(unit);
+            Ok(Some(octets?))
+        }
     }
 }
