@@ -90,16 +90,18 @@ impl<'t> End<'t> {
         }) }
     {
         let size = first_size(config.initiator);
+        let codecs = Codecs::new(alloc)?;
+        let heads = Heads::new(alloc)?;
         let basis = Ground {
             alloc,
             tables,
             config,
-            heads: Heads::new(alloc)?,
+            heads,
         };
         let body = Body::new(&basis)?;
         Ok(End {
             basis,
-            codecs: Codecs::new(alloc)?,
+            codecs,
             body,
             waiting: OctetQueue::new(alloc),
             intake: Some(Intake::new(alloc)),
