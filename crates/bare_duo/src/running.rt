@@ -56,8 +56,8 @@ fn run_call(
     ensures { IfOk result (λ entry. RunsOne (the_events.Call side call.now) entry a.old b.old a.new
         b.new) }
 {
-    let kept = call.copy(alloc)?;
     let answer = answer_at(alloc, a, b, side, call)?;
+    let kept = call.copy(alloc)?;
     Ok(Entry::Call {
         side,
         call: kept,
