@@ -168,5 +168,7 @@ pub fn connect_octets(alloc: Global, config: &Config, recovers: bool) -> Result<
     ensures { IfOk result (λ octets. octets ≡ connect_octets config.now recovers) }
 {
     let unit = connect_unit(alloc, config, recovers)?;
-    write_ppdu(alloc, &unit)
+    let octets = write_ppdu(alloc, &unit);
+    drop(unit);
+    octets
 }
