@@ -54,7 +54,14 @@ pub(crate) fn with_event(draft: Draft, event: Event) -> Result<Draft, NoMemory>
     ensures { IfOk result (λ after. after ≡ with_event draft event) }
 {
     let mut draft = draft;
-    name(&mut draft.invoked, &event)?;
-    draft.events.push(event)?;
+    let Ok(()) = name(&mut draft.invoked, &event) else {
+        drop(draft);
+        drop(event);
+        return Err(NoMemory);
+    };
+    let Ok(()) = draft.events.push(event) else {
+        drop(draft);
+        return Err(NoMemory);
+    };
     Ok(draft)
 }
