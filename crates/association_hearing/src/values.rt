@@ -10,7 +10,7 @@ ghost use Rattle.association_hearing.specs.ValuesTaken.{TookAs, Joined};
 
 use crate::apdus::hear_apdu;
 use crate::unread::hear_unread;
-use association_answers::{Brought, one_message, with_indication, with_nothing};
+use association_answers::{Brought, one_indication, one_message, with_indication, with_nothing};
 use association_calls::carrier_in;
 use association_ground::is_reliable;
 use association_sends::pair_copied;
@@ -50,12 +50,13 @@ fn hear_value(
 pub fn data_on(basis: &Ground<'_>, body: &Body, id: u32, apdu: Apdu) -> Result<Message, NoMemory>
     ensures { IfOk result (λ m. seen_message m ≡ data_on (seen body.now) id apdu) }
 {
+    let Ok(pair) = pair_copied(basis.alloc, body.sets.held.as_slice(), id) else {
+        drop(apdu);
+        return Err(NoMemory);
+    };
+    let content = ValueContent::Remote(apdu);
     let mut values: Values = ListOf::new(basis.alloc);
-    values.push(Value {
-        id,
-        pair: pair_copied(basis.alloc, body.sets.held.as_slice(), id)?,
-        content: ValueContent::Remote(apdu),
-    })?;
+    values.push(Value { id, pair, content })?;
     Ok(Message::Session(Word::OfData(DataWord::Values(values))))
 }
 
@@ -79,17 +80,17 @@ fn send_reject(
     ensures { IfOk result (TookAs (with_reject (base_in basis.now) (seen body.old) context (Some
         (record { id = id; problem = problem }))) (seen body.new)) }
 {
-    let apdu = Apdu::Reject { id, problem };
     if is_reliable(basis.config.mode) {
-        queue_apdu(body, context, apdu)?;
+        queue_apdu(body, context, Apdu::Reject { id, problem })?;
         return with_indication(basis.alloc, Indication::RejectSent { id, problem });
     }
     let Some(carrier) = carrier_in(basis, body, context) else {
         return Ok(with_nothing(basis.alloc));
     };
-    let mut taken = with_indication(basis.alloc, Indication::RejectSent { id, problem })?;
-    taken.answers = one_message(basis.alloc, data_on(basis, body, carrier, apdu)?)?;
-    Ok(taken)
+    let message = data_on(basis, body, carrier, Apdu::Reject { id, problem })?;
+    let answers = one_message(basis.alloc, message)?;
+    let shown = one_indication(basis.alloc, Indication::RejectSent { id, problem })?;
+    Ok(Brought { answers, shown })
 }
 
 /// What the user is told, or the reject that is sent.
