@@ -270,8 +270,8 @@ fn first_form_wrong(pdvs: &[Pdv]) -> Option<Wrong>
 fn unasked_value(basis: &ReadingGround<'_>, pdv: &Pdv) -> Result<Value, Halt>
     ensures { GivesAs seen_value result (reading.unasked_value pdv.now) }
 {
-    let content = acse_content(basis, pdv.content.octets().as_slice())?;
     let abstract_name = Oid::from_slice(basis.alloc, acse_name())?;
+    let content = acse_content(basis, pdv.content.octets().as_slice())?;
     Ok(Value {
         id: pdv.id,
         pair: Some(Pair {

@@ -6,7 +6,7 @@ ghost use Rattle.association_meaning.specs.declared.basis.Halt.TheVariants as ha
 use association_codecs::Codecs;
 use association_words::Fault;
 use dialogue::Config;
-use osi_base::{Layer, ListOf, NoMemory};
+use osi_base::{Layer, ListOf, NoMemory, PresentationWord};
 use std::alloc::Global;
 use std::error::Error;
 use std::fmt;
@@ -78,8 +78,9 @@ pub(crate) fn fault_at<T>(alloc: Global, layer: Layer, place: usize, reason: u8)
     }))
 }
 
-/// An invalid unit of the presentation (6), with no single field at fault.
-pub(crate) fn invalid_ppdu<T>(alloc: Global) -> Result<T, Halt>
+/// A unit that may not stand here, which is let go: an invalid unit of the presentation (6), with
+/// no single field at fault.
+pub(crate) fn misplaced<T>(alloc: Global, unit: PresentationWord) -> Result<T, Halt>
     ensures { result ≡ Err (halts.Faulty (record {
       layer = Layer.Presentation;
       place = 0;
@@ -87,5 +88,6 @@ pub(crate) fn invalid_ppdu<T>(alloc: Global) -> Result<T, Halt>
       told = [];
     })) }
 {
+    drop(unit);
     fault_at(alloc, Layer::Presentation, 0, 6)
 }

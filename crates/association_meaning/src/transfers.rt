@@ -16,7 +16,7 @@ use crate::layer_apdus::content_under;
 use association_reading::Carriage;
 use association_words::{Arrived, TransferItem, ValueContent};
 use fixed_tables::PduFault;
-use osi_base::{Copied, Layer, Pair, Pdv, SetItem, pair_of};
+use osi_base::{Copied, Layer, NoMemory, Pair, Pdv, SetItem, pair_of};
 use pdv_places::{PdvField, transfer_place};
 
 /// An invalid unit (6) at the place of a field of the value, counted in the octets of the transfer.
@@ -40,19 +40,30 @@ fn arrived_as(
         pair.now (Ok (seen_content content))) }
 {
     match content {
-        ValueContent::Remote(apdu) => Ok(Arrived::Whole(TransferItem {
-            id,
-            pair: pair.copy(basis.alloc)?,
-            apdu,
-        })),
+        ValueContent::Remote(apdu) => match pair.copy(basis.alloc) {
+            Ok(pair) => Ok(Arrived::Whole(TransferItem { id, pair, apdu })),
+            Err(NoMemory) => {
+                drop(apdu);
+                Err(Halt::NoMemory)
+            }
+        },
         ValueContent::Unread(octets) => Ok(Arrived::Raw {
             id,
             pair: pair.copy(basis.alloc)?,
             octets,
         }),
-        ValueContent::Association { .. } => fault_at(basis.alloc, Layer::Acse, 0, 0),
-        ValueContent::Plea { .. } => invalid_at(basis, octets, PdvField::Identifier),
-        ValueContent::Part(_) => invalid_at(basis, octets, PdvField::Identifier),
+        ValueContent::Association { .. } => {
+            drop(content);
+            fault_at(basis.alloc, Layer::Acse, 0, 0)
+        }
+        ValueContent::Plea { .. } => {
+            drop(content);
+            invalid_at(basis, octets, PdvField::Identifier)
+        }
+        ValueContent::Part(_) => {
+            drop(content);
+            invalid_at(basis, octets, PdvField::Identifier)
+        }
     }
 }
 

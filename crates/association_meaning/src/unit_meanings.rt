@@ -13,7 +13,7 @@ ghost use Rattle.association_meaning.specs.Steps as steps;
 ghost use Rattle.association_meaning.specs.Words as words;
 
 use crate::association::{abort_values, accept_values, connect_values, refuse_values};
-use crate::basis::{Halt, ReadingGround, fault_at, invalid_ppdu};
+use crate::basis::{Halt, ReadingGround, fault_at, misplaced};
 use crate::contexts::Carrier;
 use crate::values::values_under;
 use association_ground::is_reliable;
@@ -76,15 +76,15 @@ fn connect_in(basis: &ReadingGround<'_>, carrier: &Carrier<'_>) -> Result<Presen
     let unit = unit_in(basis, carrier)?;
     match unit {
         PresentationWord::Connect(presentation) => Ok(presentation),
-        PresentationWord::Accept(_) => invalid_ppdu(basis.alloc),
-        PresentationWord::Reject(_) => invalid_ppdu(basis.alloc),
-        PresentationWord::Alter { .. } => invalid_ppdu(basis.alloc),
-        PresentationWord::AlterAck { .. } => invalid_ppdu(basis.alloc),
-        PresentationWord::Resynchronize { .. } => invalid_ppdu(basis.alloc),
-        PresentationWord::ResynchronizeAck { .. } => invalid_ppdu(basis.alloc),
-        PresentationWord::UserAbort { .. } => invalid_ppdu(basis.alloc),
-        PresentationWord::ProviderAbort { .. } => invalid_ppdu(basis.alloc),
-        PresentationWord::Data { .. } => invalid_ppdu(basis.alloc),
+        PresentationWord::Accept(_) => misplaced(basis.alloc, unit),
+        PresentationWord::Reject(_) => misplaced(basis.alloc, unit),
+        PresentationWord::Alter { .. } => misplaced(basis.alloc, unit),
+        PresentationWord::AlterAck { .. } => misplaced(basis.alloc, unit),
+        PresentationWord::Resynchronize { .. } => misplaced(basis.alloc, unit),
+        PresentationWord::ResynchronizeAck { .. } => misplaced(basis.alloc, unit),
+        PresentationWord::UserAbort { .. } => misplaced(basis.alloc, unit),
+        PresentationWord::ProviderAbort { .. } => misplaced(basis.alloc, unit),
+        PresentationWord::Data { .. } => misplaced(basis.alloc, unit),
     }
 }
 
@@ -97,15 +97,15 @@ fn accept_in(basis: &ReadingGround<'_>, carrier: &Carrier<'_>) -> Result<Present
     let unit = unit_in(basis, carrier)?;
     match unit {
         PresentationWord::Accept(presentation) => Ok(presentation),
-        PresentationWord::Connect(_) => invalid_ppdu(basis.alloc),
-        PresentationWord::Reject(_) => invalid_ppdu(basis.alloc),
-        PresentationWord::Alter { .. } => invalid_ppdu(basis.alloc),
-        PresentationWord::AlterAck { .. } => invalid_ppdu(basis.alloc),
-        PresentationWord::Resynchronize { .. } => invalid_ppdu(basis.alloc),
-        PresentationWord::ResynchronizeAck { .. } => invalid_ppdu(basis.alloc),
-        PresentationWord::UserAbort { .. } => invalid_ppdu(basis.alloc),
-        PresentationWord::ProviderAbort { .. } => invalid_ppdu(basis.alloc),
-        PresentationWord::Data { .. } => invalid_ppdu(basis.alloc),
+        PresentationWord::Connect(_) => misplaced(basis.alloc, unit),
+        PresentationWord::Reject(_) => misplaced(basis.alloc, unit),
+        PresentationWord::Alter { .. } => misplaced(basis.alloc, unit),
+        PresentationWord::AlterAck { .. } => misplaced(basis.alloc, unit),
+        PresentationWord::Resynchronize { .. } => misplaced(basis.alloc, unit),
+        PresentationWord::ResynchronizeAck { .. } => misplaced(basis.alloc, unit),
+        PresentationWord::UserAbort { .. } => misplaced(basis.alloc, unit),
+        PresentationWord::ProviderAbort { .. } => misplaced(basis.alloc, unit),
+        PresentationWord::Data { .. } => misplaced(basis.alloc, unit),
     }
 }
 
@@ -118,15 +118,15 @@ fn reject_in(basis: &ReadingGround<'_>, carrier: &Carrier<'_>) -> Result<Present
     let unit = unit_in(basis, carrier)?;
     match unit {
         PresentationWord::Reject(presentation) => Ok(presentation),
-        PresentationWord::Connect(_) => invalid_ppdu(basis.alloc),
-        PresentationWord::Accept(_) => invalid_ppdu(basis.alloc),
-        PresentationWord::Alter { .. } => invalid_ppdu(basis.alloc),
-        PresentationWord::AlterAck { .. } => invalid_ppdu(basis.alloc),
-        PresentationWord::Resynchronize { .. } => invalid_ppdu(basis.alloc),
-        PresentationWord::ResynchronizeAck { .. } => invalid_ppdu(basis.alloc),
-        PresentationWord::UserAbort { .. } => invalid_ppdu(basis.alloc),
-        PresentationWord::ProviderAbort { .. } => invalid_ppdu(basis.alloc),
-        PresentationWord::Data { .. } => invalid_ppdu(basis.alloc),
+        PresentationWord::Connect(_) => misplaced(basis.alloc, unit),
+        PresentationWord::Accept(_) => misplaced(basis.alloc, unit),
+        PresentationWord::Alter { .. } => misplaced(basis.alloc, unit),
+        PresentationWord::AlterAck { .. } => misplaced(basis.alloc, unit),
+        PresentationWord::Resynchronize { .. } => misplaced(basis.alloc, unit),
+        PresentationWord::ResynchronizeAck { .. } => misplaced(basis.alloc, unit),
+        PresentationWord::UserAbort { .. } => misplaced(basis.alloc, unit),
+        PresentationWord::ProviderAbort { .. } => misplaced(basis.alloc, unit),
+        PresentationWord::Data { .. } => misplaced(basis.alloc, unit),
     }
 }
 
@@ -139,15 +139,15 @@ fn data_in(basis: &ReadingGround<'_>, carrier: &Carrier<'_>) -> Result<Pdvs, Hal
     let unit = unit_in(basis, carrier)?;
     match unit {
         PresentationWord::Data { user } => Ok(user),
-        PresentationWord::Connect(_) => invalid_ppdu(basis.alloc),
-        PresentationWord::Accept(_) => invalid_ppdu(basis.alloc),
-        PresentationWord::Reject(_) => invalid_ppdu(basis.alloc),
-        PresentationWord::Alter { .. } => invalid_ppdu(basis.alloc),
-        PresentationWord::AlterAck { .. } => invalid_ppdu(basis.alloc),
-        PresentationWord::Resynchronize { .. } => invalid_ppdu(basis.alloc),
-        PresentationWord::ResynchronizeAck { .. } => invalid_ppdu(basis.alloc),
-        PresentationWord::UserAbort { .. } => invalid_ppdu(basis.alloc),
-        PresentationWord::ProviderAbort { .. } => invalid_ppdu(basis.alloc),
+        PresentationWord::Connect(_) => misplaced(basis.alloc, unit),
+        PresentationWord::Accept(_) => misplaced(basis.alloc, unit),
+        PresentationWord::Reject(_) => misplaced(basis.alloc, unit),
+        PresentationWord::Alter { .. } => misplaced(basis.alloc, unit),
+        PresentationWord::AlterAck { .. } => misplaced(basis.alloc, unit),
+        PresentationWord::Resynchronize { .. } => misplaced(basis.alloc, unit),
+        PresentationWord::ResynchronizeAck { .. } => misplaced(basis.alloc, unit),
+        PresentationWord::UserAbort { .. } => misplaced(basis.alloc, unit),
+        PresentationWord::ProviderAbort { .. } => misplaced(basis.alloc, unit),
     }
 }
 
@@ -295,15 +295,18 @@ fn abort_in(
         PresentationWord::UserAbort { user, .. } => {
             user_abort(basis, accepted, carrier, user.as_slice())
         }
-        PresentationWord::ProviderAbort { reason, .. } => Ok(AbortData::ProviderReason { reason }),
-        PresentationWord::Connect(_) => invalid_ppdu(basis.alloc),
-        PresentationWord::Accept(_) => invalid_ppdu(basis.alloc),
-        PresentationWord::Reject(_) => invalid_ppdu(basis.alloc),
-        PresentationWord::Alter { .. } => invalid_ppdu(basis.alloc),
-        PresentationWord::AlterAck { .. } => invalid_ppdu(basis.alloc),
-        PresentationWord::Resynchronize { .. } => invalid_ppdu(basis.alloc),
-        PresentationWord::ResynchronizeAck { .. } => invalid_ppdu(basis.alloc),
-        PresentationWord::Data { .. } => invalid_ppdu(basis.alloc),
+        PresentationWord::ProviderAbort { reason, .. } => {
+            drop(unit);
+            Ok(AbortData::ProviderReason { reason })
+        }
+        PresentationWord::Connect(_) => misplaced(basis.alloc, unit),
+        PresentationWord::Accept(_) => misplaced(basis.alloc, unit),
+        PresentationWord::Reject(_) => misplaced(basis.alloc, unit),
+        PresentationWord::Alter { .. } => misplaced(basis.alloc, unit),
+        PresentationWord::AlterAck { .. } => misplaced(basis.alloc, unit),
+        PresentationWord::Resynchronize { .. } => misplaced(basis.alloc, unit),
+        PresentationWord::ResynchronizeAck { .. } => misplaced(basis.alloc, unit),
+        PresentationWord::Data { .. } => misplaced(basis.alloc, unit),
     }
 }
 
@@ -510,14 +513,14 @@ pub(crate) fn typed_meaning(
         PresentationWord::AlterAck { answers } => {
             Ok(Word::OfData(DataWord::AlterContextAck { answers }))
         }
-        PresentationWord::Connect(_) => invalid_ppdu(basis.alloc),
-        PresentationWord::Accept(_) => invalid_ppdu(basis.alloc),
-        PresentationWord::Reject(_) => invalid_ppdu(basis.alloc),
-        PresentationWord::Resynchronize { .. } => invalid_ppdu(basis.alloc),
-        PresentationWord::ResynchronizeAck { .. } => invalid_ppdu(basis.alloc),
-        PresentationWord::UserAbort { .. } => invalid_ppdu(basis.alloc),
-        PresentationWord::ProviderAbort { .. } => invalid_ppdu(basis.alloc),
-        PresentationWord::Data { .. } => invalid_ppdu(basis.alloc),
+        PresentationWord::Connect(_) => misplaced(basis.alloc, unit),
+        PresentationWord::Accept(_) => misplaced(basis.alloc, unit),
+        PresentationWord::Reject(_) => misplaced(basis.alloc, unit),
+        PresentationWord::Resynchronize { .. } => misplaced(basis.alloc, unit),
+        PresentationWord::ResynchronizeAck { .. } => misplaced(basis.alloc, unit),
+        PresentationWord::UserAbort { .. } => misplaced(basis.alloc, unit),
+        PresentationWord::ProviderAbort { .. } => misplaced(basis.alloc, unit),
+        PresentationWord::Data { .. } => misplaced(basis.alloc, unit),
     }
 }
 
@@ -542,15 +545,15 @@ fn restart_meaning(
             number,
             list: restored,
         })),
-        PresentationWord::Connect(_) => invalid_ppdu(basis.alloc),
-        PresentationWord::Accept(_) => invalid_ppdu(basis.alloc),
-        PresentationWord::Reject(_) => invalid_ppdu(basis.alloc),
-        PresentationWord::Alter { .. } => invalid_ppdu(basis.alloc),
-        PresentationWord::AlterAck { .. } => invalid_ppdu(basis.alloc),
-        PresentationWord::ResynchronizeAck { .. } => invalid_ppdu(basis.alloc),
-        PresentationWord::UserAbort { .. } => invalid_ppdu(basis.alloc),
-        PresentationWord::ProviderAbort { .. } => invalid_ppdu(basis.alloc),
-        PresentationWord::Data { .. } => invalid_ppdu(basis.alloc),
+        PresentationWord::Connect(_) => misplaced(basis.alloc, unit),
+        PresentationWord::Accept(_) => misplaced(basis.alloc, unit),
+        PresentationWord::Reject(_) => misplaced(basis.alloc, unit),
+        PresentationWord::Alter { .. } => misplaced(basis.alloc, unit),
+        PresentationWord::AlterAck { .. } => misplaced(basis.alloc, unit),
+        PresentationWord::ResynchronizeAck { .. } => misplaced(basis.alloc, unit),
+        PresentationWord::UserAbort { .. } => misplaced(basis.alloc, unit),
+        PresentationWord::ProviderAbort { .. } => misplaced(basis.alloc, unit),
+        PresentationWord::Data { .. } => misplaced(basis.alloc, unit),
     }
 }
 
@@ -594,15 +597,15 @@ fn restart_ack_meaning(
                 list: restored,
             }))
         }
-        PresentationWord::Connect(_) => invalid_ppdu(basis.alloc),
-        PresentationWord::Accept(_) => invalid_ppdu(basis.alloc),
-        PresentationWord::Reject(_) => invalid_ppdu(basis.alloc),
-        PresentationWord::Alter { .. } => invalid_ppdu(basis.alloc),
-        PresentationWord::AlterAck { .. } => invalid_ppdu(basis.alloc),
-        PresentationWord::Resynchronize { .. } => invalid_ppdu(basis.alloc),
-        PresentationWord::UserAbort { .. } => invalid_ppdu(basis.alloc),
-        PresentationWord::ProviderAbort { .. } => invalid_ppdu(basis.alloc),
-        PresentationWord::Data { .. } => invalid_ppdu(basis.alloc),
+        PresentationWord::Connect(_) => misplaced(basis.alloc, unit),
+        PresentationWord::Accept(_) => misplaced(basis.alloc, unit),
+        PresentationWord::Reject(_) => misplaced(basis.alloc, unit),
+        PresentationWord::Alter { .. } => misplaced(basis.alloc, unit),
+        PresentationWord::AlterAck { .. } => misplaced(basis.alloc, unit),
+        PresentationWord::Resynchronize { .. } => misplaced(basis.alloc, unit),
+        PresentationWord::UserAbort { .. } => misplaced(basis.alloc, unit),
+        PresentationWord::ProviderAbort { .. } => misplaced(basis.alloc, unit),
+        PresentationWord::Data { .. } => misplaced(basis.alloc, unit),
     }
 }
 

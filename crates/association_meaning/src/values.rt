@@ -37,11 +37,11 @@ fn value_by(
     ensures { GivesAs seen_value result (reading.value_by basis.now.tables.now carried
         (option_copied pair.entry) pdv.now) }
 {
+    let named = copied(basis.alloc, pair)?;
     let content = content_by(basis, carried, pair, pdv.content.octets().as_slice())?;
-    let pair = copied(basis.alloc, pair)?;
     Ok(Value {
         id: pdv.id,
-        pair,
+        pair: named,
         content,
     })
 }
