@@ -266,8 +266,8 @@ end B up
     ];
     for (shows, schedule, transcript) in rows {
         let (status, written) = replayed(rt.alloc(), schedule, [].as_slice())?;
-        assert_eq!(rt; status, Status::Done, "{shows}");
-        assert_eq!(rt; written.as_slice(), transcript.as_bytes(), "{shows}");
+        assert!(rt; status == Status::Done, "{shows}");
+        assert!(rt; written.as_slice() == transcript.as_bytes(), "{shows}");
     }
     Ok(())
 }
@@ -362,7 +362,7 @@ end B up
 fn resumes_an_interrupted_transfer(rt: HostRuntime) -> Result<(), Fail> {
     let schedule = interrupted(rt.alloc())?;
     let (status, written) = replayed(rt.alloc(), schedule.as_str(), ["--brief"].as_slice())?;
-    assert_eq!(rt; status, Status::Done);
-    assert_eq!(rt; written.as_slice(), INTERRUPTED_SUMMARY.as_bytes());
+    assert!(rt; status == Status::Done);
+    assert!(rt; written.as_slice() == INTERRUPTED_SUMMARY.as_bytes());
     Ok(())
 }

@@ -204,8 +204,8 @@ fn checks_modules(rt: HostRuntime) -> Result<(), Fail> {
     ];
     for (octets, more, expected, text) in rows {
         let (status, written) = checked(rt.alloc(), octets, more)?;
-        assert_eq!(rt; status, expected);
-        assert_eq!(rt; written.as_slice(), text);
+        assert!(rt; status == expected);
+        assert!(rt; written.as_slice() == text);
     }
     Ok(())
 }

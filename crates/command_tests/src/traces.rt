@@ -64,8 +64,8 @@ fn traces_recordings(rt: HostRuntime) -> Result<(), Fail> {
     ];
     for (recording, text) in rows {
         let (status, written) = traced(rt.alloc(), recording)?;
-        assert_eq!(rt; status, Status::Done);
-        assert_eq!(rt; written.as_slice(), text.as_bytes());
+        assert!(rt; status == Status::Done);
+        assert!(rt; written.as_slice() == text.as_bytes());
     }
     Ok(())
 }
@@ -73,11 +73,8 @@ fn traces_recordings(rt: HostRuntime) -> Result<(), Fail> {
 #[test]
 fn refuses_a_recording_with_an_odd_digit(rt: HostRuntime) -> Result<(), Fail> {
     let (status, written) = traced(rt.alloc(), "A>B 0\n")?;
-    assert_eq!(rt; status, Status::ScriptRefused);
-    assert_eq!(rt;
-        written.as_slice(),
-        b"script refused 1 BadField\n".as_slice()
-    );
+    assert!(rt; status == Status::ScriptRefused);
+    assert!(rt; written.as_slice() == b"script refused 1 BadField\n".as_slice());
     Ok(())
 }
 
@@ -183,8 +180,8 @@ fn traces_the_examples(rt: HostRuntime) -> Result<(), Fail> {
     ];
     for (recording, text) in rows {
         let (status, written) = traced_by(rt.alloc(), CALC_MODULE, recording)?;
-        assert_eq!(rt; status, Status::Done);
-        assert_eq!(rt; written.as_slice(), text.as_bytes());
+        assert!(rt; status == Status::Done);
+        assert!(rt; written.as_slice() == text.as_bytes());
     }
     Ok(())
 }
@@ -192,10 +189,7 @@ fn traces_the_examples(rt: HostRuntime) -> Result<(), Fail> {
 #[test]
 fn refuses_a_module_at_its_fault(rt: HostRuntime) -> Result<(), Fail> {
     let (status, written) = traced_by(rt.alloc(), "One\n", "")?;
-    assert_eq!(rt; status, Status::ModuleRefused);
-    assert_eq!(rt;
-        written.as_slice(),
-        b"module refused 2 1 UnexpectedToken\n".as_slice()
-    );
+    assert!(rt; status == Status::ModuleRefused);
+    assert!(rt; written.as_slice() == b"module refused 2 1 UnexpectedToken\n".as_slice());
     Ok(())
 }

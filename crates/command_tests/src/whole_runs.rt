@@ -163,8 +163,8 @@ end B up
     ];
     for (schedule, transcript) in rows {
         let (status, written) = replayed(rt.alloc(), schedule)?;
-        assert_eq!(rt; status, Status::Done);
-        assert_eq!(rt; written.as_slice(), transcript.as_bytes());
+        assert!(rt; status == Status::Done);
+        assert!(rt; written.as_slice() == transcript.as_bytes());
     }
     Ok(())
 }
@@ -209,8 +209,8 @@ fn writes_a_summary_in_brief(rt: HostRuntime) -> Result<(), Fail> {
     ];
     for (words, expected, text) in rows {
         let (status, written) = run(rt.alloc(), words)?;
-        assert_eq!(rt; status, expected);
-        assert_eq!(rt; written.as_slice(), text.as_bytes());
+        assert!(rt; status == expected);
+        assert!(rt; written.as_slice() == text.as_bytes());
     }
     Ok(())
 }
@@ -254,8 +254,8 @@ fn refuses_in_the_order_of_words_module_and_schedule(rt: HostRuntime) -> Result<
     ];
     for (words, expected, text) in rows {
         let (status, written) = run(rt.alloc(), words)?;
-        assert_eq!(rt; status, expected);
-        assert_eq!(rt; written.as_slice(), text.as_bytes());
+        assert!(rt; status == expected);
+        assert!(rt; written.as_slice() == text.as_bytes());
     }
     Ok(())
 }
@@ -267,8 +267,8 @@ fn tells_which_file_failed_to_be_read(rt: HostRuntime) -> Result<(), Fail> {
     for (number, text) in rows {
         let words = ["replay", "one", "bare"];
         let (status, written) = run_failing(alloc, words.as_slice(), vec![in alloc; number]?)?;
-        assert_eq!(rt; status, Status::ReadFault);
-        assert_eq!(rt; written.as_slice(), text.as_bytes());
+        assert!(rt; status == Status::ReadFault);
+        assert!(rt; written.as_slice() == text.as_bytes());
     }
     Ok(())
 }
@@ -291,8 +291,8 @@ fn ends_at_a_write_that_fails(rt: HostRuntime) -> Result<(), Fail> {
         let mut line = SureLine::new(alloc);
         let words = words(alloc, ["replay", "one", "bare"].as_slice())?;
         let status = osi_run(alloc, &words, &mut files, &mut out, &mut line);
-        assert_eq!(rt; status, expected);
-        assert_eq!(rt; out.written.as_slice(), text.as_bytes());
+        assert!(rt; status == expected);
+        assert!(rt; out.written.as_slice() == text.as_bytes());
     }
     Ok(())
 }

@@ -271,7 +271,7 @@ fn shown(alloc: Global, text: &[u8]) -> Result<String, AllocError> {
 fn calc_has_its_five_assignments(rt: HostRuntime) -> Result<(), Fail> {
     let found = shown(rt.alloc(), CALC)?;
     let wanted = format!(in rt.alloc(); "Ok({CALC_SHOWN})")?;
-    assert_eq!(rt; found.as_str(), wanted.as_str());
+    assert!(rt; found.as_str() == wanted.as_str());
     Ok(())
 }
 
@@ -279,7 +279,7 @@ fn calc_has_its_five_assignments(rt: HostRuntime) -> Result<(), Fail> {
 fn a_type_has_its_tag_size_and_parts(rt: HostRuntime) -> Result<(), Fail> {
     let found = shown(rt.alloc(), PARTS)?;
     let wanted = format!(in rt.alloc(); "Ok({PARTS_SHOWN})")?;
-    assert_eq!(rt; found.as_str(), wanted.as_str());
+    assert!(rt; found.as_str() == wanted.as_str());
     Ok(())
 }
 
@@ -287,7 +287,7 @@ fn a_type_has_its_tag_size_and_parts(rt: HostRuntime) -> Result<(), Fail> {
 fn parts_have_their_defaults(rt: HostRuntime) -> Result<(), Fail> {
     let found = shown(rt.alloc(), DEFAULTS)?;
     let wanted = format!(in rt.alloc(); "Ok({DEFAULTS_SHOWN})")?;
-    assert_eq!(rt; found.as_str(), wanted.as_str());
+    assert!(rt; found.as_str() == wanted.as_str());
     Ok(())
 }
 
@@ -317,7 +317,7 @@ fn each_token_has_its_place(rt: HostRuntime) -> Result<(), Fail> {
         Token { kind: Number, from: 12, to: 14, line: 2, column: 3 }, \
         Token { kind: Word, from: 15, to: 18, line: 2, column: 6 }, \
         Token { kind: Sign, from: 19, to: 22, line: 2, column: 10 }] })";
-    assert_eq!(rt; found.as_str(), wanted);
+    assert!(rt; found.as_str() == wanted);
     Ok(())
 }
 
@@ -327,7 +327,7 @@ fn cutting_stops_at_an_octet_that_begins_nothing(rt: HostRuntime) -> Result<(), 
     let wanted = "Ok(Lexed { tokens: ListOf { items: [\
         Token { kind: Word, from: 0, to: 1, line: 1, column: 1 }] }, \
         stop: Some(BadCharacter), place: Place { line: 2, column: 2 } })";
-    assert_eq!(rt; found.as_str(), wanted);
+    assert!(rt; found.as_str() == wanted);
     Ok(())
 }
 
