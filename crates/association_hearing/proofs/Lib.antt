@@ -1,3 +1,4 @@
+pub mod Codes
 pub mod HeadsHeard
 pub mod Invoked
 pub mod Resumed

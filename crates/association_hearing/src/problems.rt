@@ -4,7 +4,7 @@ ghost use Rattle.std.specs.Prelude.{◌≡◌, ◌+◌, Some, None, is_some, tru
 ghost use Rattle.stub_tables.specs.Lookup.{operation_at, error_at};
 ghost use Rattle.end_rules.specs.State.{opened_with};
 ghost use Rattle.end_rules.specs.Invoking.{is_linked_to, operation_of};
-ghost use Rattle.end_rules.specs.Hearing.{carried_in, is_silent_at, has_links, link_problem, argument_problem, operation_problem, invoke_problem, is_right_result, result_problem, is_place, known_error_problem, error_problem};
+ghost use Rattle.end_rules.specs.Hearing.{carried_in, is_silent_at, has_links, link_problem, argument_problem, operation_problem, invoke_problem, is_right_result, result_problem, known_error_problem, error_problem};
 ghost use Rattle.open_invocations.specs.Invocations.{is_link_back};
 ghost use Rattle.association_state.specs.Seen.{base_in};
 
@@ -111,17 +111,8 @@ pub(crate) fn invoke_problem(
     operation_problem(basis, calls, place, linked, argument)
 }
 
-/// Whether this is the place.
-fn is_place(found: Option<u32>, place: u32) -> bool
-    ensures { result ≡ is_place found place }
-{
-    match found {
-        None => false,
-        Some(found) => found == place,
-    }
-}
-
 /// Whether a result is right for the operation at this place.
+#[tactic(auto, using(crate::proofs::Codes::has_code_at))]
 fn is_right_result(
     basis: &Ground<'_>,
     place: u32,
@@ -129,14 +120,14 @@ fn is_right_result(
     code: &Option<Code>,
     value: &Option<Val>,
 ) -> bool
+    requires { operation_at basis.now.tables.now place ≡ Some operation.now }
     ensures { result ≡ is_right_result (base_in basis.now) place operation.now code.now
         (carried_in value.now) }
 {
     match code {
         None => operation.result.carries(&basis.tables.types, &None),
         Some(code) => {
-            is_place(basis.tables.operation_with(code), place)
-                && operation.result.carries(&basis.tables.types, value)
+            operation.code.is(code) && operation.result.carries(&basis.tables.types, value)
         }
     }
 }
