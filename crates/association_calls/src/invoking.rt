@@ -3,6 +3,7 @@
 ghost use Rattle.std.specs.Prelude.{◌≡◌, Some, None, true, IfOk, IfSome, length, ◌≤◌, ◌<◌};
 ghost use Rattle.std.specs.Option.{option_map};
 ghost use Rattle.end_rules.specs.Invoking.{is_stopped, is_queue_full, next_id, is_on_module, is_linked_to, linking_refusal, invoke_apdu, can_send_invoke, can_invoke_operation, can_invoke};
+ghost use Rattle.stub_tables.specs.Apdus.{operation_coded};
 ghost use Rattle.stub_tables.specs.Lookup.{operation_at};
 ghost use Rattle.stub_tables.specs.Codes.{is_silent};
 ghost use Rattle.open_invocations.specs.Invocations.{is_link};
@@ -108,7 +109,8 @@ fn room_refusal(basis: &Ground<'_>, body: &Body, operation: &Operation) -> Optio
     None
 }
 
-/// The APDU of the next invocation of an operation on a context of the module, linked as it may be.
+/// The APDU of the next invocation of an operation of the module on a context of it, linked as it
+/// may be. The operation says how its argument is used, so its code isn't looked up.
 fn check_send(
     basis: &Ground<'_>,
     body: &Body,
@@ -116,6 +118,7 @@ fn check_send(
     argument: &Option<Val>,
     linked: Option<i64>,
 ) -> Result<Apdu, CallRefusal>
+    requires { operation_coded basis.now.tables.now operation.now.code ≡ Some operation.now }
     ensures checked { IsChecked (can_send_invoke (base_in basis.now) (seen body.now) operation.now
         argument.now linked) (Some (next_id (seen body.now)))
         (Some (invoke_apdu operation.now (next_id (seen body.now)) linked argument.now)) result }
@@ -125,8 +128,7 @@ fn check_send(
         return Err(CallRefusal::NotTyped);
     }
     let apdu = invoke_apdu(basis.alloc, operation, next_id(body), linked, argument)?;
-    let used = basis.tables.use_in(&apdu);
-    if is_too_long_with(basis.tables, used, &apdu) {
+    if is_too_long_with(basis.tables, Some(operation.argument), &apdu) {
         drop(apdu);
         return Err(CallRefusal::TooLong);
     }
@@ -140,6 +142,7 @@ fn check_send(
 }
 
 /// The APDU of the next invocation, or why it may not be made.
+#[tactic(auto, using(crate::proofs::Uses::own_operation))]
 pub fn check_invoke(
     basis: &Ground<'_>,
     body: &Body,

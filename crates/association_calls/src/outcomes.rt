@@ -2,6 +2,7 @@
 
 ghost use Rattle.std.specs.Prelude.{◌≡◌, Some, None, is_some};
 ghost use Rattle.std.specs.Option.{option_copied, option_map};
+ghost use Rattle.stub_tables.specs.Apdus.{operation_coded, error_coded, use_in};
 ghost use Rattle.stub_tables.specs.Lookup.{operation_at, error_at};
 ghost use Rattle.end_rules.specs.State.{OpenCall, opened_with};
 ghost use Rattle.end_rules.specs.Invoking.{carrier_in, lacks_carrier, operation_of, result_apdu, error_apdu, can_send_outcome, can_answer_open, can_answer, can_refuse_with, can_refuse_open, can_refuse};
@@ -19,7 +20,7 @@ use association_sets::carrier;
 use association_state::{Body, Ground};
 use dialogue::CallRefusal;
 use rose_roles::{error_apdu, result_apdu};
-use stub_tables::{Apdu, ErrorRow, Operation};
+use stub_tables::{Apdu, ErrorRow, Operation, Use};
 
 /// The context on which what belongs to a context travels.
 pub fn carrier_in(basis: &Ground<'_>, body: &Body, context: u32) -> Option<u32>
@@ -40,13 +41,15 @@ fn lacks_carrier(basis: &Ground<'_>, body: &Body, context: u32) -> bool
     is_direct(basis.config.mode) && carrier_in(basis, body, context).is_none()
 }
 
-/// An outcome for a context, or why it may not be sent.
+/// An outcome for a context whose value is used so, or why it may not be sent.
 fn check_outcome(
     basis: &Ground<'_>,
     body: &Body,
     context: u32,
+    used: Option<Use>,
     apdu: Apdu,
 ) -> Result<Apdu, CallRefusal>
+    requires { used ≡ use_in basis.now.tables.now apdu }
     ensures { IsChecked (can_send_on (base_in basis.now) (seen body.now) context apdu) None
         (Some apdu) result }
 {
@@ -54,7 +57,6 @@ fn check_outcome(
         drop(apdu);
         return Err(CallRefusal::NoContext);
     }
-    let used = basis.tables.use_in(&apdu);
     if is_too_long_with(basis.tables, used, &apdu) {
         drop(apdu);
         return Err(CallRefusal::TooLong);
@@ -66,7 +68,19 @@ fn check_outcome(
     Ok(apdu)
 }
 
-/// The result of an operation that was invoked on a context, or why it may not be sent.
+/// How the value that a result of an operation returns is used, if it returns one.
+fn result_use(operation: &Operation, value: &Option<Val>) -> Option<Use>
+    ensures { result ≡ option_map (λ _. operation.now.result) value.now }
+{
+    match value {
+        None => None,
+        Some(_) => Some(operation.result),
+    }
+}
+
+/// The result of an operation of the module that was invoked on a context, or why it may not be
+/// sent. The operation says how the value is used, so its code isn't looked up.
+#[tactic(auto, using(crate::proofs::Uses::result_used))]
 fn check_result(
     basis: &Ground<'_>,
     body: &Body,
@@ -75,6 +89,7 @@ fn check_result(
     operation: &Operation,
     value: &Option<Val>,
 ) -> Result<Apdu, CallRefusal>
+    requires { operation_coded basis.now.tables.now operation.now.code ≡ Some operation.now }
     ensures { (o : OpenCall) → o.context ≡ context →
         IsChecked (can_answer_open (base_in basis.now) (seen body.now) id.now (Some o)
         (Some operation.now) value.now) None (Some (result_apdu operation.now id.now value.now))
@@ -87,10 +102,12 @@ fn check_result(
         return Err(CallRefusal::NotTyped);
     }
     let apdu = result_apdu(basis.alloc, operation, id, value)?;
-    check_outcome(basis, body, context, apdu)
+    let used = result_use(operation, value);
+    check_outcome(basis, body, context, used, apdu)
 }
 
 /// The result of an open invocation of the peer, or why it may not be sent.
+#[tactic(auto, using(crate::proofs::Uses::own_operation))]
 pub fn check_answer(
     basis: &Ground<'_>,
     body: &Body,
@@ -112,7 +129,8 @@ pub fn check_answer(
     check_result(basis, body, called.context, id, operation, value)
 }
 
-/// An error of an operation that was invoked on a context, or why it may not be sent.
+/// An error of the module for an operation that was invoked on a context, or why it may not be
+/// sent. The error says how its parameter is used, so its code isn't looked up.
 fn check_error(
     basis: &Ground<'_>,
     body: &Body,
@@ -121,6 +139,7 @@ fn check_error(
     error: &ErrorRow,
     parameter: &Option<Val>,
 ) -> Result<Apdu, CallRefusal>
+    requires { error_coded basis.now.tables.now error.now.code ≡ Some error.now }
     ensures { (o : OpenCall) → o.context ≡ context →
         IsChecked (can_refuse_with (base_in basis.now) (seen body.now) id.now o error.now
         parameter.now) None (Some (error_apdu error.now id.now parameter.now)) result }
@@ -129,10 +148,11 @@ fn check_error(
         return Err(CallRefusal::NotTyped);
     }
     let apdu = error_apdu(basis.alloc, error, id, parameter)?;
-    check_outcome(basis, body, context, apdu)
+    check_outcome(basis, body, context, Some(error.parameter), apdu)
 }
 
 /// The error of an open invocation of the peer, or why it may not be sent.
+#[tactic(auto, using(crate::proofs::Uses::own_error))]
 pub fn check_refuse(
     basis: &Ground<'_>,
     body: &Body,
