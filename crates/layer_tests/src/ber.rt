@@ -67,10 +67,11 @@ const TABLE: [Row; 13] = [
 /// Octets of a type: what they are read as in BER and in DER, and how their value is written.
 type Sample = (u32, &'static [u8], Outcome, Outcome, &'static [u8]);
 
-/// Each row follows from the section of X.690 that is named above it, and its place from counting
-/// octets.
+/// Each row follows from the sections of X.690 that are named above it or above the first of its
+/// kind, and its place from counting octets.
 const ROWS: [Sample; 38] = [
     // 8.3.2: a number has no more octets than it needs; 8.1.3.5, 10.1: DER's length neither.
+    // 5 in two octets
     (
         INTEGER,
         &[2, 2, 0, 5],
@@ -78,6 +79,7 @@ const ROWS: [Sample; 38] = [
         At(2, Kind::Content),
         &[],
     ),
+    // 133, which needs two
     (
         INTEGER,
         &[2, 2, 0, 0x85],
@@ -85,7 +87,9 @@ const ROWS: [Sample; 38] = [
         Used(4),
         &[2, 2, 0, 0x85],
     ),
+    // a length of 2, and one octet
     (INTEGER, &[2, 2, 0], Short, Short, &[]),
+    // 5 behind a length in the long form
     (
         INTEGER,
         &[2, 0x81, 1, 5],
@@ -93,8 +97,9 @@ const ROWS: [Sample; 38] = [
         At(1, Kind::Form),
         &[2, 1, 5],
     ),
-    // 8.6.2.3, 11.2.1: unused bits may have any values, in DER they are zeros; so too inside a value
-    // and in segments (8.6.4).
+    // 8.6.2.3, 11.2.1: unused bits may have any values, in DER they are zeros; so too inside a
+    // value and in segments (8.6.4).
+    // four bits with unused ones that aren't zeros
     (
         BITS,
         &[3, 2, 4, 0x5F],
@@ -102,6 +107,7 @@ const ROWS: [Sample; 38] = [
         At(2, Kind::Form),
         &[3, 2, 4, 0x50],
     ),
+    // two segments, of which the second has such bits
     (
         BITS,
         &[0x23, 8, 3, 2, 0, 0xAA, 3, 2, 4, 0x5F],
@@ -109,6 +115,7 @@ const ROWS: [Sample; 38] = [
         At(0, Kind::Form),
         &[3, 3, 4, 0xAA, 0x50],
     ),
+    // such a string as an item
     (
         BIT_LISTS,
         &[0x30, 4, 3, 2, 4, 0x5F],
@@ -116,6 +123,7 @@ const ROWS: [Sample; 38] = [
         At(4, Kind::Form),
         &[0x30, 4, 3, 2, 4, 0x50],
     ),
+    // two such items: DER's fault is in the first
     (
         BIT_LISTS,
         &[0x30, 8, 3, 2, 1, 0xFF, 3, 2, 7, 0xFF],
@@ -124,6 +132,7 @@ const ROWS: [Sample; 38] = [
         &[0x30, 8, 3, 2, 1, 0xFE, 3, 2, 7, 0x80],
     ),
     // 8.7.3, 10.2: segments up to end-of-contents (8.1.5), one in DER.
+    // two segments of one octet
     (
         OCTETS,
         &[0x24, 0x80, 4, 1, 0x0A, 4, 1, 0x0B, 0, 0],
@@ -131,6 +140,7 @@ const ROWS: [Sample; 38] = [
         At(0, Kind::Form),
         &[4, 2, 0x0A, 0x0B],
     ),
+    // a segment without its end-of-contents
     (
         OCTETS,
         &[0x24, 0x80, 4, 1, 0x0A, 0],
@@ -138,8 +148,11 @@ const ROWS: [Sample; 38] = [
         At(0, Kind::Form),
         &[],
     ),
+    // two zeros as contents, which end nothing
     (OCTETS, &[4, 2, 0, 0], Used(4), Used(4), &[4, 2, 0, 0]),
+    // a length of 262,144, so that the last octets pass the limit of a value
     (OCTETS, &[4, 0x83, 4, 0, 0], TooLong(1), TooLong(1), &[]),
+    // an IA5String of one segment, which is an OCTET STRING
     (
         IA5,
         &[0x36, 5, 4, 3, 0x61, 0x62, 0x63],
@@ -148,6 +161,7 @@ const ROWS: [Sample; 38] = [
         &[0x16, 3, 0x61, 0x62, 0x63],
     ),
     // 8.11, 10.3: the parts of a SET in any order, in DER by rising tag; 8.2.2, 11.1: TRUE.
+    // the number in front of the truth value, which is TRUE as 5
     (
         SET,
         &[0x31, 6, 2, 1, 7, 1, 1, 5],
@@ -155,6 +169,7 @@ const ROWS: [Sample; 38] = [
         At(5, Kind::Form),
         &[0x31, 6, 1, 1, 0xFF, 2, 1, 7],
     ),
+    // the truth value in front, and an octet behind the value
     (
         SET,
         &[0x31, 6, 1, 1, 0xFF, 2, 1, 7, 9],
@@ -162,6 +177,7 @@ const ROWS: [Sample; 38] = [
         Used(8),
         &[0x31, 6, 1, 1, 0xFF, 2, 1, 7],
     ),
+    // an indefinite length, which DER hasn't
     (
         SET,
         &[0x31, 0x80, 2, 1, 7, 1, 1, 5, 0, 0],
@@ -169,6 +185,7 @@ const ROWS: [Sample; 38] = [
         At(1, Kind::Form),
         &[0x31, 6, 1, 1, 0xFF, 2, 1, 7],
     ),
+    // a part twice
     (
         SET,
         &[0x31, 6, 2, 1, 7, 2, 1, 8],
@@ -176,6 +193,7 @@ const ROWS: [Sample; 38] = [
         At(5, Kind::Extra),
         &[],
     ),
+    // a tag that no part has
     (
         SET,
         &[0x31, 6, 2, 1, 7, 5, 1, 0],
@@ -183,6 +201,7 @@ const ROWS: [Sample; 38] = [
         At(5, Kind::Extra),
         &[],
     ),
+    // the tag of a part, constructed, where it is a primitive: BOOLEAN
     (
         SET,
         &[0x31, 6, 2, 1, 7, 0x21, 1, 5],
@@ -190,6 +209,7 @@ const ROWS: [Sample; 38] = [
         At(5, Kind::Tag),
         &[],
     ),
+    // the same: INTEGER, which came already
     (
         SET,
         &[0x31, 6, 2, 1, 7, 0x22, 1, 5],
@@ -197,6 +217,7 @@ const ROWS: [Sample; 38] = [
         At(5, Kind::Tag),
         &[],
     ),
+    // the same where the other part may be absent
     (
         FLAGGED,
         &[0x31, 6, 2, 1, 7, 0x22, 1, 5],
@@ -204,6 +225,7 @@ const ROWS: [Sample; 38] = [
         At(5, Kind::Tag),
         &[],
     ),
+    // no second part
     (
         SET,
         &[0x31, 3, 2, 1, 7],
@@ -211,8 +233,10 @@ const ROWS: [Sample; 38] = [
         At(5, Kind::Missing),
         &[],
     ),
+    // the first octet of a second part, whose tag falls in DER
     (SET, &[0x31, 6, 2, 1, 7, 1], Short, At(5, Kind::Form), &[]),
     // 8.1.1 to 8.1.5: any one whole value.
+    // a SEQUENCE of indefinite length
     (
         ANY,
         &[0x30, 0x80, 2, 1, 5, 0, 0],
@@ -220,6 +244,7 @@ const ROWS: [Sample; 38] = [
         Used(7),
         &[0x30, 0x80, 2, 1, 5, 0, 0],
     ),
+    // an empty SET and a string of two zeros inside one, and an octet behind it
     (
         ANY,
         &[0x30, 0x80, 0x31, 0x80, 0, 0, 4, 2, 0, 0, 0, 0, 9],
@@ -227,7 +252,9 @@ const ROWS: [Sample; 38] = [
         Used(12),
         &[0x30, 0x80, 0x31, 0x80, 0, 0, 4, 2, 0, 0, 0, 0],
     ),
+    // the first octet of an end-of-contents
     (ANY, &[0x30, 0x80, 0], Short, Short, &[]),
+    // the tag 0 with a length of 5, which is no end-of-contents
     (
         ANY,
         &[0x30, 0x80, 0, 5, 0],
@@ -235,6 +262,7 @@ const ROWS: [Sample; 38] = [
         At(2, Kind::Tag),
         &[],
     ),
+    // a primitive of indefinite length
     (
         ANY,
         &[4, 0x80, 0, 0],
@@ -243,6 +271,7 @@ const ROWS: [Sample; 38] = [
         &[],
     ),
     // 11.5, and X.680 25.9: a default's value stands for the absent part, in DER it isn't spelled.
+    // b lacks: it is 7
     (
         COUNTED,
         &[0x30, 3, 2, 1, 5],
@@ -250,6 +279,7 @@ const ROWS: [Sample; 38] = [
         Used(5),
         &[0x30, 3, 2, 1, 5],
     ),
+    // b is 7, and stands
     (
         COUNTED,
         &[0x30, 6, 2, 1, 5, 2, 1, 7],
@@ -257,6 +287,7 @@ const ROWS: [Sample; 38] = [
         At(7, Kind::Form),
         &[0x30, 3, 2, 1, 5],
     ),
+    // b is 8
     (
         COUNTED,
         &[0x30, 6, 2, 1, 5, 2, 1, 8],
@@ -264,6 +295,7 @@ const ROWS: [Sample; 38] = [
         Used(8),
         &[0x30, 6, 2, 1, 5, 2, 1, 8],
     ),
+    // b stands twice
     (
         COUNTED,
         &[0x30, 9, 2, 1, 5, 2, 1, 7, 2, 1, 7],
@@ -271,6 +303,7 @@ const ROWS: [Sample; 38] = [
         At(7, Kind::Form),
         &[],
     ),
+    // c, which is 7, and an element behind it inside its tag
     (
         TAGGED,
         &[0x30, 7, 0xA1, 5, 2, 1, 7, 5, 0],
@@ -278,6 +311,7 @@ const ROWS: [Sample; 38] = [
         At(6, Kind::Form),
         &[],
     ),
+    // c is 7, inside its tag
     (
         TAGGED,
         &[0x30, 5, 0xA1, 3, 2, 1, 7],
@@ -285,6 +319,7 @@ const ROWS: [Sample; 38] = [
         At(6, Kind::Form),
         &[0x30, 0],
     ),
+    // d is TRUE as 5
     (
         SWITCHED,
         &[0x31, 3, 1, 1, 5],
@@ -292,6 +327,7 @@ const ROWS: [Sample; 38] = [
         At(4, Kind::Form),
         &[0x31, 0],
     ),
+    // d is TRUE
     (
         SWITCHED,
         &[0x31, 3, 1, 1, 0xFF],
@@ -299,6 +335,7 @@ const ROWS: [Sample; 38] = [
         At(4, Kind::Form),
         &[0x31, 0],
     ),
+    // d is FALSE
     (
         SWITCHED,
         &[0x31, 3, 1, 1, 0],
@@ -306,6 +343,7 @@ const ROWS: [Sample; 38] = [
         Used(5),
         &[0x31, 3, 1, 1, 0],
     ),
+    // d stands twice, as TRUE first
     (
         SWITCHED,
         &[0x31, 6, 1, 1, 5, 1, 1, 0],
@@ -426,20 +464,26 @@ fn refusal_of(rt: &impl Abort, alloc: Global, members: &[Member]) -> Option<RowR
 /// Parts, and why a SEQUENCE of them is no row, if it is none: a default is of a BOOLEAN, an
 /// INTEGER or an ENUMERATED, and not of an optional part, and no two parts have one name.
 const REFUSED: [(&'static [Member], Option<RowRefusal>); 6] = [
+    // a BOOLEAN's default, FALSE
     (&[("a", BOOLEAN, false, Some(0))], None),
+    // 2, which is no truth value
     (
         &[("a", BOOLEAN, false, Some(2))],
         Some(RowRefusal::BadDefault),
     ),
+    // an INTEGER's, -1
     (&[("a", NUMBER, false, Some(-1))], None),
+    // the same of a part that may be absent
     (
         &[("a", NUMBER, true, Some(-1))],
         Some(RowRefusal::BadDefault),
     ),
+    // a default of an OCTET STRING
     (
         &[("a", OCTETS, false, Some(0))],
         Some(RowRefusal::BadDefault),
     ),
+    // two parts with one name
     (
         &[("a", INTEGER, false, None), ("a", BOOLEAN, false, None)],
         Some(RowRefusal::DoubleName),
@@ -458,15 +502,25 @@ type Limited = (u32, &'static [u8], u32, Outcome);
 
 /// Too long are octets once one lies past the limit, or a complete length announces that one does.
 const LIMITED: [Limited; 10] = [
+    // a segment that ends at the limit, without an end-of-contents
     (OCTETS, &[0x24, 0x80, 4, 1, 7], 5, Short),
+    // the first octet of its end-of-contents, past the limit
     (OCTETS, &[0x24, 0x80, 4, 1, 7, 0], 5, TooLong(5)),
+    // the same, within a limit of one more
     (OCTETS, &[0x24, 0x80, 4, 1, 7, 0], 6, Short),
+    // both octets, of which the second lies past it: the end-of-contents
     (OCTETS, &[0x24, 0x80, 4, 1, 7, 0, 0], 6, TooLong(5)),
+    // the first octet of a length in the long form, at the limit
     (INTEGER, &[2, 0x82], 2, Short),
+    // its second octet, past it: the length
     (INTEGER, &[2, 0x82, 0], 2, TooLong(1)),
+    // a complete length that announces an octet past it
     (INTEGER, &[2, 1], 2, TooLong(1)),
+    // the first octet of a long identifier, at the limit
     (ANY, &[0x1F], 1, Short),
+    // its second octet, past it: the identifier
     (ANY, &[0x1F, 0x81], 1, TooLong(0)),
+    // a part's identifier at the end of the contents and at the limit: its length passes both
     (SET, &[0x31, 1, 1], 3, TooLong(3)),
 ];
 

@@ -1,4 +1,4 @@
-//! Values written into a room, and octet for octet as the standard spells them.
+//! Values written into a room, and octet for octet as the standard spells them (X.690 8.6.2).
 
 use crate::tables::{Row, table};
 use ber_codec::{Node, TypeId, Val, ber_len, ber_octets, ber_write};

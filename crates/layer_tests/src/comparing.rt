@@ -1,5 +1,7 @@
 //! The order of DER spellings that is told of values is that of their octets: all pairs of many
-//! values of a type are compared both ways.
+//! values of a type are compared both ways. What is expected is computed from the octets that are
+//! written of both: what is told and what is written agree. That the octets are right is shown by
+//! the rows of `ber` and `sets_of`.
 
 use crate::tables::{Member, Row, table};
 use ber_codec::{Node, TypeId, TypeTable, Val, Vals, ber_octets, fits, is_less};

@@ -1,5 +1,6 @@
-//! Octets of worked dialogues: an invocation, openings, marks, a release; and headers that are
-//! faulty and packets as large as may be, laid out by RFC 1006 6 and X.224 13.
+//! Octets of worked dialogues: an invocation, openings, marks, a release; and units that end a
+//! connection or tell an error, headers that are faulty and packets as large as may be, laid out by
+//! hand by RFC 1006 6 and X.224 13. Places are counted in the octets.
 
 use osi_base::{Kind, Octets};
 use std::alloc::Global;
@@ -16,7 +17,8 @@ const INVOCATION: &'static [u8] = &[
     0x01, 0x05, 0xA0, 0x0B, 0xA1, 0x09, 0x02, 0x01, 0x01, 0x02, 0x01, 0x01, 0x02, 0x01, 0x05,
 ];
 
-/// Packets of one DT each.
+/// Packets of one DT each, as worked dialogues have them; the last, without octets, is a worked
+/// example by itself.
 const PARTS: [&[u8]; 16] = [
     // an invocation
     &[
@@ -99,7 +101,7 @@ const PARTS: [&[u8]; 16] = [
     &[0x03, 0x00, 0x00, 0x07, 0x02, 0xF0, 0x80],
 ];
 
-/// A connection request with size 0A and the selectors 00 01.
+/// A connection request of worked dialogues, with size 0A and the selectors 00 01.
 const REQUEST: &'static [u8] = &[
     0x03, 0x00, 0x00, 0x16, 0x11, 0xE0, 0x00, 0x00, 0x00, 0x01, 0x00, 0xC0, 0x01, 0x0A, 0xC1, 0x02,
     0x00, 0x01, 0xC2, 0x02, 0x00, 0x01,
@@ -110,27 +112,37 @@ const CONFIRM: &'static [u8] = &[
     0x03, 0x00, 0x00, 0x0E, 0x09, 0xD0, 0x00, 0x01, 0x00, 0x02, 0x00, 0xC0, 0x01, 0x0A,
 ];
 
-/// A disconnect request, and a unit that tells an error.
+/// A disconnect request, laid out by X.224 13.5: the references 1 and 0, and the reason 0.
 const DISCONNECT: &'static [u8] = &[
     0x03, 0x00, 0x00, 0x0B, 0x06, 0x80, 0x00, 0x01, 0x00, 0x00, 0x00,
 ];
 
+/// A unit that tells an error, laid out by X.224 13.12: the reference 1 and the cause 0.
 const PROBLEM: &'static [u8] = &[0x03, 0x00, 0x00, 0x09, 0x04, 0x70, 0x00, 0x01, 0x00];
 
 /// Streams, and the place and the kind of the fault of each.
 const FAULTY: [(&'static [u8], u64, Kind); 9] = [
+    // a packet's length of 6, where header and unit have 7 at least
     (&[3, 0, 0, 6], 2, Kind::Length),
+    // a second octet that isn't 00: the version
     (&[3, 1], 0, Kind::Tag),
+    // a header's length of 3 in a packet with room for 2
     (&[3, 0, 0, 7, 3], 4, Kind::Length),
+    // a unit of the code F1
     (&[3, 0, 0, 7, 2, 0xF1], 5, Kind::Tag),
+    // a DT whose header has a length of 1
     (&[3, 0, 0, 7, 1, 0xF0], 4, Kind::Length),
+    // a DT whose mark is neither 00 nor 80
     (&[3, 0, 0, 7, 2, 0xF0, 1], 6, Kind::Content),
+    // a connection request of class octet 01
     (&[3, 0, 0, 11, 6, 0xE0, 0, 0, 0, 1, 1], 10, Kind::Content),
+    // a size in two octets, where it has one: its parameter
     (
         &[3, 0, 0, 15, 10, 0xE0, 0, 0, 0, 1, 0, 0xC0, 2, 9, 9],
         11,
         Kind::Content,
     ),
+    // a parameter of which its code alone is there
     (
         &[3, 0, 0, 12, 7, 0xE0, 0, 0, 0, 1, 0, 0xC5],
         11,
@@ -318,6 +330,7 @@ fn faulty_headers(rt: HostRuntime) {
     }
 }
 
+/// 65,535 octets: 7 of the header and 65,528 of data.
 #[test]
 fn largest_packet(rt: HostRuntime) {
     let mut reader = TReader::new(rt.alloc());
@@ -326,6 +339,7 @@ fn largest_packet(rt: HostRuntime) {
     assert!(rt; gives(&rt, &mut reader, &octets, &octets));
 }
 
+/// 130 octets in DTs of at most 128, of which three are the header's: 125 and 5.
 #[test]
 fn cut_into_parts_of_128(rt: HostRuntime) {
     let tsdu = vec![in rt.alloc(); 7u8; 130].expect(&rt, "memory");
@@ -341,6 +355,8 @@ fn is_kept(rt: &impl Abort, reader: &mut TReader, head: &[u8], octets: &[u8]) ->
     gives_nothing(rt, reader, head) && gives_nothing(rt, reader, octets)
 }
 
+/// 16 packets of 65,528 octets of data and one of 128 make 1,048,576. One octet more is told at the
+/// code of its DT, behind 16 times 65,535 octets, 135 and five.
 #[test]
 fn longest_tsdu(rt: HostRuntime) {
     let mut reader = TReader::new(rt.alloc());

@@ -1,5 +1,7 @@
-//! Worked rows of SET OF (X.690 11.6): read in any order in BER, in rising order in DER and the
-//! packed syntax.
+//! Worked rows of SET OF: read in any order in BER, in rising order in DER and the packed syntax.
+//! Their octets are laid out by hand, by X.690 8.3, 8.7, 8.11 and 8.12, and those of the packed
+//! syntax by its own rules; the order is that of X.690 11.6: octets tell by the first that differs,
+//! the identifier's, then those of the length and the contents. A place is counted in its row.
 
 use crate::tables::{Row, table};
 use ber_codec::{Node, ReadFault, TypeId, TypeTable, Val, ber_octets, ber_read, der_read, fits};
@@ -35,66 +37,78 @@ const TABLE: [Row; 7] = [
     Row::SetOf(NUMBERS),
 ];
 
-/// Octets of a type, the place of a fault of kind Form in DER if there is one, and how they are
-/// written.
+/// Octets of a type, the place of a fault of kind Form in DER if there is one, which is the first
+/// item that is less than the one before it, and how they are written.
 type Sample = (u32, &'static [u8], Option<usize>, &'static [u8]);
 
 const ROWS: [Sample; 11] = [
+    // 3 in front of 1
     (
         NUMBERS,
         &[0x31, 6, 2, 1, 3, 2, 1, 1],
         Some(5),
         &[0x31, 6, 2, 1, 1, 2, 1, 3],
     ),
+    // 256 in front of -1, whose length is less: 02 01 FF and 02 02 01 00
     (
         NUMBERS,
         &[0x31, 7, 2, 2, 1, 0, 2, 1, 0xFF],
         Some(6),
         &[0x31, 7, 2, 1, 0xFF, 2, 2, 1, 0],
     ),
+    // the same two, in rising order
     (
         NUMBERS,
         &[0x31, 7, 2, 1, 0xFF, 2, 2, 1, 0],
         None,
         &[0x31, 7, 2, 1, 0xFF, 2, 2, 1, 0],
     ),
+    // a number twice, which no order forbids
     (
         NUMBERS,
         &[0x31, 6, 2, 1, 5, 2, 1, 5],
         None,
         &[0x31, 6, 2, 1, 5, 2, 1, 5],
     ),
+    // no items
     (NUMBERS, &[0x31, 0], None, &[0x31, 0]),
+    // four numbers, of which the second and the fourth are less than those before them: the second
+    // is told
     (
         NUMBERS,
         &[0x31, 12, 2, 1, 4, 2, 1, 2, 2, 1, 3, 2, 1, 1],
         Some(5),
         &[0x31, 12, 2, 1, 1, 2, 1, 2, 2, 1, 3, 2, 1, 4],
     ),
+    // two zeros in front of one octet 1: the lengths tell, 04 02 and 04 01
     (
         TEXTS,
         &[0x31, 7, 4, 2, 0, 0, 4, 1, 1],
         Some(6),
         &[0x31, 7, 4, 1, 1, 4, 2, 0, 0],
     ),
+    // a set of two parts in front of one of one: the lengths tell, 31 05 and 31 03
     (
         PAIRS,
         &[0x31, 12, 0x31, 5, 2, 1, 1, 4, 0, 0x31, 3, 2, 1, 9],
         Some(9),
         &[0x31, 12, 0x31, 3, 2, 1, 9, 0x31, 5, 2, 1, 1, 4, 0],
     ),
+    // two sets of one length: the tags of their parts tell, 04 and 02
     (
         PAIRS,
         &[0x31, 10, 0x31, 3, 4, 1, 1, 0x31, 3, 2, 1, 9],
         Some(7),
         &[0x31, 10, 0x31, 3, 2, 1, 9, 0x31, 3, 4, 1, 1],
     ),
+    // a set of numbers that fall inside, which is told before that the next set is less
     (
         SETS,
         &[0x31, 13, 0x31, 6, 2, 1, 5, 2, 1, 2, 0x31, 3, 2, 1, 7],
         Some(7),
         &[0x31, 13, 0x31, 3, 2, 1, 7, 0x31, 6, 2, 1, 2, 2, 1, 5],
     ),
+    // the same with rising numbers inside: the second set is less
     (
         SETS,
         &[0x31, 13, 0x31, 6, 2, 1, 2, 2, 1, 5, 0x31, 3, 2, 1, 7],
@@ -181,9 +195,13 @@ fn is_fitting(rt: &impl Abort, alloc: Global, table: &TypeTable, items: &[i64]) 
 
 /// Items, and whether they fit.
 const FITTING: [(&[i64], bool); 4] = [
+    // rising numbers, one of them twice
     (&[1, 3, 3, 256], true),
+    // -1 and 256, by their lengths
     (&[-1, 256], true),
+    // the same two the other way round
     (&[256, -1], false),
+    // falling numbers
     (&[3, 1], false),
 ];
 
@@ -207,6 +225,7 @@ fn packed_fault(
     packed_read(alloc, table, TypeId(NUMBERS), octets).err()
 }
 
+/// A count of 2 in four octets, and each number behind its size; the octet behind them stays.
 #[test]
 fn the_packed_syntax_has_them_rising(rt: HostRuntime) {
     let alloc = rt.alloc();
@@ -219,6 +238,7 @@ fn the_packed_syntax_has_them_rising(rt: HostRuntime) {
     assert!(rt; room == [0, 0, 0, 2, 1, 1, 1, 3, 0xAA]);
 }
 
+/// The same octets, and those with 3 in front of 1: at fault is the 1, behind 6 octets.
 #[test]
 fn the_packed_syntax_is_read_rising(rt: HostRuntime) {
     let alloc = rt.alloc();
@@ -264,7 +284,8 @@ fn long_strings(rt: &impl Abort, alloc: Global) -> Val {
     }
 }
 
-/// Items of many octets, which differ late, in the octets of a long string.
+/// Items of many octets, which differ late, in the octets of a long string: the last of 300, which
+/// is 7 and 9, and then 7 and 6, so that the second string is written in front.
 #[test]
 fn long_items_are_compared_to_their_ends(rt: HostRuntime) {
     let alloc = rt.alloc();
