@@ -1,7 +1,8 @@
 //! APDUs of association control: each is read and written back, with fields that are passed over
-//! left out, and each fault stands where it should. Their octets are laid out by X.227 9, in the
-//! basic encoding (X.690 8), and the APDUs of reliable transfer in user information by X.228 9. The
-//! place of a fault is counted in the octets of its row.
+//! left out, and each fault stands where it should. Rows that are told to be by hand, and all rows
+//! with fields that are passed over or with faults, are laid out field by field by X.227 9, in the
+//! basic encoding (X.690 8), and the APDUs of reliable transfer in user information by X.228 9; the
+//! others are those of worked dialogues. The place of a fault is counted in the octets of its row.
 
 use acse::{AcseFault, read_acse, write_acse};
 use osi_base::{Acse, Diagnostic, External, Kind, NoMemory};
@@ -73,7 +74,7 @@ fn associations_are_read_and_written(rt: HostRuntime) -> Result<(), Fail> {
         "60 08 A1 06 06 04 88 37 05 03",
         // response
         "61 14 A1 06 06 04 88 37 05 03 A2 03 02 01 00 A3 05 A1 03 02 01 00",
-        // refusal
+        // refusal, by hand
         "61 14 A1 06 06 04 88 37 05 03 A2 03 02 01 01 A3 05 A1 03 02 01 01",
     ];
     assert!(rt; are_written(rt.alloc(), &rows)?);
@@ -89,7 +90,7 @@ fn associations_of_reliable_transfer_are_read_and_written(rt: HostRuntime) -> Re
         "60 22 A1 06 06 04 88 37 05 04 BE 18 28 16 02 01 03 A0 11 B0 0F 80 01 01 81 01 02 82 01 01 A3 04 A0 02 05 00",
         // response of reliable transfer
         "61 2B A1 06 06 04 88 37 05 04 A2 03 02 01 00 A3 05 A1 03 02 01 00 BE 15 28 13 02 01 03 A0 0E B1 0C 80 01 01 81 01 02 A2 04 A0 02 05 00",
-        // refusal of reliable transfer
+        // refusal of reliable transfer, by hand
         "61 22 A1 06 06 04 88 37 05 04 A2 03 02 01 01 A3 05 A1 03 02 01 01 BE 0C 28 0A 02 01 03 A0 05 B2 03 80 01 02",
         // response of a recovery
         "61 3E A1 06 06 04 88 37 05 04 A2 03 02 01 00 A3 05 A1 03 02 01 00 BE 28 28 26 02 01 03 A0 21 B1 1F 80 01 01 81 01 02 A2 17 A1 15 04 04 72 65 66 31 17 0D 32 36 30 31 30 31 30 30 30 30 30 30 5A",
@@ -110,9 +111,9 @@ fn releases_and_aborts_are_read_and_written(rt: HostRuntime) -> Result<(), Fail>
         "63 03 80 01 00",
         // abort
         "64 03 80 01 00",
-        // abort by association control
+        // abort by association control, by hand
         "64 03 80 01 01",
-        // abort of reliable transfer
+        // abort of reliable transfer, by hand
         "64 11 80 01 00 BE 0C 28 0A 02 01 03 A0 05 B6 03 80 01 04",
     ];
     assert!(rt; are_written(rt.alloc(), &rows)?);
@@ -122,19 +123,20 @@ fn releases_and_aborts_are_read_and_written(rt: HostRuntime) -> Result<(), Fail>
 #[test]
 fn what_is_passed_over_is_left_out(rt: HostRuntime) -> Result<(), Fail> {
     let rows = [
-        // a request with titles
+        // a request with a title in front of the context name, and with two fields behind it, of
+        // which the first has an indefinite length
         (
             "60 16 A2 03 06 01 2A A1 06 06 04 88 37 05 03 A6 80 06 01 2A 00 00 BD 00",
             "60 08 A1 06 06 04 88 37 05 03",
         ),
-        // a response with titles
+        // a response with its version and, in front of the result, an empty title
         (
             "61 19 80 01 00 A1 06 06 04 88 37 05 03 A4 00 A2 03 02 01 00 A3 05 A1 03 02 01 00",
             "61 14 A1 06 06 04 88 37 05 03 A2 03 02 01 00 A3 05 A1 03 02 01 00",
         ),
-        // a release with user information
+        // a release with empty user information in front of its reason
         ("62 05 BE 00 80 01 00", "62 03 80 01 00"),
-        // a release without its reason
+        // a release without its reason, which is 0 then
         ("62 00", "62 03 80 01 00"),
     ];
     assert!(rt; are_written_so(rt.alloc(), &rows)?);
@@ -146,17 +148,17 @@ fn first_faults_of_apdus(rt: HostRuntime) -> Result<(), Fail> {
     let rows = [
         // no octet
         ("", 0, Kind::Missing),
-        // another tag
+        // a tag that no APDU has
         ("65 00", 0, Kind::Tag),
-        // no context name
+        // a title whose contents are an identifier without its length, and no context name
         ("60 03 A2 01 05", 5, Kind::Missing),
-        // a result of 3
+        // a result of 3, where 2 is the greatest
         (
             "61 14 A1 06 06 04 88 37 05 03 A2 03 02 01 03 A3 05 A1 03 02 01 00",
             14,
             Kind::Content,
         ),
-        // a context name behind user information
+        // a context name behind user information, in front of which it is looked for
         ("60 0A BE 00 A1 06 06 04 88 37 05 03", 2, Kind::Missing),
     ];
     assert!(rt; are_refused(rt.alloc(), &rows)?);
@@ -172,13 +174,13 @@ fn faults_behind_known_fields(rt: HostRuntime) -> Result<(), Fail> {
             10,
             Kind::Extra,
         ),
-        // a title of another length
+        // a title of 127 octets, which goes past the end
         ("60 0A A2 7F A1 06 06 04 88 37 05 03", 3, Kind::Length),
-        // a tag of another class
+        // a field behind the context name whose tag is of another class
         ("60 0A A1 06 06 04 88 37 05 03 05 00", 10, Kind::Extra),
-        // a source of 2
+        // a source of 2, where 1 is the greatest
         ("64 03 80 01 02", 4, Kind::Content),
-        // octets that follow
+        // an octet behind the APDU
         ("62 00 00", 2, Kind::Extra),
     ];
     assert!(rt; are_refused(rt.alloc(), &rows)?);
@@ -239,11 +241,11 @@ fn refuses(apdu: &Acse) -> bool {
 
 #[test]
 fn associations_say_their_fields(rt: HostRuntime) -> Result<(), Fail> {
-    // request of reliable transfer
+    // request of reliable transfer: an EXTERNAL on context 3 with 17 octets
     let request =
         "60 22 A1 06 06 04 88 37 05 04 BE 18 28 16 02 01 03 A0 11 B0 0F 80 01 01 81 01 02 82 01 01 A3 04 A0 02 05 00";
     assert!(rt; is_apdu(rt.alloc(), request, asks)?);
-    // refusal
+    // refusal, by hand: by the user, with no reason given
     let refusal = "61 14 A1 06 06 04 88 37 05 03 A2 03 02 01 01 A3 05 A1 03 02 01 01";
     assert!(rt; is_apdu(rt.alloc(), refusal, refuses)?);
     Ok(())
@@ -275,10 +277,10 @@ fn is_abort(alloc: Global, text: &str, by: u8, count: usize) -> Result<bool, NoM
 
 #[test]
 fn releases_and_aborts_say_their_fields(rt: HostRuntime) -> Result<(), Fail> {
-    // a release without its reason, and one with another
+    // a release without its reason, which is 0 then, and by hand one with the reason 30
     assert!(rt; is_release(rt.alloc(), "62 00", 0)?);
     assert!(rt; is_release(rt.alloc(), "62 03 80 01 1E", 30)?);
-    // aborts by the user, by association control and by reliable transfer
+    // aborts by the user, and by hand by association control and by reliable transfer
     assert!(rt; is_abort(rt.alloc(), "64 03 80 01 00", 0, 0)?);
     assert!(rt; is_abort(rt.alloc(), "64 03 80 01 01", 1, 0)?);
     let text = "64 11 80 01 00 BE 0C 28 0A 02 01 03 A0 05 B6 03 80 01 04";

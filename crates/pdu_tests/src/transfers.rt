@@ -1,7 +1,9 @@
-//! APDUs of reliable transfer: each is read and written back, and says its fields. Their octets are
-//! laid out by X.228 9, in the basic encoding (X.690 8). The place of a fault is counted in the
-//! octets of its row. The lengths of a transfer and of its first part are those of a worked one,
-//! whose invocation stores 2,975 octets and whose checkpoint is 1.
+//! APDUs of reliable transfer: each is read and written back, and says its fields. Openings and
+//! recoveries with their acceptances and the plea for the turn are those of worked dialogues; rows
+//! that are told to be by hand, and all rows with defaults or with faults, are laid out field by
+//! field by X.228 9, in the basic encoding (X.690 8). The place of a fault is counted in the octets
+//! of its row. The lengths of a transfer and of its first part are those of a worked one, whose
+//! invocation stores 2,975 octets and whose checkpoint is 1.
 
 use fixed_tables::PduFault;
 use osi_base::{ConnectionData, Kind, NoMemory, Octets, Pdv, PdvContent, Rtse};
@@ -75,15 +77,15 @@ fn openings_are_read_and_written(rt: HostRuntime) -> Result<(), Fail> {
         "B0 0F 80 01 01 81 01 02 82 01 01 A3 04 A0 02 05 00",
         // its acceptance
         "B1 0C 80 01 01 81 01 02 A2 04 A0 02 05 00",
-        // its refusal
+        // its refusal, by hand
         "B2 03 80 01 02",
-        // an abort
+        // an abort, by hand
         "B6 03 80 01 04",
         // a plea for the turn
         "02 01 03",
-        // one of the highest priority
+        // one of the highest priority number, 4,294,967,295, by hand
         "02 05 00 FF FF FF FF",
-        // a part of a transfer
+        // a part of a transfer, by hand: two octets
         "04 02 A1 09",
     ];
     assert!(rt; are_written(rt.alloc(), &rows)?);
@@ -106,17 +108,18 @@ fn a_recovery_is_read_and_written(rt: HostRuntime) -> Result<(), Fail> {
 #[test]
 fn defaults_are_written(rt: HostRuntime) -> Result<(), Fail> {
     let rows = [
-        // an opening without checkpoint, window and mode, whose defaults are those of X.228 9
+        // an opening without checkpoint, window and mode, whose defaults are those of X.228 9: 0, 3
+        // and 0
         (
             "B0 06 A3 04 A0 02 05 00",
             "B0 0F 80 01 00 81 01 03 82 01 00 A3 04 A0 02 05 00",
         ),
-        // an acceptance without checkpoint and window
+        // an acceptance without checkpoint and window: 0 and 3
         (
             "B1 06 A2 04 A0 02 05 00",
             "B1 0C 80 01 00 81 01 03 A2 04 A0 02 05 00",
         ),
-        // fields of a SET in another order
+        // fields of a SET in another order, written in that of their tags
         (
             "B0 0F A3 04 A0 02 05 00 82 01 01 81 01 02 80 01 01",
             "B0 0F 80 01 01 81 01 02 82 01 01 A3 04 A0 02 05 00",
@@ -143,17 +146,17 @@ fn first_faults_of_transfers(rt: HostRuntime) -> Result<(), Fail> {
         ),
         // no reason
         ("B2 00", 2, Kind::Missing),
-        // a second field behind the reason
+        // a field behind the reason
         ("B6 06 80 01 04 81 01 00", 5, Kind::Extra),
-        // a recovery without its common reference
+        // a recovery with NULL where its common reference should stand
         (
             "B0 0C A3 0A A1 08 04 04 72 65 66 31 05 00",
             12,
             Kind::Missing,
         ),
-        // octets that follow
+        // an octet behind the APDU
         ("02 01 03 00", 3, Kind::Extra),
-        // too few octets
+        // a refusal that ends behind the first octet of its reason
         ("B2 03 80", 3, Kind::Missing),
     ];
     assert!(rt; are_refused(rt.alloc(), &rows)?);
@@ -203,10 +206,10 @@ fn recovers(apdu: &Rtse) -> bool {
 
 #[test]
 fn openings_say_their_fields(rt: HostRuntime) -> Result<(), Fail> {
-    // an opening, with another dialogue mode
+    // an opening, by hand: with the dialogue mode 3
     let opening = "B0 0F 80 01 01 81 01 02 82 01 03 A3 04 A0 02 05 00";
     assert!(rt; is_apdu(rt.alloc(), opening, opens)?);
-    // the acceptance of a recovery
+    // the acceptance of a recovery, with both references
     let acceptance =
         "B1 1F 80 01 01 81 01 02 A2 17 A1 15 04 04 72 65 66 31 17 0D 32 36 30 31 30 31 30 30 30 30 30 30 5A";
     assert!(rt; is_apdu(rt.alloc(), acceptance, recovers)?);
@@ -255,6 +258,7 @@ fn transfer_is_read(alloc: Global) -> Result<bool, NoMemory> {
     Ok(is_stored(alloc, octets.as_slice()))
 }
 
+/// The invocation has 14 octets in front of the 2,975, and the transfer 11 in front of it.
 #[test]
 fn a_transfer_has_3000_octets(rt: HostRuntime) -> Result<(), Fail> {
     let front = "30 82 0B B4 02 01 05 A0 82 0B AD A1 82 0B A9";
@@ -272,6 +276,7 @@ fn part_begins(alloc: Global, front: &[u8]) -> Result<bool, NoMemory> {
     Ok(value.len() == front.len() + 1_024 && value.as_slice().starts_with(front))
 }
 
+/// A tag, and a length in three octets.
 #[test]
 fn the_first_part_has_1028_octets(rt: HostRuntime) -> Result<(), Fail> {
     assert!(rt; part_begins(rt.alloc(), &[0x04, 0x82, 0x04, 0x00])?);
@@ -289,7 +294,7 @@ fn is_no_transfer(alloc: Global, text: &str, fault: PduFault) -> Result<bool, No
 
 #[test]
 fn what_is_no_transfer_is_refused(rt: HostRuntime) -> Result<(), Fail> {
-    // two values one after the other
+    // a value on context 5, by hand, and an empty one behind it
     let twice = "30 08 02 01 05 A0 03 02 01 05 30 00";
     let fault = PduFault::At {
         place: 10,
