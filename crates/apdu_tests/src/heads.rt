@@ -1,6 +1,7 @@
 //! Heads of APDUs, and rejects. The octets of invocations and of rejects are those of worked
-//! dialogues; which problem octets have that are no head follows from X.880 9.4.2, in the packed
-//! syntax too, which is this project's own.
+//! dialogues. The others are laid out by hand, by X.882 9 in the basic encoding (X.690 8) or by the
+//! rules of the packed syntax, which is this project's own; which problem they have follows from
+//! X.880 9.4.2 in each syntax: unrecognized is 0, mistyped 1 and badly structured 2.
 
 use apdu_codec::{ApduHead, ApduKind, HeadFault, read_apdu, write_apdu};
 use asn1_types::TypeTable;
@@ -21,6 +22,7 @@ fn invokes(head: &ApduHead, octets: &[u8]) -> bool {
         && rest
 }
 
+/// An invocation of the operation 1 with the argument 5, in BER, in DER and packed.
 #[test]
 fn an_invocation_is_read(rt: HostRuntime) -> Result<(), Fail> {
     let ber = [0xA1, 9, 2, 1, 1, 2, 1, 1, 2, 1, 5];
@@ -31,6 +33,7 @@ fn an_invocation_is_read(rt: HostRuntime) -> Result<(), Fail> {
     Ok(())
 }
 
+/// An invocation of the operation 3 with the argument 7, linked to the invocation 1.
 #[test]
 fn a_link_is_read(rt: HostRuntime) -> Result<(), Fail> {
     let octets = [0xA1, 0x0C, 2, 1, 1, 0x80, 1, 1, 2, 1, 3, 2, 1, 7];
@@ -50,18 +53,25 @@ fn is_refused(alloc: Global, syntax: Syntax, octets: &[u8], fault: HeadFault) ->
 #[test]
 fn what_is_no_head_is_refused(rt: HostRuntime) {
     let packed = [1, 1, 1, 0, 0, 1, 1, 1, 1, 5];
+    // a packed invocation, in BER
     assert!(rt; is_refused(rt.alloc(), Syntax::Ber, &packed, HeadFault::General(0)));
+    // the tag of a fifth alternative
     assert!(rt; is_refused(rt.alloc(), Syntax::Ber, &[0xA5, 0], HeadFault::General(0)));
+    // a reject without its fields
     assert!(rt; is_refused(rt.alloc(), Syntax::Ber, &[0xA4, 0], HeadFault::BadReject));
+    // no octet
     assert!(rt; is_refused(rt.alloc(), Syntax::Ber, &[], HeadFault::General(2)));
+    // an error with an octet behind it
     let twice = [0xA3, 6, 2, 1, 1, 2, 1, 7, 0];
     assert!(rt; is_refused(rt.alloc(), Syntax::Ber, &twice, HeadFault::General(1)));
 }
 
 #[test]
 fn what_has_no_form_of_der_is_refused(rt: HostRuntime) {
+    // an error of indefinite length
     let marked = [0xA3, 0x80, 2, 1, 1, 2, 1, 7, 0, 0];
     assert!(rt; is_refused(rt.alloc(), Syntax::Der, &marked, HeadFault::General(2)));
+    // a packed error whose mark of a parameter is 2
     assert!(rt;
         is_refused(
             rt.alloc(),
@@ -98,8 +108,10 @@ fn reject(
 
 #[test]
 fn rejects_are_written(rt: HostRuntime) -> Result<(), Fail> {
+    // a reject of no invocation, of a general problem
     let none = reject(rt.alloc(), Syntax::Ber, None, ProblemKind::General, 0)?;
     assert!(rt; none.as_slice() == [0xA4, 5, 5, 0, 0x80, 1, 0].as_slice());
+    // one of the invocation 1, of a problem of its result; and the same packed
     let result = reject(rt.alloc(), Syntax::Der, Some(1), ProblemKind::Result, 0)?;
     assert!(rt; result.as_slice() == [0xA4, 6, 2, 1, 1, 0x82, 1, 0].as_slice());
     let packed = reject(rt.alloc(), Syntax::Packed, Some(1), ProblemKind::Result, 0)?;
