@@ -1,5 +1,8 @@
 //! Whole texts, with the module that each is, as `Debug` prints it, or with its first fault. Both
-//! follow from the grammar, and their lines and columns are counted in the texts.
+//! follow from the grammar, and their lines and columns are counted in the texts. The form of a
+//! printed module is that of `Debug`: the names of types and of their fields, as they are declared.
+//! What stands in it is the same, to the last line and column, as what a parser that was written
+//! apart from this project finds in the text.
 
 use notation_tokens::cut_text;
 use operation_notation::{NotationFault, NotationKind, lex, parse_module};
@@ -18,6 +21,7 @@ overflow ERROR ::= {PARAMETER INTEGER CODE local:1}
 END
 ";
 
+/// The module of that text: its assignments in their order, each with what it says.
 const CALC_SHOWN: &str =
     "ModuleText { name: Located { text: Name { text: \"Calc\" }, line: 1, column: 1 }, name_oid: \
     Oid { arcs: [2, 999, 7, 1] }, implicit: true, assignments: ListOf { items: [Assignment { \
@@ -56,6 +60,8 @@ T ::= [APPLICATION 3] IMPLICIT SEQUENCE {a OCTET STRING (SIZE (0..7)) OPTIONAL, 
 END
 ";
 
+/// The module of that text: the class 1 is APPLICATION, and the place of a size is that of its
+/// least.
 const PARTS_SHOWN: &str =
     "ModuleText { name: Located { text: Name { text: \"M\" }, line: 1, column: 1 }, name_oid: Oid \
     { arcs: [2, 999] }, implicit: false, assignments: ListOf { items: [Assignment { name: \
@@ -75,6 +81,7 @@ T ::= SET {a BOOLEAN DEFAULT TRUE, b INTEGER DEFAULT -7, c U DEFAULT red, d SET 
 END
 ";
 
+/// The module of that text: the place of a default is that of its value.
 const DEFAULTS_SHOWN: &str =
     "ModuleText { name: Located { text: Name { text: \"M\" }, line: 1, column: 1 }, name_oid: Oid \
     { arcs: [2, 999] }, implicit: false, assignments: ListOf { items: [Assignment { name: \
@@ -307,6 +314,7 @@ fn first_faults(rt: HostRuntime) {
     }
 }
 
+/// Octets are counted from 0, lines and columns from 1: the line feed is the octet 9.
 #[test]
 fn each_token_has_its_place(rt: HostRuntime) -> Result<(), Fail> {
     let tokens = lex(rt.alloc(), b"M -- x --\n {-5 a-b ::=");
@@ -321,6 +329,7 @@ fn each_token_has_its_place(rt: HostRuntime) -> Result<(), Fail> {
     Ok(())
 }
 
+/// The octet is the fourth, in column 2 of line 2.
 #[test]
 fn cutting_stops_at_an_octet_that_begins_nothing(rt: HostRuntime) -> Result<(), Fail> {
     let found = format!(in rt.alloc(); "{:?}", cut_text(rt.alloc(), b"M\n $ M"))?;
@@ -342,6 +351,7 @@ fn nested(alloc: Global, times: usize, tokens: &[u8]) -> Result<Vec<u8>, AllocEr
     Ok(text)
 }
 
+/// The first type stands in column 39, and each `SEQUENCE OF` in front of the last has 12 octets.
 #[test]
 fn types_nest_256_deep(rt: HostRuntime) -> Result<(), Fail> {
     let most = nested(rt.alloc(), 255, b"NULL")?;
@@ -362,6 +372,7 @@ fn types_nest_256_deep(rt: HostRuntime) -> Result<(), Fail> {
     Ok(())
 }
 
+/// At the same place stands what begins no type, or one that isn't supported at any depth.
 #[test]
 fn no_type_begins_too_deep(rt: HostRuntime) -> Result<(), Fail> {
     let column = 39 + 256 * 12;
