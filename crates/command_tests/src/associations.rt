@@ -272,8 +272,8 @@ end B up
     Ok(())
 }
 
-/// A schedule in which the transfer of a value of 1,100 octets is interrupted, resumed and confirmed,
-/// and the connection breaks behind it and is recovered.
+/// A schedule in which the transfer of a value of 1,100 octets is interrupted, resumed and
+/// confirmed, and the connection breaks behind it and is recovered.
 fn interrupted(alloc: Global) -> Result<String, AllocError> {
     let mut digits = String::new(alloc);
     for _ in 0..1100 {
@@ -343,8 +343,9 @@ A resume
     )
 }
 
-/// What the model gave as the transcript of that schedule, summed up: how many events it has, octets
-/// each way, values taken, transfers and refused calls, and in which phases the ends are left.
+/// What the model gave as the transcript of that schedule, summed up: how many events it has,
+/// octets each way, values taken, transfers and refused calls, and in which phases the ends are
+/// left.
 const INTERRUPTED_SUMMARY: &str = "events 55
 octets A>B 2902
 octets B>A 404

@@ -89,6 +89,7 @@ fn checked(alloc: Global, octets: &[u8], more: &[&str]) -> Result<(Status, Octet
     Ok((status, out.written))
 }
 
+/// What is listed of the module with four operations and an error.
 const CALC_LISTING: &str = "operation add local:1 argument yes result yes errors 1 linked 1
 operation store local:2 argument yes result yes errors 0 linked 0
 operation ask local:3 argument yes result yes errors 0 linked 0
@@ -97,12 +98,14 @@ error overflow local:1 parameter yes
 checked 4 operations 1 errors
 ";
 
+/// Two operations with one code.
 const DOUBLE_CODE: &str = "M {2 999 7 2} DEFINITIONS ::= BEGIN
 a OPERATION ::= {CODE local:1}
 b OPERATION ::= {CODE local:1}
 END
 ";
 
+/// A module without assignments.
 const EMPTY: &str = "E {2 999 7 3} DEFINITIONS ::= BEGIN END\n";
 
 #[test]

@@ -1,4 +1,5 @@
-//! Tests of the commands of `osi_tool`: whole runs, from words and files to an output.
+//! Tests of the commands of `osi_tool`: whole runs, from words and files to an output. Each module
+//! says where its rows come from.
 #![tactic(auto)]
 
 #[cfg(test)]

@@ -70,6 +70,7 @@ fn traces_recordings(rt: HostRuntime) -> Result<(), Fail> {
     Ok(())
 }
 
+/// A field of one digit in line 1.
 #[test]
 fn refuses_a_recording_with_an_odd_digit(rt: HostRuntime) -> Result<(), Fail> {
     let (status, written) = traced(rt.alloc(), "A>B 0\n")?;
@@ -186,6 +187,7 @@ fn traces_the_examples(rt: HostRuntime) -> Result<(), Fail> {
     Ok(())
 }
 
+/// The text ends behind its first word and a line feed: the place is the front of line 2.
 #[test]
 fn refuses_a_module_at_its_fault(rt: HostRuntime) -> Result<(), Fail> {
     let (status, written) = traced_by(rt.alloc(), "One\n", "")?;

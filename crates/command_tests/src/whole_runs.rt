@@ -1,5 +1,7 @@
 //! What no clause says: whole runs with ample memory, and the texts of the refusing statuses. The
-//! octets of the transcripts are those of worked invocations, results and rejects.
+//! octets of the transcripts are those of worked invocations and results; the lines around them
+//! follow from the events of their schedules, one after the other. Lines and columns of faults are
+//! counted in the texts, and the numbers of failing calls in the calls that a run makes.
 
 use osi_base::{
     FailingCalls, ListOf, MemFile, MemFiles, MemSink, Name, NoMemory, Octets, Status, SureLine,
@@ -85,6 +87,7 @@ fn replayed(alloc: Global, schedule: &str) -> Result<(Status, Octets), NoMemory>
 #[test]
 fn replays_schedules(rt: HostRuntime) -> Result<(), Fail> {
     let rows = [
+        // an addition and its result
         (
             "mode bare\nA invoke 0 add 5\ncarry A all\nB answer 1 5\ncarry B all\n",
             "mode bare
@@ -102,6 +105,7 @@ end A up
 end B up
 ",
         ),
+        // an addition that is carried in two pieces, of 10 octets and of one
         (
             "mode bare\nA invoke 0 add 5\ncarry A 10\ncarry A all\n",
             "mode bare
@@ -116,6 +120,7 @@ end A up
 end B up
 ",
         ),
+        // an addition of 200 and its result -129, which have two octets each
         (
             "mode bare\nA invoke 0 add 200\ncarry A all\nB answer 1 -129\ncarry B all\n",
             "mode bare
@@ -151,6 +156,7 @@ end A up
 end B up
 ",
         ),
+        // an answer to no invocation, which is refused: nothing is sent
         (
             "mode bare\nB answer 1 5\n",
             "mode bare
@@ -169,6 +175,7 @@ end B up
     Ok(())
 }
 
+/// The summary of a schedule without events.
 const EMPTY_SUMMARY: &str = "events 0
 octets A>B 0
 octets B>A 0
@@ -185,26 +192,31 @@ end B up
 #[test]
 fn writes_a_summary_in_brief(rt: HostRuntime) -> Result<(), Fail> {
     let rows: [(&[&str], Status, &str); 5] = [
+        // the flag behind the names: a schedule without events
         (
             &["replay", "one", "bare", "--brief"],
             Status::Done,
             EMPTY_SUMMARY,
         ),
+        // the flag in front, and `--`, which ends the flags
         (
             &["replay", "--brief", "--", "one", "bare"],
             Status::Done,
             EMPTY_SUMMARY,
         ),
+        // the flag twice
         (
             &["replay", "--brief", "one", "bare", "--brief"],
             Status::Usage,
             USAGE,
         ),
+        // behind `--` a word is a name: of a schedule that isn't there
         (
             &["replay", "one", "--", "--brief"],
             Status::ReadFault,
             "cannot read --brief\n",
         ),
+        // the flag with another command
         (&["trace", "one", "bare", "--brief"], Status::Usage, USAGE),
     ];
     for (words, expected, text) in rows {
@@ -215,37 +227,49 @@ fn writes_a_summary_in_brief(rt: HostRuntime) -> Result<(), Fail> {
     Ok(())
 }
 
+/// The text for words that are no command.
 const USAGE: &str =
     "usage: osi_tool check MODULE [--table] | replay MODULE SCHEDULE [--brief] | replay --made N | call MODULE SCRIPT | serve MODULE BOOK CONNECTIONS | trace MODULE FILE\n";
 
 #[test]
 fn refuses_in_the_order_of_words_module_and_schedule(rt: HostRuntime) -> Result<(), Fail> {
     let rows: [(&[&str], Status, &str); 10] = [
+        // no word
         (&[], Status::Usage, USAGE),
+        // no schedule
         (&["replay", "one"], Status::Usage, USAGE),
+        // a further word
         (&["replay", "one", "bare", "more"], Status::Usage, USAGE),
+        // an unknown command
         (&["relay", "one", "bare"], Status::Usage, USAGE),
+        // one name behind the end of the flags
         (&["replay", "--", "bare"], Status::Usage, USAGE),
+        // neither file is there
         (
             &["replay", "gone", "gone"],
             Status::ReadFault,
             "cannot read gone\n",
         ),
+        // a text that ends behind one word, and no schedule: the module is refused first, at the
+        // front of line 2, where its text ends
         (
             &["replay", "other", "gone"],
             Status::ModuleRefused,
             "module refused 2 1 UnexpectedToken\n",
         ),
+        // no schedule of this name
         (
             &["replay", "one", "away"],
             Status::ReadFault,
             "cannot read away\n",
         ),
+        // a schedule with an unknown call in line 2
         (
             &["replay", "one", "dance"],
             Status::ScriptRefused,
             "script refused 2 UnknownWord\n",
         ),
+        // a module in place of a schedule: its first word
         (
             &["replay", "one", "one"],
             Status::ScriptRefused,
@@ -263,6 +287,7 @@ fn refuses_in_the_order_of_words_module_and_schedule(rt: HostRuntime) -> Result<
 #[test]
 fn tells_which_file_failed_to_be_read(rt: HostRuntime) -> Result<(), Fail> {
     let alloc = rt.alloc();
+    // the first call of `read` is for the module, and the second for the schedule
     let rows = [(0, "cannot read one\n"), (1, "cannot read bare\n")];
     for (number, text) in rows {
         let words = ["replay", "one", "bare"];
@@ -273,12 +298,16 @@ fn tells_which_file_failed_to_be_read(rt: HostRuntime) -> Result<(), Fail> {
     Ok(())
 }
 
+/// Each write takes six octets at most.
 #[test]
 fn ends_at_a_write_that_fails(rt: HostRuntime) -> Result<(), Fail> {
     let alloc = rt.alloc();
     let rows = [
+        // the first write fails
         (vec![in alloc; 0]?, Status::WriteFault, ""),
+        // the third fails, behind twelve octets
         (vec![in alloc; 2]?, Status::WriteFault, "mode bare\nen"),
+        // the sixth would: five write all 28
         (
             vec![in alloc; 5]?,
             Status::Done,
