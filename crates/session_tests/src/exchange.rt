@@ -166,7 +166,8 @@ pub fn join(rt: &impl Abort, alloc: Global, requirements: u16, a: &mut Session, 
     pass(rt, b, a, accept(alloc, requirements));
 }
 
-/// An initiator and a responder in direct mode, whose association stands.
+/// An initiator and a responder in direct mode, whose association stands, with the requirements
+/// 042A: duplex, minor synchronize, resynchronize and typed data (X.225 8.3.1).
 pub fn direct(rt: &impl Abort, alloc: Global) -> (Session, Session) {
     let mut a = Session::new(alloc, true, false);
     let mut b = Session::new(alloc, false, false);
@@ -174,7 +175,8 @@ pub fn direct(rt: &impl Abort, alloc: Global) -> (Session, Session) {
     (a, b)
 }
 
-/// The same in reliable mode.
+/// The same in reliable mode, with 0449: half-duplex, minor synchronize, activity management and
+/// typed data.
 pub fn reliable(rt: &impl Abort, alloc: Global) -> (Session, Session) {
     let mut a = Session::new(alloc, true, true);
     let mut b = Session::new(alloc, false, true);

@@ -22,7 +22,7 @@ fn opens_and_releases(rt: HostRuntime) -> Result<(), Fail> {
     Ok(())
 }
 
-/// A client that wants duplex alone: no marks, no restarts, no alterations.
+/// A client that wants duplex alone, 0002: no marks, no restarts, no alterations.
 #[test]
 fn a_client_of_duplex_alone(rt: HostRuntime) -> Result<(), Fail> {
     assert!(rt; is_acceptable(false, &connecting(rt.alloc(), 0x0002)));
@@ -45,6 +45,7 @@ fn a_client_of_duplex_alone(rt: HostRuntime) -> Result<(), Fail> {
 
 #[test]
 fn what_a_connect_must_say(rt: HostRuntime) -> Result<(), Fail> {
+    // the requirements of reliable mode, those of direct mode in its place, and none of duplex
     assert!(rt; is_acceptable(true, &connecting(rt.alloc(), 0x0449)));
     assert!(rt; !is_acceptable(true, &connecting(rt.alloc(), 0x042A)));
     assert!(rt; !is_acceptable(false, &connecting(rt.alloc(), 0x0008)));
@@ -92,6 +93,7 @@ fn a_refusal_ends_it(rt: HostRuntime) -> Result<(), Fail> {
 fn an_accept_that_lacks_a_unit(rt: HostRuntime) -> Result<(), Fail> {
     let mut a = Session::new(rt.alloc(), true, true);
     assert!(rt; sent(&rt, &mut a, connect(rt.alloc(), 0x0449)).len() == 1);
+    // activity management lacks, and then the version
     assert!(rt; is_out_of_place(&mut a, accept(rt.alloc(), 0x0409)));
     let without_version = SessionWord::Accept {
         options: None,
