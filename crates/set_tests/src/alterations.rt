@@ -1,4 +1,6 @@
-//! Alterations between two ends, told as steps.
+//! Alterations between two ends, told as steps. What each step leads to is worked out from the sets
+//! of both ends: an addition or a deletion counts from its answer on, and the refusals are those of
+//! this project.
 
 use crate::made::{alteration, end, full_set, ids, packed_rules};
 use Side::{A, B};
@@ -15,7 +17,8 @@ use std::test::Fail;
 enum Step {
     /// It asks to add contexts of the module and to delete others, and is answered so.
     Asks(Side, &'static [u32], &'static [u32], Result<(), SetRefusal>),
-    /// A context is in use: it doesn't ask to delete it, and doesn't delete it where it is asked to.
+    /// A context is in use: it doesn't ask to delete it, and doesn't delete it where it is asked
+    /// to.
     Keeps(Side, u32),
     /// The other end answers what it asked for longest, which are these additions and deletions,
     /// and it takes the answer.
@@ -240,6 +243,7 @@ fn alterations(rt: HostRuntime) -> Result<(), Fail> {
     Ok(())
 }
 
+/// 64 contexts are the most.
 #[test]
 fn a_65th_context_is_not_asked_for(rt: HostRuntime) -> Result<(), Fail> {
     let mut a = full_set(rt.alloc())?;

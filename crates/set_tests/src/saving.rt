@@ -1,4 +1,5 @@
-//! Marks, restarts and resumptions, told as steps.
+//! Marks, restarts and resumptions, told as steps. What each step leads to is worked out from the
+//! sets that were saved before it: a restart at n goes back to what was saved last below n.
 
 use crate::made::{full_set, only_five};
 use Step::{Below, Discards, Ends, Interrupts, Marks, Nodes, Restarts, Resumes};
@@ -186,6 +187,8 @@ fn mark_often(saved: &mut Saved, set: &Contexts, count: u32) -> Result<(), SaveR
     Ok(())
 }
 
+/// 65,536 marks are the most. Each makes a node behind that of the beginning; a restart at 2 leaves
+/// the beginning and the mark 1.
 #[test]
 fn an_unchanged_set_of_64_contexts_is_marked_65536_times(rt: HostRuntime) -> Result<(), Fail> {
     let set = full_set(rt.alloc())?;
