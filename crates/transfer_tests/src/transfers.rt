@@ -1,4 +1,7 @@
 //! Worked transfers: 3,000 octets with checkpoint 1 and window 2, as a value of 2,975 octets is.
+//! What is given and taken follows from X.228 7.4: a checkpoint of 1 makes chunks of 1,024 octets,
+//! so 1,024, 1,024 and 952, with a mark behind each but the last; a window of 2 lets two marks be
+//! unconfirmed; numbers rise by one.
 
 use osi_base::Octets;
 use rtse::{Ended, Incoming, Outgoing, RtseFault, Step};
