@@ -1,5 +1,5 @@
-//! Tests of `linked_ops`, by worked rows. They stand in a crate of their own, so that each layer is
-//! proved once.
+//! Tests of `linked_ops`, by steps that are worked out by hand. They stand in a crate of their own,
+//! so that each layer is proved once.
 #![tactic(auto)]
 
 #[cfg(test)]
