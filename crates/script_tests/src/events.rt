@@ -1,4 +1,5 @@
-//! Events that are read and printed again.
+//! Events that are read and printed again: as they were read, but for spaces, for digits in lower
+//! case, for names of syntaxes that have a short one, and for the module's own name.
 
 use crate::refusals::{all_modes, calc};
 use dialogue::Event;

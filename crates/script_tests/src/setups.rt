@@ -1,4 +1,5 @@
-//! What the lines of the setup say.
+//! What the lines of the setup say, and what stands where no line says it: direct mode, the context
+//! 5 in BER, all three syntaxes, `ref1` and `260101000000Z`, which are those of this project.
 
 use crate::refusals::{all_modes, calc};
 use dialogue::Mode;

@@ -1,4 +1,5 @@
-//! Transcripts as texts, whole and as summaries.
+//! Transcripts as texts, whole and as summaries. The lines follow from the entries that the tests
+//! make, one after the other, and the numbers of a summary are counted in them.
 
 use crate::refusals::calc;
 use asn1_types::{Node, Val};
