@@ -382,6 +382,7 @@ fn aborts_without_data(rt: HostRuntime) {
         user: None,
     };
     alone(&rt, alloc, word, &[0x19, 0x03, 0x11, 0x01, 0x05]).expect(&rt, "memory");
+    // its answer, by hand
     let word = SessionWord::AbortAccept;
     alone(&rt, alloc, word, &[0x1A, 0x00]).expect(&rt, "memory");
 }
@@ -405,6 +406,7 @@ fn requests_for_tokens(rt: HostRuntime) {
         user: None,
     };
     alone(&rt, alloc, word, &[0x02, 0x03, 0x10, 0x01, 0x04]).expect(&rt, "memory");
+    // all tokens, with an octet of user data, by hand
     let word = SessionWord::PleaseTokens {
         tokens: Some(0x15),
         user: Some(octets(&rt, alloc, &[7])),
@@ -545,7 +547,7 @@ fn fault_of(alloc: Global, octets: &[u8]) -> Option<SFault> {
     read_spdus(alloc, octets).err()
 }
 
-/// Extended user data of fewer octets.
+/// Extended user data of one octet, where User Data would do, by hand.
 #[test]
 fn short_data_in_the_long_parameter(rt: HostRuntime) {
     assert!(rt; fault_of(rt.alloc(), &[0x0D, 0x03, 0xC2, 0x01, 0x09]) == None);
