@@ -1,4 +1,4 @@
-//! Sets of contexts by rising identifier, in a vector.
+//! A context put into a set, a vector of contexts by rising identifier, at its place.
 
 ghost use Rattle.std.specs.Prelude.{◌≡◌, ◌+◌, ◌<◌, ◌≤◌, vec_len, vec_capacity};
 ghost use Rattle.context_sets.specs.Sets.{put};

@@ -1,4 +1,4 @@
-//! Each law is the contract of a function that does nothing but cite others.
+//! That every run keeps all laws: the contract of a function that does nothing but cite others.
 
 ghost use Rattle.direct_runs.specs.Laws.{DirectRunsHaveOneHolder, DirectRunsKeepLaws, DirectRunsNeverFail, DirectRunsTakeInPlace};
 ghost use Rattle.direct_runs.specs.Laws.{DirectRunsShowWhatIsTaken, DirectRunsTellAnswers, DirectRunsTellOneOutcome};
@@ -11,13 +11,14 @@ use end_model::bare_pairs_are_modelled;
 use said_worlds::direct_ends_are_said;
 
 /// Every run of two ends of direct mode: at each moment each message that was taken is the one that
-/// was sent in its place of the connection, each of its values read under the pair that the shared
-/// set gave its context at the sending; each carry shows what the messages show that are taken
-/// in it, and nothing else; no end aborts of itself, and none is dead; at no moment do both hold
-/// the token. Of the whole transcript, each invocation that an end is told of was made at the other
-/// and comes once; each gets at most one outcome, which its operation has, and a result or an error
-/// is what the other end answered. An end that isn't over took each message whose last octet was
-/// given to it, and no other, and less than a message is left of what came to it.
+/// was sent in its place of the connection, each of its values, but those of openings, their
+/// answers and aborts, read under the pair that the shared set gave its context at the sending;
+/// each carry shows what the messages show that are taken in it, and nothing else; no end aborts of
+/// itself, and none is dead; at no moment do both hold the token. Of the whole transcript, each
+/// invocation that an end is told of was made at the other and comes once; each gets at most one
+/// outcome, which its operation has, and a result or an error is what the other end answered. An
+/// end that isn't over took each message whose last octet was given to it, and no other, and less
+/// than a message is left of what came to it.
 pub fn direct_runs_keep_laws()
     ensures places { DirectRunsTakeInPlace }
     ensures shown { DirectRunsShowWhatIsTaken }

@@ -1,4 +1,4 @@
-//! Each law is the contract of a function that does nothing but cite others.
+//! Laws of two ends whose lines are octets: contracts of functions that do nothing but cite others.
 
 ghost use Rattle.direct_runs.specs.Worlds.{DirectWorldsAreSpelled, DirectWorldsHaveOneHolder, DirectWorldsNeverFail};
 

@@ -49,8 +49,8 @@ DirectEndsTake =
     Reached (direct_ends tables transfers a b) two → coming_to role two ≡ message ∷ left →
     react (base_at role (direct_ends tables transfers a b)) (body_at role two) message ≡ Fails fault body aborts shown → ⊥
 
--- Taken as sent: a value that an end takes has the pair that its own set gives the identifier, which is the pair that the
--- shared set gave it when the value was sent.
+-- Taken as sent: the value of a message of data that an end takes has the pair that its own set gives the identifier, which is the
+-- pair that the shared set gave it when the value was sent.
 abbrev pub DirectValuesAreAsSent : Type 0
 DirectValuesAreAsSent =
     (free : Free) (tables : Tables) (transfers : Transfers) (a b : Config) → WritesAll free → IsReadable tables → IsDirect a →

@@ -18,8 +18,8 @@ pub fn direct_ends_are_modelled()
     ensures takes { DirectEndsTake }
 {}
 
-/// Taken as sent in direct mode: a value that an end takes has the pair that the shared set gave
-/// its identifier when it was sent.
+/// Taken as sent in direct mode: the value of a message of data that an end takes has the pair that
+/// the shared set gave its identifier when it was sent.
 pub fn direct_values_are_as_sent()
     ensures law { DirectValuesAreAsSent }
 {}

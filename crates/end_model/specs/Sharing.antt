@@ -76,8 +76,8 @@ pub data Shares (common : Common) : Two → Shared → SetsSent → Type 0 where
       → Shares common (stepped role body left aborts two) (shared_all_sent common.mode (side_of role) aborts shared) (sets_stepped role sets_left (before shared aborts) sets)
   breaks : (two : Two) (shared : Shared) (sets : SetsSent) → Shares common two shared sets → Shares common (both_broke common two) shared none_sent
 
--- Taken as sent: a value that an end takes has the pair that its own set gives the identifier, and that is the pair that the
--- shared set gave it when the value was sent.
+-- Taken as sent: the value of a message of data that an end takes has the pair that its own set gives the identifier, and that is
+-- the pair that the shared set gave it when the value was sent.
 abbrev pub DirectAsSent : Type 0
 DirectAsSent =
     (free : Free) (tables : Tables) (spellings : Spellings) (a b : Config) → WritesAll free →

@@ -23,8 +23,9 @@ pub fn direct_pairs_are_modelled()
     ensures takes { DirectTakes }
 {}
 
-/// Taken as sent in direct mode: a value that an end takes has the pair that its own set gives the
-/// value's identifier, and that is the pair that the shared set gave it when the value was sent.
+/// Taken as sent in direct mode: the value of a message of data that an end takes has the pair that
+/// its own set gives the value's identifier, and that is the pair that the shared set gave it when
+/// the value was sent.
 pub fn direct_values_are_as_sent()
     ensures law { DirectAsSent }
 {}

@@ -1,4 +1,5 @@
-//! The operations and errors of a module, with the rows of its types.
+//! The tables of a module as they are made: operations and errors, with the rows of types that they
+//! carry.
 
 ghost use Rattle.std.specs.Prelude.{◌≡◌, ◌+◌, ℕ, List, [], Option, Some, None, IfOk, OnOk, MatchResult};
 ghost use Rattle.std.specs.Option.{option_copied};

@@ -1,4 +1,5 @@
-//! What is done with a module and a second file.
+//! The commands `replay` and `trace`: the module is read, then the second file, which is answered
+//! by the module's tables.
 
 ghost use Rattle.std.specs.Prelude.{◌≡◌, ◌≤◌, IfOk, OnErr};
 ghost use Rattle.packed_codec.specs.Laws.{HasNoAny};

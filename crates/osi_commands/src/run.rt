@@ -78,7 +78,7 @@ fn run_words<F: Files, O: Sink>(alloc: Global, words: &Words, files: &mut F, out
     conclude(out, answer_words(alloc, words, files))
 }
 
-/// Runs the program with these words. The commands so far:
+/// Runs the program with these words. The commands:
 ///
 /// - `check MODULE [--table]` reads the module, a text or a table file, and writes a line for each
 ///   of its operations and errors, or with `--table` its tables as a table file.
@@ -89,11 +89,12 @@ fn run_words<F: Files, O: Sink>(alloc: Global, words: &Words, files: &mut F, out
 ///   says, with the names of the module.
 ///
 /// What a replay writes tells the one run that two new ends with the schedule's configurations make
-/// of its events, and that run keeps all laws of its mode: each presentation value that is taken is
-/// one that the other end sent in its place, read under the pair that the one shared context set
-/// gave its context at the sending; an invocation has at most one outcome, which is allowed to it;
-/// each reliable transfer arrives whole, at most once; nothing whole waits at an end that isn't
-/// over; no end aborts of itself.
+/// of its events, and that run keeps all laws of its mode: each message that is taken is the one
+/// that the other end sent in its place, and its values, but those of openings, their answers and
+/// aborts, are read under the pair that the one shared context set gave their context at the
+/// sending; an invocation has at most one outcome, which is allowed to it; each reliable transfer
+/// arrives whole, at most once; nothing whole waits at an end that isn't over; no end aborts of
+/// itself.
 ///
 /// Each other answer is a status with a text of its own, and nothing else is written:
 ///

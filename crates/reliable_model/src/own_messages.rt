@@ -1,4 +1,4 @@
-//! What an end of reliable mode does by itself.
+//! The law that whatever an end of reliable mode does by itself is an act of the model.
 
 ghost use Rattle.reliable_model.specs.OwnRows.{OwnMessagesAct};
 

@@ -70,7 +70,8 @@ pub record RanAssociated (tables : Tables) (schedule : Said) (transcript : Trans
   -- the moments of both ends at the end of the run
   pub world : World
   pub runs : Runs (ends_of tables schedule.a schedule.b) [] schedule.events transcript.entries world
-  -- Each value taken is one handed in at the other end, read under the pair that the shared set gave its identifier at its sending;
+  -- Each message taken is the one that the other end sent in its place, and its values, but those of openings, their answers and
+  -- aborts, are read under the pair that the shared set gave their identifier at the sending;
   -- each invocation gets at most one outcome, allowed to it; each reliable transfer arrives whole, at most once; an end that isn't over
   -- took what came whole, and no more; no end aborts of itself.
   pub laws : RunKeepsLaws tables (ends_of tables schedule.a schedule.b) transcript.entries world

@@ -1,4 +1,4 @@
-//! The listing of a module's operations and errors.
+//! A line for each operation and each error, and one with their numbers.
 
 ghost use Rattle.std.specs.Prelude.{◌≡◌, ◌++◌, ◌∷◌, ◌<◌, ℕ, List, [], OnOk, IfOk, codes, decimal, flat_map, length};
 ghost use Rattle.std.specs.Fmt.{signed_decimal};
