@@ -27,10 +27,10 @@ pub returns-in_ok-taken-in-Err-clause-heard : goal.returns-in_ok-taken-in-Err-cl
 returns-in_ok-taken-in-Err-clause-heard c =
     let e = c.args.self.now in
     let readable = subst (λ (v : EndView). IsReadable v.tables) c.self.view_is c.is_readable.ensures in
-    refused_heard e c.as_taken.result c.in_ok-taken-in-Err.taken c.as_taken.ensures (take c.args.used e.rest) c.in-Err.fault readable c.in-Err.ensures.octets c.in-Err.ensures.read (sym c.refused.ensures ∙ c.in_ok-taken-in-Err.was)
+    refused_heard e c.as_taken.result c.in_ok-taken-in-Err.taken c.as_taken.ensures (take c.args.used e.rest) c.in-Err.fault readable c.in-Err.ensures.octets c.in-Err.ensures.read (sym c.refused_head.ensures ∙ c.in_ok-taken-in-Err.was)
 
 pub returns-in_ok-taken-in-Err-clause-means : goal.returns-in_ok-taken-in-Err-clause-means
 returns-in_ok-taken-in-Err-clause-means c =
     let e = c.args.self.now in
     let readable = subst (λ (v : EndView). IsReadable v.tables) c.self.view_is c.is_readable.ensures in
-    refused_means e c.as_taken.result c.in_ok-taken-in-Err.taken c.as_taken.ensures (take c.args.used e.rest) c.in-Err.fault readable c.in-Err.ensures.octets c.in-Err.ensures.read (sym c.refused.ensures ∙ c.in_ok-taken-in-Err.was)
+    refused_means e c.as_taken.result c.in_ok-taken-in-Err.taken c.as_taken.ensures (take c.args.used e.rest) c.in-Err.fault readable c.in-Err.ensures.octets c.in-Err.ensures.read (sym c.refused_head.ensures ∙ c.in_ok-taken-in-Err.was)
