@@ -1,16 +1,16 @@
 -- Runs that go on, and what each event does to two ends.
-use Rattle.std.proofs.Common.{◌≡◌, ℕ, zero, suc, ◌+◌, ◌<◌, ◌≤◌, get_or, arith, List, [], ◌∷◌, ◌++◌, length, take, Option, refl, sym, ap, subst, ◌∙◌}
-use Rattle.std.proofs.Math.Seq.{take-suc}
+use Rattle.std.proofs.Common.{◌≡◌, ℕ, List, [], ◌∷◌, ◌++◌, length, Option, Some, None, refl, sym, ap, subst, ◌∙◌}
 use Rattle.osi_base.specs.declared.layer_words.Side.{Side}
 use Rattle.osi_base.specs.declared.layer_words.Side.TheVariants.{A, B}
 use Rattle.dialogue.specs.declared.call.Call.{Call}
-use Rattle.dialogue.specs.declared.config.Mode.{Mode}
 use Rattle.dialogue.specs.declared.event.Event.{Event}
 use Rattle.dialogue.specs.declared.event.Event.TheVariants as events
 use Rattle.dialogue.specs.declared.event.Entry.{Entry}
 use Rattle.dialogue.specs.declared.event.Entry.TheVariants as entries
 use Rattle.dialogue.specs.declared.event.Carried.{Carried}
 use Rattle.dialogue.specs.declared.event.Transcript.{Transcript}
+use Rattle.two_ends.specs.Conduct.{given_out, first_octets as passed_octets}
+use Rattle.two_ends.specs.Events.{AnsweredOne, AnsweredAt, CarriedOver, CarriedFrom, Happened, called as was_called, carried_over, both_broke, Passed, nothing_yet, one_more}
 use Rattle.end_rules.specs.Base.{Base}
 use Rattle.end_rules.specs.Invoking.{Reply}
 use Rattle.end_rules.specs.Calling.{can_call}
@@ -21,8 +21,8 @@ use Rattle.association_line.specs.Feeding.{Feeds, Makes}
 use Rattle.association_runs.specs.Worlds.{end_at, stepping, first_octets, Runs, rests, calls, carries, breaks}
 use Rattle.association_end.specs.View.{EndView, base, Stepped, StandsFor}
 use Rattle.association_end.proofs.Histories.{same_base, stands_on}
-use Rattle.association_duo.specs.Ran.{StandsAt, Stand, Ran, Told}
-use Rattle.association_duo.specs.Steps.{RunsOn, AnsweredOne, AnsweredAt, CarriedOver, CarriedFrom}
+use Rattle.association_duo.specs.Ran.{StandsAt, Stand, Told}
+use Rattle.association_duo.specs.Steps.{conduct, RunsOn}
 
 -- ---- one run after another
 
@@ -36,10 +36,10 @@ runs-append e u v w all more told later (carries {more = rest} {told = shown} si
 runs-append e u v w all more told later (breaks {more = rest} {told = shown} next) r =
     breaks (runs-append e (stepping B (stepping A u (broke ∷ [])) (broke ∷ [])) v w rest more shown later next r)
 
-pub runs_none : (a b : EndView) → RunsOn [] [] a b a b
+runs_none : (a b : EndView) → RunsOn [] [] a b a b
 runs_none a b ends w s = record { world = w; runs = rests; stand = s }
 
-pub runs_more : (all more : List Event) (told later : List Entry) (a b a1 b1 a2 b2 : EndView) → RunsOn all told a b a1 b1 → RunsOn more later a1 b1 a2 b2 → RunsOn (all ++ more) (told ++ later) a b a2 b2
+runs_more : (all more : List Event) (told later : List Entry) (a b a1 b1 a2 b2 : EndView) → RunsOn all told a b a1 b1 → RunsOn more later a1 b1 a2 b2 → RunsOn (all ++ more) (told ++ later) a b a2 b2
 runs_more all more told later a b a1 b1 a2 b2 f g ends w s =
     let one = f ends w s in
     let two = g ends one.world one.stand in
@@ -62,6 +62,15 @@ left_alone B w (x ∷ xs) = left_alone B (record { side = A; step = x } ∷ w) x
 other_alone : (side : Side) (w : World) (steps : List Step) → history_of (other side) (stepping side w steps) ≡ history_of (other side) w
 other_alone A w steps = left_alone B w steps
 other_alone B w steps = left_alone A w steps
+
+-- what was given out is a step
+gave_so : (e f : EndView) (n : ℕ) → f ≡ given_out conduct n e → Stepped e f (gave n ∷ [])
+gave_so e f n is = record { tables = ap (λ (x : EndView). x.tables) is; config = ap (λ (x : EndView). x.config) is; end = ap (λ (x : EndView). x.end) is }
+
+-- the first octets are the same in both words
+same_octets : (most : Option ℕ) (octets : List ℕ) → passed_octets most octets ≡ first_octets most octets
+same_octets None octets = refl
+same_octets (Some most) octets = refl
 
 module _ (ends : Ends) where
   -- an end that made steps stands for its history with them
@@ -90,7 +99,7 @@ module _ (ends : Ends) where
     pub rest_stands : StandsAt ends (other side) world rest
 
   call_ran : (side : Side) (w : World) (call : Call) (answer : Reply) (e rest e1 rest1 : EndView) → StandsAt ends side w e → StandsAt ends (other side) w rest
-      → AnsweredOne call answer e rest e1 rest1 → CallRan side w call answer e1 rest1
+      → AnsweredOne conduct call answer e rest e1 rest1 → CallRan side w call answer e1 rest1
   call_ran side w call answer e rest e1 rest1 s r h =
       let steps : List Step = h.answered.steps in
       let v : World = stepping side w steps in
@@ -114,14 +123,14 @@ module _ (ends : Ends) where
     pub to_stands : StandsAt ends (other side) world to
 
   carry_ran : (side : Side) (w : World) (most : Option ℕ) (carried : Carried) (from to from1 to1 : EndView) → StandsAt ends side w from → StandsAt ends (other side) w to
-      → CarriedOver most carried from to from1 to1 → CarryRan side w most carried from1 to1
+      → CarriedOver conduct conduct most carried from to from1 to1 → CarryRan side w most carried from1 to1
   carry_ran side w most carried from to from1 to1 s r h =
       let octets : List ℕ = first_octets most (end_at ends side w).line.waiting in
-      let moved : carried.octets ≡ octets = h.octets_are ∙ ap (λ (x : End). first_octets most x.line.waiting) (its_end side w from s) in
+      let moved : carried.octets ≡ octets = h.octets_are ∙ same_octets most from.end.line.waiting ∙ ap (λ (x : End). first_octets most x.line.waiting) (its_end side w from s) in
       let give : List Step = gave (length octets) ∷ [] in
       let u : World = stepping side w give in
       let v : World = stepping (other side) u h.feeds.steps in
-      let gives : Stepped from from1 give = subst (λ (bytes : List ℕ). Stepped from from1 (gave (length bytes) ∷ [])) moved h.gives in
+      let gives : Stepped from from1 give = subst (λ (bytes : List ℕ). Stepped from from1 (gave (length bytes) ∷ [])) moved (gave_so from from1 (length carried.octets) h.gives) in
       let fd : Feeds (base_at ends (other side)) (end_at ends (other side) w) octets h.feeds.steps carried.shown
       = subst (λ (b : Base). Feeds b (end_at ends (other side) w) octets h.feeds.steps carried.shown) r.base_is
       (subst (λ (x : End). Feeds (base to) x octets h.feeds.steps carried.shown) (its_end (other side) w to r)
@@ -137,7 +146,7 @@ module _ (ends : Ends) where
 
 -- ---- the events
 
-pub runs_call : (side : Side) (call : Call) (answer : Reply) (a b a1 b1 : EndView) → AnsweredAt side call answer a b a1 b1 → RunsOn (events.Call side call ∷ []) (entries.Call side call answer ∷ []) a b a1 b1
+runs_call : (side : Side) (call : Call) (answer : Reply) (a b a1 b1 : EndView) → AnsweredAt conduct conduct side call answer a b a1 b1 → RunsOn (events.Call side call ∷ []) (entries.Call side call answer ∷ []) a b a1 b1
 runs_call A call answer a b a1 b1 h ends w s =
     let r = call_ran ends A w call answer a b a1 b1 s.a_stands s.b_stands h in
     record { world = r.world; runs = r.runs; stand = record { a_stands = r.end_stands; b_stands = r.rest_stands } }
@@ -145,7 +154,7 @@ runs_call B call answer a b a1 b1 h ends w s =
     let r = call_ran ends B w call answer b a b1 a1 s.b_stands s.a_stands h in
     record { world = r.world; runs = r.runs; stand = record { a_stands = r.rest_stands; b_stands = r.end_stands } }
 
-pub runs_carry : (side : Side) (most : Option ℕ) (carried : Carried) (a b a1 b1 : EndView) → CarriedFrom side most carried a b a1 b1 → RunsOn (events.Carry side most ∷ []) (entries.Carry side most carried ∷ []) a b a1 b1
+runs_carry : (side : Side) (most : Option ℕ) (carried : Carried) (a b a1 b1 : EndView) → CarriedFrom conduct conduct side most carried a b a1 b1 → RunsOn (events.Carry side most ∷ []) (entries.Carry side most carried ∷ []) a b a1 b1
 runs_carry A most carried a b a1 b1 h ends w s =
     let r = carry_ran ends A w most carried a b a1 b1 s.a_stands s.b_stands h in
     record { world = r.world; runs = r.runs; stand = record { a_stands = r.from_stands; b_stands = r.to_stands } }
@@ -153,7 +162,7 @@ runs_carry B most carried a b a1 b1 h ends w s =
     let r = carry_ran ends B w most carried b a b1 a1 s.b_stands s.a_stands h in
     record { world = r.world; runs = r.runs; stand = record { a_stands = r.to_stands; b_stands = r.from_stands } }
 
-pub runs_break : (a b a1 b1 : EndView) → Stepped a a1 (broke ∷ []) → Stepped b b1 (broke ∷ []) → RunsOn (events.Break ∷ []) (entries.Break ∷ []) a b a1 b1
+runs_break : (a b a1 b1 : EndView) → Stepped a a1 (broke ∷ []) → Stepped b b1 (broke ∷ []) → RunsOn (events.Break ∷ []) (entries.Break ∷ []) a b a1 b1
 runs_break a b a1 b1 e f ends w s =
     let u : World = stepping A w (broke ∷ []) in
     let v : World = stepping B u (broke ∷ []) in
@@ -165,6 +174,18 @@ runs_break a b a1 b1 e f ends w s =
         b_stands = made_steps ends B u b b1 (broke ∷ []) (kept_still ends B w u b b (left_alone B w (broke ∷ [])) refl s.b_stands) f;
       };
     }
+
+-- ---- one event after another
+
+runs_one : (event : Event) (entry : Entry) (a b a1 b1 : EndView) → Happened conduct conduct event entry a b a1 b1 → RunsOn (event ∷ []) (entry ∷ []) a b a1 b1
+runs_one event entry a b a1 b1 (was_called side call answer h) = runs_call side call answer a b a1 b1 h
+runs_one event entry a b a1 b1 (carried_over side most carried h) = runs_carry side most carried a b a1 b1 h
+runs_one event entry a b a1 b1 (both_broke e f) = runs_break a b a1 b1 e f
+
+pub runs_all : (a b : EndView) (all : List Event) (told : List Entry) (a1 b1 : EndView) → Passed conduct conduct a b all told a1 b1 → RunsOn all told a b a1 b1
+runs_all a b all told a1 b1 nothing_yet = runs_none a b
+runs_all a b all told a1 b1 (one_more {all = before} {told = shown} {a_then = a2} {b_then = b2} event entry passed h) =
+    runs_more before (event ∷ []) shown (entry ∷ []) a b a2 b2 a1 b1 (runs_all a b before shown a2 b2 passed) (runs_one event entry a2 b2 a1 b1 h)
 
 -- ---- the whole run, told
 
@@ -178,14 +199,3 @@ run_told all transcript a b a1 b1 runs m p q ends w s =
       a_phase = p ∙ ap (λ (x : End). x.body.link.phase) (its_end ends A r.world a1 r.stand.a_stands);
       b_phase = q ∙ ap (λ (x : End). x.body.link.phase) (its_end ends B r.world b1 r.stand.b_stands);
     }
-
--- ---- event after event
-
-pub take_one_more : (l : List Event) (i : ℕ) (e : Event) → i < length l → e ≡ get_or l i e → take (i + 1) l ≡ take i l ++ e ∷ []
-take_one_more l i e lt is = ap (λ (n : ℕ). take n l) (let one : i + 1 ≡ suc i = omega arith in one) ∙ take-suc l i e lt ∙ ap (λ (x : Event). take i l ++ x ∷ []) (sym is)
-
-pub take_whole : (l : List Event) (n : ℕ) → length l ≤ n → take n l ≡ l
-take_whole [] zero le = refl
-take_whole [] (suc n) le = refl
-take_whole (x ∷ l) zero le = absurd (omega (arith, le))
-take_whole (x ∷ l) (suc n) le = ap (λ (k : List Event). x ∷ k) (take_whole l n (omega (arith, le)))

@@ -1,4 +1,3 @@
-pub mod Given
 pub mod Runs
 pub mod Fronts
 pub mod Flights

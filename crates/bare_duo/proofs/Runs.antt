@@ -1,6 +1,5 @@
 -- Runs that go on, and what each event does to two ends.
-use Rattle.std.proofs.Common.{◌≡◌, ℕ, zero, suc, ◌+◌, ◌<◌, ◌≤◌, get_or, arith, List, [], ◌∷◌, ◌++◌, length, map, take, Option, refl, sym, ap, subst, ◌∙◌}
-use Rattle.std.proofs.Math.Seq.{take-suc}
+use Rattle.std.proofs.Common.{◌≡◌, ℕ, List, [], ◌∷◌, ◌++◌, length, map, Option, Some, None, refl, sym, ap, subst, ◌∙◌}
 use Rattle.osi_base.specs.declared.layer_words.Side.{Side}
 use Rattle.osi_base.specs.declared.layer_words.Side.TheVariants.{A, B}
 use Rattle.stub_tables.specs.declared.tables.Tables.{Tables}
@@ -14,6 +13,8 @@ use Rattle.dialogue.specs.declared.event.Entry.{Entry}
 use Rattle.dialogue.specs.declared.event.Entry.TheVariants as entries
 use Rattle.dialogue.specs.declared.event.Carried.{Carried}
 use Rattle.dialogue.specs.declared.event.Transcript.{Transcript}
+use Rattle.two_ends.specs.Conduct.{given_out, first_octets as passed_octets}
+use Rattle.two_ends.specs.Events.{AnsweredOne, AnsweredAt, CarriedOver, CarriedFrom, Happened, called as was_called, carried_over, both_broke, Passed, nothing_yet, one_more}
 use Rattle.end_rules.specs.Base.{Base}
 use Rattle.end_rules.specs.Invoking.{Reply}
 use Rattle.end_rules.specs.Calling.{can_call}
@@ -28,7 +29,7 @@ use Rattle.bare_end.proofs.Histories.{stands_on}
 use Rattle.bare_duo.specs.Worlds.{ends_of, end_at, stepping, first_octets, Runs, rests, calls, carries, breaks}
 use Rattle.bare_duo.specs.Laws.{EveryRunKeepsLaws}
 use Rattle.bare_duo.specs.Ran.{StandsAt, Stand, Told, RanFromStart}
-use Rattle.bare_duo.specs.Steps.{RunsOn, AnsweredOne, AnsweredAt, CarriedOver, CarriedFrom}
+use Rattle.bare_duo.specs.Steps.{conduct, RunsOn}
 
 -- ---- one run after another
 
@@ -42,10 +43,10 @@ runs-append e u v w all more told later (carries {more = rest} {told = shown} si
 runs-append e u v w all more told later (breaks {more = rest} {told = shown} next) r =
     breaks (runs-append e (stepping B (stepping A u (broke ∷ [])) (broke ∷ [])) v w rest more shown later next r)
 
-pub runs_none : (a b : EndView) → RunsOn [] [] a b a b
+runs_none : (a b : EndView) → RunsOn [] [] a b a b
 runs_none a b setup t w s = record { world = w; runs = rests; stand = s }
 
-pub runs_more : (all more : List Event) (told later : List Entry) (a b a1 b1 a2 b2 : EndView) → RunsOn all told a b a1 b1 → RunsOn more later a1 b1 a2 b2 → RunsOn (all ++ more) (told ++ later) a b a2 b2
+runs_more : (all more : List Event) (told later : List Entry) (a b a1 b1 a2 b2 : EndView) → RunsOn all told a b a1 b1 → RunsOn more later a1 b1 a2 b2 → RunsOn (all ++ more) (told ++ later) a b a2 b2
 runs_more all more told later a b a1 b1 a2 b2 f g setup t w s =
     let one = f setup t w s in
     let two = g setup t one.world one.stand in
@@ -68,6 +69,15 @@ left_alone B w (x ∷ xs) = left_alone B (record { side = A; step = x } ∷ w) x
 other_alone : (side : Side) (w : World) (steps : List Step) → history_of (other side) (stepping side w steps) ≡ history_of (other side) w
 other_alone A w steps = left_alone B w steps
 other_alone B w steps = left_alone A w steps
+
+-- what was given out is a step
+gave_so : (e f : EndView) (n : ℕ) → f ≡ given_out conduct n e → Stepped e f (gave n ∷ [])
+gave_so e f n is = record { tables = ap (λ (x : EndView). x.tables) is; config = ap (λ (x : EndView). x.config) is; end = ap seen is }
+
+-- the first octets are the same in both words
+same_octets : (most : Option ℕ) (octets : List ℕ) → passed_octets most octets ≡ first_octets most octets
+same_octets None octets = refl
+same_octets (Some most) octets = refl
 
 module _ (setup : Setup) (t : Tables) where
   -- an end that made steps stands for its history with them
@@ -115,7 +125,7 @@ module _ (setup : Setup) (t : Tables) where
     pub rest_stands : StandsAt setup t (other side) (after_call_at side w call) rest
 
   call_ran : (side : Side) (w : World) (call : Call) (answer : Reply) (e rest e1 rest1 : EndView) → StandsAt setup t side w e → StandsAt setup t (other side) w rest
-      → AnsweredOne call answer e rest e1 rest1 → CallRan side w call answer e1 rest1
+      → AnsweredOne conduct call answer e rest e1 rest1 → CallRan side w call answer e1 rest1
   call_ran side w call answer e rest e1 rest1 s r h =
       let same = steps_same side w call answer e s h.answered.reply_is in
       record {
@@ -138,14 +148,14 @@ module _ (setup : Setup) (t : Tables) where
     pub to_stands : StandsAt setup t (other side) world to
 
   carry_ran : (side : Side) (w : World) (most : Option ℕ) (carried : Carried) (from to from1 to1 : EndView) → StandsAt setup t side w from → StandsAt setup t (other side) w to
-      → CarriedOver most carried from to from1 to1 → CarryRan side w most carried from1 to1
+      → CarriedOver conduct conduct most carried from to from1 to1 → CarryRan side w most carried from1 to1
   carry_ran side w most carried from to from1 to1 s r h =
       let octets = first_octets most (end_at (ends_of setup t) side w).line.waiting in
-      let moved : carried.octets ≡ octets = h.octets_are ∙ ap (λ (x : End). first_octets most x.line.waiting) (its_end side w from s) in
+      let moved : carried.octets ≡ octets = h.octets_are ∙ same_octets most from.waiting ∙ ap (λ (x : End). first_octets most x.line.waiting) (its_end side w from s) in
       let give : List Step = gave (length octets) ∷ [] in
       let u = stepping side w give in
       let v = stepping (other side) u h.feeds.steps in
-      let gives : Stepped from from1 give = subst (λ (bytes : List ℕ). Stepped from from1 (gave (length bytes) ∷ [])) moved h.gives in
+      let gives : Stepped from from1 give = subst (λ (bytes : List ℕ). Stepped from from1 (gave (length bytes) ∷ [])) moved (gave_so from from1 (length carried.octets) h.gives) in
       let fd : Feeds (base_at (ends_of setup t) (other side)) (end_at (ends_of setup t) (other side) w) octets h.feeds.steps carried.shown
       = subst (λ (b : Base). Feeds b (end_at (ends_of setup t) (other side) w) octets h.feeds.steps carried.shown) (its_base (other side) w to r)
       (subst (λ (x : End). Feeds (base to) x octets h.feeds.steps carried.shown) (its_end (other side) w to r)
@@ -161,7 +171,7 @@ module _ (setup : Setup) (t : Tables) where
 
 -- ---- the events
 
-pub runs_call : (side : Side) (call : Call) (answer : Reply) (a b a1 b1 : EndView) → AnsweredAt side call answer a b a1 b1 → RunsOn (events.Call side call ∷ []) (entries.Call side call answer ∷ []) a b a1 b1
+runs_call : (side : Side) (call : Call) (answer : Reply) (a b a1 b1 : EndView) → AnsweredAt conduct conduct side call answer a b a1 b1 → RunsOn (events.Call side call ∷ []) (entries.Call side call answer ∷ []) a b a1 b1
 runs_call A call answer a b a1 b1 h setup t w s =
     let r = call_ran setup t A w call answer a b a1 b1 s.a_stands s.b_stands h in
     record { world = after_call_at setup t A w call; runs = call_runs setup t A w call answer r.answer_is; stand = record { a_stands = r.end_stands; b_stands = r.rest_stands } }
@@ -169,7 +179,7 @@ runs_call B call answer a b a1 b1 h setup t w s =
     let r = call_ran setup t B w call answer b a b1 a1 s.b_stands s.a_stands h in
     record { world = after_call_at setup t B w call; runs = call_runs setup t B w call answer r.answer_is; stand = record { a_stands = r.rest_stands; b_stands = r.end_stands } }
 
-pub runs_carry : (side : Side) (most : Option ℕ) (carried : Carried) (a b a1 b1 : EndView) → CarriedFrom side most carried a b a1 b1 → RunsOn (events.Carry side most ∷ []) (entries.Carry side most carried ∷ []) a b a1 b1
+runs_carry : (side : Side) (most : Option ℕ) (carried : Carried) (a b a1 b1 : EndView) → CarriedFrom conduct conduct side most carried a b a1 b1 → RunsOn (events.Carry side most ∷ []) (entries.Carry side most carried ∷ []) a b a1 b1
 runs_carry A most carried a b a1 b1 h setup t w s =
     let r = carry_ran setup t A w most carried a b a1 b1 s.a_stands s.b_stands h in
     record { world = r.world; runs = r.runs; stand = record { a_stands = r.from_stands; b_stands = r.to_stands } }
@@ -177,7 +187,7 @@ runs_carry B most carried a b a1 b1 h setup t w s =
     let r = carry_ran setup t B w most carried b a b1 a1 s.b_stands s.a_stands h in
     record { world = r.world; runs = r.runs; stand = record { a_stands = r.to_stands; b_stands = r.from_stands } }
 
-pub runs_break : (a b a1 b1 : EndView) → Stepped a a1 (broke ∷ []) → Stepped b b1 (broke ∷ []) → RunsOn (events.Break ∷ []) (entries.Break ∷ []) a b a1 b1
+runs_break : (a b a1 b1 : EndView) → Stepped a a1 (broke ∷ []) → Stepped b b1 (broke ∷ []) → RunsOn (events.Break ∷ []) (entries.Break ∷ []) a b a1 b1
 runs_break a b a1 b1 e f setup t w s =
     let u = stepping A w (broke ∷ []) in
     let v = stepping B u (broke ∷ []) in
@@ -189,6 +199,18 @@ runs_break a b a1 b1 e f setup t w s =
         b_stands = made_steps setup t B u b b1 (broke ∷ []) (kept_still setup t B w u b b (left_alone B w (broke ∷ [])) refl s.b_stands) f;
       };
     }
+
+-- ---- one event after another
+
+runs_one : (event : Event) (entry : Entry) (a b a1 b1 : EndView) → Happened conduct conduct event entry a b a1 b1 → RunsOn (event ∷ []) (entry ∷ []) a b a1 b1
+runs_one event entry a b a1 b1 (was_called side call answer h) = runs_call side call answer a b a1 b1 h
+runs_one event entry a b a1 b1 (carried_over side most carried h) = runs_carry side most carried a b a1 b1 h
+runs_one event entry a b a1 b1 (both_broke e f) = runs_break a b a1 b1 e f
+
+pub runs_all : (a b : EndView) (all : List Event) (told : List Entry) (a1 b1 : EndView) → Passed conduct conduct a b all told a1 b1 → RunsOn all told a b a1 b1
+runs_all a b all told a1 b1 nothing_yet = runs_none a b
+runs_all a b all told a1 b1 (one_more {all = before} {told = shown} {a_then = a2} {b_then = b2} event entry passed h) =
+    runs_more before (event ∷ []) shown (entry ∷ []) a b a2 b2 a1 b1 (runs_all a b before shown a2 b2 passed) (runs_one event entry a2 b2 a1 b1 h)
 
 -- ---- the whole run, told
 
@@ -209,14 +231,3 @@ pub from_start : EveryRunKeepsLaws → (all : List Event) (transcript : Transcri
 from_start keeps all transcript a b a1 b1 readable runs m p q setup s =
     let t : Told setup a.tables [] all transcript a1 b1 = run_told all transcript a b a1 b1 runs m p q setup a.tables [] s in
     record { readable = readable; told = t; laws = keeps a.tables setup all transcript.entries t.ran.world readable t.ran.runs }
-
--- ---- event after event
-
-pub take_one_more : (l : List Event) (i : ℕ) (e : Event) → i < length l → e ≡ get_or l i e → take (i + 1) l ≡ take i l ++ e ∷ []
-take_one_more l i e lt is = ap (λ (n : ℕ). take n l) (let one : i + 1 ≡ suc i = omega arith in one) ∙ take-suc l i e lt ∙ ap (λ (x : Event). take i l ++ x ∷ []) (sym is)
-
-pub take_whole : (l : List Event) (n : ℕ) → length l ≤ n → take n l ≡ l
-take_whole [] zero le = refl
-take_whole [] (suc n) le = refl
-take_whole (x ∷ l) zero le = absurd (omega (arith, le))
-take_whole (x ∷ l) (suc n) le = ap (λ (k : List Event). x ∷ k) (take_whole l n (omega (arith, le)))

@@ -1,53 +1,27 @@
--- What the events of a run do to two ends.
-use Rattle.std.specs.Prelude.{◌≡◌, ℕ, List, [], ◌∷◌, length, drop, Option}
-use Rattle.osi_base.specs.declared.layer_words.Side.{Side}
-use Rattle.osi_base.specs.declared.layer_words.Side.TheVariants.{A, B}
+-- How an end of bare mode acts in a run.
+use Rattle.std.specs.Prelude.{List, [], ◌∷◌}
 use Rattle.stub_tables.specs.declared.tables.Tables.{Tables}
-use Rattle.dialogue.specs.declared.call.Call.{Call}
 use Rattle.dialogue.specs.declared.setup.Setup.{Setup}
 use Rattle.dialogue.specs.declared.event.Event.{Event}
 use Rattle.dialogue.specs.declared.event.Entry.{Entry}
-use Rattle.dialogue.specs.declared.event.Carried.{Carried}
-use Rattle.end_rules.specs.Invoking.{Reply}
 use Rattle.end_rules.specs.Calling.{can_call}
-use Rattle.end_rules.specs.History.{gave}
+use Rattle.end_rules.specs.History.{broke}
 use Rattle.end_rules.specs.World.{World}
+use Rattle.two_ends.specs.Conduct.{Conduct}
 use Rattle.bare_end.specs.View.{EndView, base, body, Stepped, Answered}
 use Rattle.bare_end.specs.Feed.{Fed}
-use Rattle.bare_duo.specs.Worlds.{first_octets}
 use Rattle.bare_duo.specs.Ran.{Stand, Ran}
+
+-- What waits, and what a call, octets and a break make of the end.
+abbrev pub conduct : Conduct EndView
+conduct = record {
+  waiting = λ e. e.waiting;
+  with_waiting = λ octets e. record e { waiting = octets };
+  answered = λ e e_after call answer. Answered (can_call (base e) (body e) call) e e_after call answer;
+  fed = λ e e_after octets shown. Fed e e_after octets shown;
+  broke = λ e e_after. Stepped e e_after (broke ∷ []);
+}
 
 -- From every world for which the ends stand, the events ran.
 abbrev pub RunsOn : List Event → List Entry → EndView → EndView → EndView → EndView → Type 0
 RunsOn all told a b a_after b_after = (setup : Setup) (tables : Tables) (w : World) → Stand setup tables w a b → Ran setup tables w all told a_after b_after
-
--- One event ran.
-abbrev pub RunsOne : Event → Entry → EndView → EndView → EndView → EndView → Type 0
-RunsOne event entry a b a_after b_after = RunsOn (event ∷ []) (entry ∷ []) a b a_after b_after
-
--- The call got the answer that can be given to it.
-abbrev pub AnsweredTo : Call → Reply → EndView → EndView → Type 0
-AnsweredTo call answer end end_after = Answered (can_call (base end) (body end) call) end end_after call answer
-
--- so many octets less wait
-abbrev pub given_out : ℕ → EndView → EndView
-given_out n end = record end { waiting = drop n end.waiting }
-
--- One end answered a call, and the other is as it was.
-pub record AnsweredOne (call : Call) (answer : Reply) (end rest end_after rest_after : EndView) : Type 0 where
-  pub answered : AnsweredTo call answer end end_after
-  pub kept : rest_after ≡ rest
-
-abbrev pub AnsweredAt : Side → Call → Reply → EndView → EndView → EndView → EndView → Type 0
-AnsweredAt A call answer a b a_after b_after = AnsweredOne call answer a b a_after b_after
-AnsweredAt B call answer a b a_after b_after = AnsweredOne call answer b a b_after a_after
-
--- The first octets that waited at one end were fed to another.
-pub record CarriedOver (most : Option ℕ) (carried : Carried) (from to from_after to_after : EndView) : Type 0 where
-  pub octets_are : carried.octets ≡ first_octets most from.waiting
-  pub gives : Stepped from from_after (gave (length carried.octets) ∷ [])
-  pub feeds : Fed to to_after carried.octets carried.shown
-
-abbrev pub CarriedFrom : Side → Option ℕ → Carried → EndView → EndView → EndView → EndView → Type 0
-CarriedFrom A most carried a b a_after b_after = CarriedOver most carried a b a_after b_after
-CarriedFrom B most carried a b a_after b_after = CarriedOver most carried b a b_after a_after

@@ -3,7 +3,7 @@
 #![tactic(auto)]
 
 mod cases;
-mod giving;
+mod end;
 mod laws;
 mod running;
 

@@ -1,9 +1,0 @@
-use Rattle.std.proofs.Common.{length}
-use Rattle.association_duo.proofs.Given.{Given}
-use Rattle.association_duo.proofs.giving.give_all.Given as goal
-
-abbrev pub invariant-loop-octets : goal.invariant-loop-octets
-invariant-loop-octets l = Given l.fn.end l.end l.octets
-
-abbrev pub decreases-loop-octets : goal.decreases-loop-octets
-decreases-loop-octets l = length l.end.end.line.waiting
