@@ -1,4 +1,4 @@
-//! Functional units of the session and what they allow (X.225 5.9, 8.3.1.16; X.226 6.3, 6.7).
+//! Functional units of the session and what they allow (X.225 5.9, 8.3.1; X.226 6.3, 6.7).
 
 ghost use Rattle.std.specs.Prelude.{◌≡◌};
 ghost use Rattle.end_rules.specs.Units.{has_units, has_marks, has_restarts, has_activities, has_typed_data, proposed_units, needed_units, selected_with, has_version_two, has_both, manages_with, has_token};

@@ -42,8 +42,7 @@ pub struct Link {
     pub phase: Phase,
     /// How far the transport connection is.
     pub stage: Stage,
-    /// The functional units selected: the session requirements that both ends have (X.225
-    /// 8.3.1.16).
+    /// The functional units selected: the session requirements that both ends have (X.225 8.3.1).
     pub selected: u16,
     /// Context management and restoration are selected (X.226 6.3).
     pub manages: bool,

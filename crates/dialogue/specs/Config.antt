@@ -6,7 +6,7 @@ use Rattle.dialogue.specs.declared.config.Mode.TheVariants.{Bare}
 use Rattle.dialogue.specs.declared.config.ConfigRefusal.{ConfigRefusal}
 use Rattle.dialogue.specs.declared.config.ConfigRefusal.TheVariants as refusals
 
--- a selector has at least one octet (X.225 8.3.1.16)
+-- a selector has at least one octet (X.225 8.3.1)
 abbrev pub is_bad_selector : List ℕ → Bool
 is_bad_selector octets = nat_eq (length octets) 0 || nat_lt most_selector (length octets)
 

@@ -32,7 +32,7 @@ pub data Awaited : Type 0 where
 pub record Link : Type 0 where
   pub phase : Phase
   pub stage : Stage
-  -- session requirements that both ends have (X.225 8.3.1.16): the functional units selected
+  -- session requirements that both ends have (X.225 8.3.1): the functional units selected
   pub selected : ℕ
   -- context management and restoration are selected (X.226 6.3)
   pub manages : Bool

@@ -1,4 +1,4 @@
--- Functional units of the session and what they allow (X.225 5.9, 8.3.1.16; X.226 6.3, 6.7).
+-- Functional units of the session and what they allow (X.225 5.9, 8.3.1; X.226 6.3, 6.7).
 use Rattle.std.specs.Prelude.{ℕ, Bool, false, ◌&&◌, ◌||◌, nat_eq, bit_and, Option, Some, None, unwrap_or}
 use Rattle.osi_base.specs.declared.bit_string.BitString.{BitString}
 use Rattle.osi_base.specs.BitString.{has_bit}

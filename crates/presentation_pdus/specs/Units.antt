@@ -77,7 +77,7 @@ is_tag why.Length = false
 is_tag why.Content = false
 is_tag why.Form = false
 
--- the provider's reason (X.226 8.3): 1 for a unit that isn't one of those carried, 6 for another fault
+-- the provider's reason (X.226 8.2): 1 for a unit that isn't one of those carried, 6 for another fault
 abbrev pub reason_of : ℕ → Kind → ℕ
 reason_of at kind = if nat_eq at 0 && is_tag kind then 1 else 6
 

@@ -37,7 +37,7 @@ fn whole(alloc: Global, table: &TypeTable, place: PpduPlace, bytes: &[u8]) -> Re
     }
 }
 
-/// The provider's reason for a fault (X.226 8.3): 1 where the unit isn't one of those carried, else
+/// The provider's reason for a fault (X.226 8.2): 1 where the unit isn't one of those carried, else
 /// 6.
 fn reason_of(place: usize, kind: Kind) -> u8
     ensures { result ≡ reason_of place kind }

@@ -38,7 +38,7 @@ pub enum PpduPlace {
 #[derive(Clone, Copy, Debug, PartialEq, Eq)]
 pub enum PpduFault {
     /// The first field from the left that breaks the grammar stands at this place, counted from 0;
-    /// with the provider's reason for an abort (X.226 8.3): 1, a unit that isn't known there, or 6,
+    /// with the provider's reason for an abort (X.226 8.2): 1, a unit that isn't known there, or 6,
     /// another fault in it.
     At {
         /// The field's first octet, counted from 0.
