@@ -1,4 +1,4 @@
-//! What is wrong with a row by itself.
+//! What is wrong with a row whatever stands before it: bad ranges, and names that stand twice.
 
 ghost use Rattle.std.specs.Prelude.{◌≡◌, ◌↔◌, ℕ, IsTrue, length};
 ghost use Rattle.std.specs.List.{list_any};

@@ -1,4 +1,5 @@
-//! What each unit of the session means (X.225 8.3, X.226 8.2 to 8.4).
+//! What each kind of unit of the session means, by its unit of the presentation (X.225 8.3, X.226
+//! 8.2 to 8.4).
 
 ghost use Rattle.std.specs.Prelude.{◌≡◌, [], IfOk};
 ghost use Rattle.osi_base.specs.OctetPlaces.{HasPlaces};

@@ -1,4 +1,5 @@
-//! What a unit of the session means to an end.
+//! The word that a unit of the session is under the sets of an end, or its fault: which kind it is
+//! decides.
 
 ghost use Rattle.std.specs.Prelude.{◌≡◌, Some, option_map};
 ghost use Rattle.spdu_codec.specs.Places.{user_of};

@@ -1,4 +1,5 @@
-//! Whose values a message carries.
+//! Which layer's values a message carries: association control's, reliable transfer's or the
+//! module's.
 
 /// Of which layer the presentation data values of a message are (X.226 8.4.2, X.227 9, X.228 9,
 /// X.882 9). A value on a context with their abstract syntax is read as one of them, also where

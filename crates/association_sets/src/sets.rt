@@ -1,4 +1,4 @@
-//! Sets of contexts by rising identifier.
+//! Look-ups in a set of contexts, what may be sent on it, a context put into it, and its copy.
 
 ghost use Rattle.std.specs.Prelude.{◌≡◌, IfOk, OnOk, is_some};
 ghost use Rattle.std.specs.Option.{option_copied};

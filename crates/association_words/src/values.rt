@@ -10,9 +10,19 @@ use stub_tables::Apdu;
 #[derive(Debug, Drop)]
 pub enum Information {
     /// An APDU of reliable transfer on the context with this identifier.
-    Transferring { id: u32, apdu: Rtse },
+    Transferring {
+        /// Presentation context identifier, 1 to 32,767.
+        id: u32,
+        /// The APDU.
+        apdu: Rtse,
+    },
     /// Octets on the context with this identifier, which aren't read.
-    Other { id: u32, octets: Octets },
+    Other {
+        /// Presentation context identifier, 1 to 32,767.
+        id: u32,
+        /// The octets: one whole BER value of any type.
+        octets: Octets,
+    },
 }
 
 /// User information in its order.
@@ -27,9 +37,17 @@ pub enum ValueContent {
     Unread(Octets),
     /// An APDU of association control, whose own user information is left empty, and its user
     /// information.
-    Association { apdu: Acse, user: UserInformation },
+    Association {
+        /// The APDU, without its user information.
+        apdu: Acse,
+        /// Its user information.
+        user: UserInformation,
+    },
     /// A plea for the turn, with its priority.
-    Plea { priority: u32 },
+    Plea {
+        /// The priority of the plea, as a number.
+        priority: u32,
+    },
     /// A part of a transfer.
     Part(Octets),
 }
@@ -37,7 +55,7 @@ pub enum ValueContent {
 /// A presentation data value (X.226 8.4.2).
 #[derive(Debug, Drop)]
 pub struct Value {
-    /// The identifier of its context.
+    /// Presentation context identifier, 1 to 32,767.
     pub id: u32,
     /// The pair that the identifier stands for; `None` on a context that isn't there.
     pub pair: Option<Pair>,
@@ -51,7 +69,7 @@ pub type Values = ListOf<Value>;
 /// An APDU on a context, with the pair under which it is written or was read.
 #[derive(Debug, Drop)]
 pub struct TransferItem {
-    /// The identifier of the presentation context.
+    /// Presentation context identifier, 1 to 32,767.
     pub id: u32,
     /// The pair of abstract and transfer syntax under which the APDU is written or was read.
     pub pair: Pair,
@@ -65,7 +83,14 @@ pub enum Arrived {
     /// An APDU.
     Whole(TransferItem),
     /// Octets on a context of the module that spell none.
-    Raw { id: u32, pair: Pair, octets: Octets },
+    Raw {
+        /// Presentation context identifier, 1 to 32,767.
+        id: u32,
+        /// The pair that the identifier stands for.
+        pair: Pair,
+        /// The octets.
+        octets: Octets,
+    },
 }
 
 /// The syntax of a pair, which is BER where there is none.

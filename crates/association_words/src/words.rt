@@ -14,7 +14,7 @@ pub enum TransportUnit {
     ConnectionRequest {
         /// The reference of the end that asks.
         source: u16,
-        /// The code of the greatest size of a unit (X.224 13.3.4).
+        /// The code of the greatest size of a unit (X.224 13.3.4): 7 to 13 for 128 to 8,192 octets.
         size: Option<u8>,
         /// The calling selector.
         calling: Octets,
@@ -25,7 +25,7 @@ pub enum TransportUnit {
     ConnectionConfirm {
         /// The reference of the end that asked.
         destination: u16,
-        /// The code of the greatest size of a unit (X.224 13.3.4).
+        /// The code of the greatest size of a unit (X.224 13.3.4): 7 to 13 for 128 to 8,192 octets.
         size: Option<u8>,
     },
     /// DR, with the reference of the end that it goes to.
@@ -40,13 +40,15 @@ pub enum TransportUnit {
 /// The parameters of an ACCEPT (X.225 8.3.4).
 #[derive(Clone, Copy, Debug, PartialEq, Eq)]
 pub struct Accepting {
-    /// Protocol options (19).
+    /// Protocol options (19), a bit for each: 1 where extended concatenation is read. An end writes
+    /// 0.
     pub options: Option<u8>,
-    /// Version number (22).
+    /// Version number (22), a bit for each: 1 version 1, 2 version 2. An end writes 2.
     pub version: Option<u8>,
-    /// Initial serial number (23).
+    /// Initial serial number (23), 1 to 999,999.
     pub initial: Option<u32>,
-    /// Session user requirements (20).
+    /// Session user requirements (20), a bit for each functional unit: 1 half-duplex, 2 duplex, 8
+    /// minor synchronize, 32 resynchronize, 64 activities, 1,024 typed data.
     pub requirements: Option<u16>,
 }
 
@@ -56,7 +58,10 @@ pub enum AbortData {
     /// It carries nothing.
     NoData,
     /// The reason of the provider of the presentation. A reason below 0 counts as 0.
-    ProviderReason { reason: Option<i64> },
+    ProviderReason {
+        /// Provider reason of the presentation (X.226 8.2.5).
+        reason: Option<i64>,
+    },
     /// Values of the user.
     UserValues(Values),
 }
@@ -84,9 +89,10 @@ pub enum AssociationWord {
     },
     /// RF with CPR: transport disconnect, and the code of the reason.
     Refuse {
-        /// Transport disconnect (17).
+        /// Transport disconnect (17): 1 releases the transport connection. An end writes 1.
         transport: Option<u8>,
-        /// The code of the reason (50).
+        /// The code of the reason (50): 2 is the called user's rejection, with user data behind it.
+        /// An end writes 2.
         reason: Option<u8>,
         /// The fields of the presentation, where there are any.
         presentation: Option<PresentationReject>,
@@ -95,7 +101,7 @@ pub enum AssociationWord {
     },
     /// FN: transport disconnect.
     Finish {
-        /// Transport disconnect (17).
+        /// Transport disconnect (17): 1 releases the transport connection. An end writes 1.
         transport: Option<u8>,
         /// The values of the user data.
         values: Values,
@@ -107,7 +113,8 @@ pub enum AssociationWord {
     },
     /// AB with ARU, ARP or nothing: transport disconnect.
     Abort {
-        /// Transport disconnect (17).
+        /// Transport disconnect (17): 1 release, 2 user abort, 4 protocol error, added up. An end
+        /// writes 3 or 5.
         transport: Option<u8>,
         /// What it carries.
         user: AbortData,
@@ -122,9 +129,17 @@ pub enum DataWord {
     /// DT.
     Values(Values),
     /// TD with AC.
-    AlterContext { add: Proposals, delete: Ids },
+    AlterContext {
+        /// The contexts to add, in their order.
+        add: Proposals,
+        /// Identifiers of the contexts to delete.
+        delete: Ids,
+    },
     /// TD with ACA.
-    AlterContextAck { answers: Answers },
+    AlterContextAck {
+        /// The answers to the additions and to the deletions: one for each, where they fit.
+        answers: Answers,
+    },
 }
 
 /// Marks, restarts and tokens (X.225 8.3.16 to 8.3.25).
@@ -137,31 +152,31 @@ pub enum MarkWord {
     },
     /// MIA.
     MarkAck {
-        /// Serial number (42).
+        /// Serial number (42), 1 to 999,999.
         number: u32,
     },
     /// RS.
     Restart {
-        /// Serial number (42).
+        /// Serial number (42), 1 to 999,999.
         number: u32,
         /// The contexts that are restored, where they are told.
         list: Option<RestoredList>,
     },
     /// RA.
     RestartAck {
-        /// Serial number (42).
+        /// Serial number (42), 1 to 999,999.
         number: u32,
         /// The contexts that are restored, where they are told.
         list: Option<RestoredList>,
     },
     /// GT.
     Give {
-        /// Token item (16).
+        /// Token item (16): 1 data, 4 minor, 16 major or activity, added up. An end writes 4.
         tokens: Option<u8>,
     },
     /// PT.
     Please {
-        /// Token item (16).
+        /// Token item (16): 1 data, 4 minor, 16 major or activity, added up. An end writes 4 or 21.
         tokens: Option<u8>,
         /// The values of the user data.
         values: Values,
@@ -176,19 +191,39 @@ pub enum MarkWord {
 #[derive(Debug, Drop)]
 pub enum ActivityWord {
     /// AS.
-    Start { activity: u32 },
+    Start {
+        /// Activity number (41), 1 to 999,999.
+        activity: u32,
+    },
     /// AR, with the number of the mark.
-    Resume { activity: u32, mark: u32 },
+    Resume {
+        /// Activity number (41), 1 to 999,999.
+        activity: u32,
+        /// The mark's number, 0 to 999,999.
+        mark: u32,
+    },
     /// AE.
-    End { number: u32 },
+    End {
+        /// Serial number (42), 1 to 999,999.
+        number: u32,
+    },
     /// AEA.
-    EndAck { number: u32 },
+    EndAck {
+        /// Serial number (42), 1 to 999,999.
+        number: u32,
+    },
     /// AI.
-    Interrupt { reason: Option<u8> },
+    Interrupt {
+        /// Reason (50): 0 no reason, which an end writes; others as X.225 numbers them.
+        reason: Option<u8>,
+    },
     /// AIA.
     InterruptAck,
     /// AD.
-    Discard { reason: Option<u8> },
+    Discard {
+        /// Reason (50): 0 no reason, which an end writes; others as X.225 numbers them.
+        reason: Option<u8>,
+    },
     /// ADA.
     DiscardAck,
 }

@@ -1,4 +1,4 @@
-//! The tests of single tokens.
+//! Tests of single tokens: same names, bad ranges, sizes and tags.
 
 ghost use Rattle.std.specs.Prelude.{◌≡◌};
 ghost use Rattle.std.specs.Str.{bytes_eq};

@@ -1,4 +1,4 @@
-//! Which types name which.
+//! The types that each assignment names, as lists of places.
 
 ghost use Rattle.std.specs.Prelude.{◌≡◌, ◌++◌, length, IfOk, OnOk};
 ghost use Rattle.osi_base.specs.Limits.{most_type_levels};

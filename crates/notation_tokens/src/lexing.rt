@@ -1,4 +1,4 @@
-//! Lexing a text.
+//! The tokens of a text, or its first fault.
 
 ghost use Rattle.std.specs.Prelude.{◌≡◌, ◌≤◌, length, IfOk, IfErr};
 ghost use Rattle.notation_tokens.specs.Texts.{Answers, fault_at, tokens_of};

@@ -1,4 +1,4 @@
-//! Cutting a text into tokens.
+//! How a text is cut from the left into tokens, white space and comments, up to where that stops.
 
 ghost use Rattle.std.specs.Prelude.{◌≡◌, ◌≤◌, ◌<◌, ◌+◌, ◌^◌, length, IfOk};
 ghost use Rattle.osi_base.specs.Limits.{most_module_octets};

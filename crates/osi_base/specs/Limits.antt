@@ -130,7 +130,7 @@ most_short_data = 512
 abbrev pub most_connect_data : ℕ
 most_connect_data = 10240
 
--- the last number of an activity (X.225 in this project's profile writes at most six digits)
+-- the last number of an activity: six digits, as X.225 is used here
 abbrev pub last_activity : ℕ
 last_activity = 999999
 

@@ -1,4 +1,4 @@
-//! Calls that are to fail.
+//! Which calls of an object in memory are to fail, and how many failed.
 
 ghost use Rattle.std.specs.Prelude.{◌≡◌, ◌↔◌, ◌+◌, ◌≤◌, min, IsTrue, Contains, if◌then◌else◌};
 ghost use Rattle.osi_base.specs.Limits.{last_count};

@@ -1,8 +1,9 @@
-//! The words that all layers of the stack share: octets and queues of them, names, object
-//! identifiers, transfer syntaxes, pairs, places in sets of contexts, kinds of fault, and how
-//! faults print; units of the session and of the presentation protocol, and APDUs of association
-//! control and of reliable transfer, as types; the traits of the outside, and files, sinks and
-//! lines in memory that fail where they are told to.
+//! The words that all layers of the stack share: octets and queues of them, hexadecimal digits,
+//! names, object identifiers, transfer syntaxes, pairs, look-ups and places in sets of contexts,
+//! sides, layers, kinds of fault, and how faults print; units of the session and of the
+//! presentation protocol, and APDUs of association control and of reliable transfer, as types;
+//! limits, as definitions; the traits of the outside: the real files, output and TCP, and files,
+//! sinks and lines in memory that fail where they are told to.
 #![tactic(auto)]
 
 mod acse_word;

@@ -10,15 +10,18 @@ pub struct SessionConnect {
     pub calling_reference: Option<Octets>,
     /// Connection identifier, common reference (11).
     pub common_reference: Option<Octets>,
-    /// Protocol options (19).
+    /// Protocol options (19), a bit for each: 1 where extended concatenation is read. An end writes
+    /// 0.
     pub options: Option<u8>,
-    /// Version number (22).
+    /// Version number (22), a bit for each: 1 version 1, 2 version 2. An end writes 2.
     pub version: Option<u8>,
     /// Initial serial number (23), 1 to 999,999.
     pub initial: Option<u32>,
-    /// Token setting (26).
+    /// Token setting (26), two bits for each token, from the low end data, minor, major or
+    /// activity, release: 1 puts it at the responder.
     pub token_setting: Option<u8>,
-    /// Session user requirements (20).
+    /// Session user requirements (20), a bit for each functional unit: 1 half-duplex, 2 duplex, 8
+    /// minor synchronize, 32 resynchronize, 64 activities, 1,024 typed data.
     pub requirements: Option<u16>,
     /// Calling session selector (51).
     pub calling: Option<Octets>,
@@ -35,29 +38,32 @@ pub enum SessionWord {
     Connect(SessionConnect),
     /// ACCEPT, AC.
     Accept {
-        /// Protocol options (19).
+        /// Protocol options (19), a bit for each: 1 where extended concatenation is read. An end
+        /// writes 0.
         options: Option<u8>,
-        /// Version number (22).
+        /// Version number (22), a bit for each: 1 version 1, 2 version 2. An end writes 2.
         version: Option<u8>,
         /// Initial serial number (23), 1 to 999,999.
         initial: Option<u32>,
-        /// Session user requirements (20).
+        /// Session user requirements (20), a bit for each functional unit: 1 half-duplex, 2 duplex,
+        /// 8 minor synchronize, 32 resynchronize, 64 activities, 1,024 typed data.
         requirements: Option<u16>,
         /// User data (193).
         user: Octets,
     },
     /// REFUSE, RF.
     Refuse {
-        /// Transport disconnect (17).
+        /// Transport disconnect (17): 1 releases the transport connection. An end writes 1.
         transport: Option<u8>,
-        /// The code of the reason (50).
+        /// The code of the reason (50): 2 is the called user's rejection, with user data behind it.
+        /// An end writes 2.
         reason: Option<u8>,
         /// The user data of the reason (50).
         user: Option<Octets>,
     },
     /// FINISH, FN.
     Finish {
-        /// Transport disconnect (17).
+        /// Transport disconnect (17): 1 releases the transport connection. An end writes 1.
         transport: Option<u8>,
         /// User data (193).
         user: Octets,
@@ -69,7 +75,8 @@ pub enum SessionWord {
     },
     /// ABORT, AB.
     Abort {
-        /// Transport disconnect (17).
+        /// Transport disconnect (17): 1 release, 2 user abort, 4 protocol error, added up. An end
+        /// writes 3 or 5.
         transport: Option<u8>,
         /// User data (193).
         user: Option<Octets>,
@@ -78,12 +85,13 @@ pub enum SessionWord {
     AbortAccept,
     /// GIVE TOKENS, GT.
     GiveTokens {
-        /// Token item (16).
+        /// Token item (16): 1 data, 4 minor, 16 major or activity, added up. An end writes 4, or no
+        /// item in front of another unit.
         tokens: Option<u8>,
     },
     /// PLEASE TOKENS, PT.
     PleaseTokens {
-        /// Token item (16).
+        /// Token item (16): 1 data, 4 minor, 16 major or activity, added up. An end writes 4 or 21.
         tokens: Option<u8>,
         /// User data (193).
         user: Option<Octets>,
@@ -109,19 +117,19 @@ pub enum SessionWord {
     },
     /// MINOR SYNC ACK, MIA.
     MarkAck {
-        /// Serial number (42).
+        /// Serial number (42), 1 to 999,999.
         number: u32,
     },
     /// RESYNCHRONIZE, RS, as a restart.
     Resynchronize {
-        /// Serial number (42).
+        /// Serial number (42), 1 to 999,999.
         number: u32,
         /// User data (193).
         user: Option<Octets>,
     },
     /// RESYNCHRONIZE ACK, RA.
     ResynchronizeAck {
-        /// Serial number (42).
+        /// Serial number (42), 1 to 999,999.
         number: u32,
         /// User data (193).
         user: Option<Octets>,
@@ -133,33 +141,33 @@ pub enum SessionWord {
     },
     /// ACTIVITY RESUME, AR.
     ActivityResume {
-        /// Activity identifier (41), which is the old one too.
+        /// Activity identifier (41), which is the old one too, 1 to 999,999.
         activity: u32,
         /// The serial number of the mark (42 of 33), 0 to 999,999.
         mark: u32,
     },
     /// ACTIVITY INTERRUPT, AI.
     ActivityInterrupt {
-        /// Reason (50).
+        /// Reason (50): 0 no reason, which an end writes; others as X.225 numbers them.
         reason: Option<u8>,
     },
     /// ACTIVITY INTERRUPT ACK, AIA.
     ActivityInterruptAck,
     /// ACTIVITY DISCARD, AD.
     ActivityDiscard {
-        /// Reason (50).
+        /// Reason (50): 0 no reason, which an end writes; others as X.225 numbers them.
         reason: Option<u8>,
     },
     /// ACTIVITY DISCARD ACK, ADA.
     ActivityDiscardAck,
     /// ACTIVITY END, AE.
     ActivityEnd {
-        /// Serial number (42).
+        /// Serial number (42), 1 to 999,999.
         number: u32,
     },
     /// ACTIVITY END ACK, AEA.
     ActivityEndAck {
-        /// Serial number (42).
+        /// Serial number (42), 1 to 999,999.
         number: u32,
     },
 }

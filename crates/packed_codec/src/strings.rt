@@ -1,4 +1,4 @@
-//! Values of one field, and values behind a size: numbers and strings.
+//! Reading values of one field, and values behind a size: numbers and strings.
 
 ghost use Rattle.std.specs.Prelude.{◌≡◌, ◌≤◌, length, IfOk};
 ghost use Rattle.osi_base.specs.OctetPlaces.{HasPlaces};
