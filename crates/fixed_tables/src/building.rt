@@ -10,7 +10,7 @@ use osi_base::{ListOf, Name, NoMemory};
 use std::alloc::Global;
 
 /// A part of this name, whose type is this row.
-pub fn part(alloc: Global, name: &str, row: u32, optional: bool) -> Result<Part, NoMemory>
+fn part(alloc: Global, name: &str, row: u32, optional: bool) -> Result<Part, NoMemory>
     ensures { IfOk result (λ p. p ≡ part name.now row optional) }
 {
     Ok(Part {
@@ -19,13 +19,6 @@ pub fn part(alloc: Global, name: &str, row: u32, optional: bool) -> Result<Part,
         optional,
         default: None,
     })
-}
-
-/// The parts of a vector, which is taken as it is.
-pub fn parts_of(parts: Vec<Part>) -> Parts
-    ensures { result ≡ parts.items }
-{
-    ListOf::from_vec(parts)
 }
 
 /// The parts that are told, each by its name, the row of its type, and whether it may be absent.

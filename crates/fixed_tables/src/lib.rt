@@ -11,7 +11,7 @@ mod pdvs;
 mod reasons;
 mod values;
 
-pub use building::{explicit, implicit, joined_rows, part, parts, parts_of, table_of, tagged};
+pub use building::{explicit, implicit, joined_rows, parts, table_of, tagged};
 pub use laws::{spelled_is_whole, whole_is_spelled};
 pub use lists::{InValue, list_in, list_of};
 pub use making::{

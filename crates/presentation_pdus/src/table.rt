@@ -1,11 +1,10 @@
 //! The fixed table of the units of the presentation protocol.
 
-ghost use Rattle.std.specs.Prelude.{◌≡◌, ◌++◌, [], map, IfOk};
-ghost use Rattle.fixed_tables.specs.Rows.{part};
+ghost use Rattle.std.specs.Prelude.{◌≡◌, ◌++◌, [], IfOk};
 ghost use Rattle.presentation_pdus.specs.Rows.{content_parts, pdv_parts, definition_parts, answer_parts, restored_parts, mode_parts, connect_fields_parts, connect_parts, accept_fields_parts, accept_parts, reject_parts, alter_parts, alter_ack_parts, restart_parts, user_abort_parts, provider_abort_parts, rows_of_values, rows_of_definitions, rows_of_fields, rows_of_connections, rows_of_alterations, rows_of_restarts, ppdu_rows};
 
 use asn1_types::{Class, Parts, TypeId, TypeRow, TypeTable};
-use fixed_tables::{implicit, joined_rows, part, parts_of, table_of, tagged};
+use fixed_tables::{implicit, joined_rows, parts, table_of, tagged};
 use osi_base::NoMemory;
 use std::alloc::Global;
 use std::marker::Model;
@@ -25,17 +24,6 @@ impl Model for PpduTable {
     ghost view = { λ table. tt };
 
     ghost invariant = { λ table. table.types ≡ ppdu_rows };
-}
-
-/// The parts that are told, each by its name, the row of its type, and whether it may lack.
-fn parts(alloc: Global, told: &[(&str, u32, bool)]) -> Result<Parts, NoMemory>
-    ensures { IfOk result (λ parts. parts ≡ map (λ t. part t.0.now t.1 t.2) told.now) }
-{
-    let mut parts = Vec::new(alloc);
-    for (name, row, optional) in told {
-        parts.push(part(alloc, name, *row, *optional)?)?;
-    }
-    Ok(parts_of(parts))
 }
 
 fn content_parts(alloc: Global) -> Result<Parts, NoMemory>
