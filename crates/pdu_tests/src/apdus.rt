@@ -152,6 +152,8 @@ fn first_faults_of_apdus(rt: HostRuntime) -> Result<(), Fail> {
         ("65 00", 0, Kind::Tag),
         // a title whose contents are an identifier without its length, and no context name
         ("60 03 A2 01 05", 5, Kind::Missing),
+        // a whole title, and no context name behind it
+        ("60 04 A2 02 05 00", 6, Kind::Missing),
         // a result of 3, where 2 is the greatest
         (
             "61 14 A1 06 06 04 88 37 05 03 A2 03 02 01 03 A3 05 A1 03 02 01 00",
