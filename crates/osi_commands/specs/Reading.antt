@@ -17,6 +17,11 @@ use Rattle.osi_commands.specs.Answers.{unread_answer, module_answer, KeepsCount}
 -- The names here: what the files tell is `told`, their count of faults `old` before the call and `new` after
 -- it; the names that were asked for are `before` and `after`.
 
+-- The files' count doesn't fall, and what they tell stays the same.
+pub record KeepsFiles (told_old told_new : Option FileMap) (old new : ℕ) : Type 0 where
+  pub count : old ≤ new
+  pub kept : told_new ≡ told_old
+
 -- ---- one file
 
 -- What came of reading the file of a name: octets, which are those of a told map; or nothing, since the

@@ -1,9 +1,9 @@
 //! The command `check`: what words and files make of it.
 
-ghost use Rattle.std.specs.Prelude.{◌≡◌, ◌≤◌, IfOk, OnOk, OnErr};
+ghost use Rattle.std.specs.Prelude.{◌≡◌, IfOk, OnOk, OnErr};
 ghost use Rattle.osi_base.specs.Outside.{logged};
 ghost use Rattle.osi_commands.specs.Answers.{KeepsCount};
-ghost use Rattle.osi_commands.specs.Reading.{MayAsk};
+ghost use Rattle.osi_commands.specs.Reading.{KeepsFiles, MayAsk};
 ghost use Rattle.osi_commands.specs.Given.{check_given};
 ghost use Rattle.osi_commands.specs.Checking.{checked_answer, ChecksOctets, Checks};
 
@@ -43,8 +43,8 @@ pub fn answer_check<F: Files>(
     check: Check<'_>,
     files: &mut F,
 ) -> Result<Answer, NoMemory>
-    ensures count { F.faults files.old ≤ F.faults files.new }
-    ensures kept { F.told files.new ≡ F.told files.old }
+    ensures files { KeepsFiles (F.told files.old) (F.told files.new) (F.faults files.old)
+        (F.faults files.new) }
     ensures answer { IfOk result (λ answer. Checks (F.told files.old) (F.faults files.old)
         (F.faults files.new) (check_given check.entry) answer) }
     ensures counts { IfOk result (λ answer. KeepsCount (F.faults files.old) (F.faults files.new)

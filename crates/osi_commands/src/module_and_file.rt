@@ -1,11 +1,11 @@
 //! The commands `replay` and `trace`: the module is read, then the second file, which is answered
 //! by the module's tables.
 
-ghost use Rattle.std.specs.Prelude.{◌≡◌, ◌≤◌, IfOk, OnErr};
+ghost use Rattle.std.specs.Prelude.{◌≡◌, IfOk, OnErr};
 ghost use Rattle.packed_codec.specs.Laws.{HasNoAny};
 ghost use Rattle.osi_commands.specs.Answers.{KeepsCount};
 ghost use Rattle.osi_commands.specs.Given.{pair_given};
-ghost use Rattle.osi_commands.specs.Reading.{AsksPair, PairAsked};
+ghost use Rattle.osi_commands.specs.Reading.{KeepsFiles, AsksPair, PairAsked};
 ghost use Rattle.osi_commands.specs.Pairs.{SecondBy, AnswersPair};
 
 use crate::answers::Answer;
@@ -39,8 +39,8 @@ pub fn answer_pair<F: Files>(
     pair: FilePair<'_>,
     files: &mut F,
 ) -> Result<Answer, NoMemory>
-    ensures count { F.faults files.old ≤ F.faults files.new }
-    ensures kept { F.told files.new ≡ F.told files.old }
+    ensures files { KeepsFiles (F.told files.old) (F.told files.new) (F.faults files.old)
+        (F.faults files.new) }
     ensures answer { IfOk result (λ answer. AnswersPair (F.told files.old) (F.faults files.old)
         (F.faults files.new) (pair_given pair.entry) answer) }
     ensures counts { IfOk result (λ answer. KeepsCount (F.faults files.old) (F.faults files.new)

@@ -1,10 +1,10 @@
 //! The files of a command.
 
-ghost use Rattle.std.specs.Prelude.{◌≡◌, ◌≤◌, IfOk, OnOk, OnErr};
+ghost use Rattle.std.specs.Prelude.{◌≡◌, IfOk, OnOk, OnErr};
 ghost use Rattle.osi_base.specs.Outside.{logged};
 ghost use Rattle.osi_commands.specs.Given.{pair_given};
 ghost use Rattle.packed_codec.specs.Laws.{HasNoAny};
-ghost use Rattle.osi_commands.specs.Reading.{WasRead, KeepsCountAt, KeepsCountFor, MayAsk, ReadsSecond, ReadsPair, IsTyped, AsksPair, PairAskedFor};
+ghost use Rattle.osi_commands.specs.Reading.{KeepsFiles, WasRead, KeepsCountAt, KeepsCountFor, MayAsk, ReadsSecond, ReadsPair, IsTyped, AsksPair, PairAskedFor};
 
 use crate::answers::{Answer, cannot_read, module_refused};
 use crate::commands::FilePair;
@@ -29,8 +29,8 @@ pub fn read_file<F: Files>(
     files: &mut F,
     name: &Name,
 ) -> Result<Option<Octets>, NoMemory>
-    ensures count { F.faults files.old ≤ F.faults files.new }
-    ensures kept { F.told files.new ≡ F.told files.old }
+    ensures files { KeepsFiles (F.told files.old) (F.told files.new) (F.faults files.old)
+        (F.faults files.new) }
     ensures read { IfOk result (λ octets. WasRead (F.told files.old) (F.faults files.old)
         (F.faults files.new) name.now octets) }
     ensures ok_count { IfOk result (λ octets. KeepsCountAt (F.faults files.old) (F.faults files.new)
@@ -58,8 +58,8 @@ fn read_second<F: Files>(
     files: &mut F,
 ) -> Result<PairRead, NoMemory>
     requires typed { HasNoAny tables.types }
-    ensures count { F.faults files.old ≤ F.faults files.new }
-    ensures kept { F.told files.new ≡ F.told files.old }
+    ensures files { KeepsFiles (F.told files.old) (F.told files.new) (F.faults files.old)
+        (F.faults files.new) }
     ensures typed { IfOk result IsTyped }
     ensures read { IfOk result (λ read. ReadsSecond tables (F.told files.old) (F.faults files.old)
         (F.faults files.new) name.now read) }
@@ -84,8 +84,8 @@ pub fn read_pair<F: Files>(
     pair: FilePair<'_>,
     files: &mut F,
 ) -> Result<PairRead, NoMemory>
-    ensures count { F.faults files.old ≤ F.faults files.new }
-    ensures kept { F.told files.new ≡ F.told files.old }
+    ensures files { KeepsFiles (F.told files.old) (F.told files.new) (F.faults files.old)
+        (F.faults files.new) }
     ensures typed { IfOk result IsTyped }
     ensures read { IfOk result (λ read. ReadsPair (F.told files.old) (F.faults files.old)
         (F.faults files.new) (pair_given pair.entry) read) }

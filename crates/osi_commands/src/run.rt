@@ -7,6 +7,7 @@ ghost use Rattle.osi_commands.specs.declared.commands.Work.TheVariants as works;
 ghost use Rattle.osi_commands.specs.Answers.{KeepsCount, Closes, IsBegun, IsUnless, CountsFiles, CountsWrites};
 ghost use Rattle.osi_commands.specs.Commands.{FilePair, checks, pairs, command_of};
 ghost use Rattle.osi_commands.specs.Given.{given};
+ghost use Rattle.osi_commands.specs.Reading.{KeepsFiles};
 ghost use Rattle.osi_commands.specs.Checking.{CheckEnds};
 ghost use Rattle.osi_commands.specs.Pairs.{PairEnds, IsReplayDone};
 ghost use Rattle.osi_commands.specs.Run.{IsAnswer, IsUsage, Asks, AskedBy, AskedAtEnd};
@@ -24,8 +25,8 @@ fn answer_command<F: Files>(
     command: Command<'_>,
     files: &mut F,
 ) -> Result<Answer, NoMemory>
-    ensures count { F.faults files.old ≤ F.faults files.new }
-    ensures kept { F.told files.new ≡ F.told files.old }
+    ensures files { KeepsFiles (F.told files.old) (F.told files.new) (F.faults files.old)
+        (F.faults files.new) }
     ensures answer { IfOk result (λ answer. IsAnswer (F.told files.old) (F.faults files.old)
         (F.faults files.new) (Some (given command.entry)) answer) }
     ensures counts { IfOk result (λ answer. KeepsCount (F.faults files.old) (F.faults files.new)
@@ -44,8 +45,8 @@ fn answer_command<F: Files>(
 
 /// What the program answers to words.
 fn answer_words<F: Files>(alloc: Global, words: &Words, files: &mut F) -> Result<Answer, NoMemory>
-    ensures count { F.faults files.old ≤ F.faults files.new }
-    ensures kept { F.told files.new ≡ F.told files.old }
+    ensures files { KeepsFiles (F.told files.old) (F.told files.new) (F.faults files.old)
+        (F.faults files.new) }
     ensures answer { IfOk result (λ answer. IsAnswer (F.told files.old) (F.faults files.old)
         (F.faults files.new) (command_of words.now) answer) }
     ensures counts { IfOk result (λ answer. KeepsCount (F.faults files.old) (F.faults files.new)

@@ -10,7 +10,7 @@ returns-in_err-read-in-Ok-clause-asked g c =
 pub returns-in-Ok-clause-read : goal.returns-in-Ok-clause-read
 returns-in-Ok-clause-read g c =
     module_found (g.F.Files.told c.args.files.now) (g.F.Files.told c.read_file.new.files) (g.F.Files.faults c.args.files.now) (g.F.Files.faults c.read_file.new.files) (g.F.Files.faults c.read_second.new.files) (pair_given c.args.pair) c.in_ok-text.field-0 c.in-Some.text c.as_slice-octets.result.now c.in-Ok.tables c.in_ok-read-in-Ok.read
-    c.in_ok-text.ensures.read c.in-Some.is c.in_ok-text.ensures.ok_count c.in_ok-text.ensures.kept c.as_slice-octets.ensures c.in-Ok.ensures.found c.in_ok-read-in-Ok.ensures.read
+    c.in_ok-text.ensures.read c.in-Some.is c.in_ok-text.ensures.ok_count c.in_ok-text.ensures.files.kept c.as_slice-octets.ensures c.in-Ok.ensures.found c.in_ok-read-in-Ok.ensures.read
 
 pub returns-in-Ok-clause-asked : goal.returns-in-Ok-clause-asked
 returns-in-Ok-clause-asked g c =
