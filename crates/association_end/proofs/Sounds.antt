@@ -11,6 +11,7 @@ use Rattle.osi_base.specs.declared.session_word.SessionWord.{SessionWord}
 use Rattle.osi_base.specs.declared.session_word.SessionWord.TheVariants as units
 use Rattle.std.specs.Prelude.{Result, Ok, Err}
 use Rattle.association_reading.specs.Front.{Front, OfSession, Intake, leading, start_of, fronts_of_units, fronts_of, all_fronts, with_octets, without_first, behind_first}
+use Rattle.osi_base.specs.Limits.{IsUnitSize}
 use Rattle.association_end.specs.View.{EndView}
 use Rattle.association_end.specs.Sound.{AreMessages, HasMessages, Listens, IsSoundEnd}
 use Rattle.dialogue.specs.declared.config.Phase.{Phase}
@@ -80,8 +81,7 @@ sound_in : (e : EndView) (body : Body) → IsSoundEnd e → Listens (passes_over
 sound_in e body s l = record {
   associated = s.associated;
   accepted = s.accepted;
-  least = s.least;
-  most = s.most;
+  sized = s.sized;
   messages = s.messages;
   listens = l;
 }
@@ -105,43 +105,39 @@ pub sound_waiting : (e : EndView) (waiting : List ℕ) → IsSoundEnd e → IsSo
 sound_waiting e waiting s = record {
   associated = s.associated;
   accepted = s.accepted;
-  least = s.least;
-  most = s.most;
+  sized = s.sized;
   messages = s.messages;
   listens = s.listens;
 }
 
-pub sound_size : (e : EndView) (size : ℕ) → IsSoundEnd e → 128 ≤ size → size ≤ 65531 → IsSoundEnd (with_line (record e.end.line { size = size }) e)
-sound_size e size s least most = record {
+pub sound_size : (e : EndView) (size : ℕ) → IsSoundEnd e → IsUnitSize size → IsSoundEnd (with_line (record e.end.line { size = size }) e)
+sound_size e size s sized = record {
   associated = s.associated;
   accepted = s.accepted;
-  least = least;
-  most = most;
+  sized = sized;
   messages = s.messages;
   listens = s.listens;
 }
 
 -- with another line, which looks at what comes
-pub sound_line : (e : EndView) (body : Body) (line : Line) → IsSoundEnd e → 128 ≤ line.size → line.size ≤ 65531 → HasMessages line.came → IsSome line.came → IsSoundEnd (with_line line (with_body body e))
-sound_line e body line s least most messages some = record {
+pub sound_line : (e : EndView) (body : Body) (line : Line) → IsSoundEnd e → IsUnitSize line.size → HasMessages line.came → IsSome line.came → IsSoundEnd (with_line line (with_body body e))
+sound_line e body line s sized messages some = record {
   associated = s.associated;
   accepted = s.accepted;
-  least = least;
-  most = most;
+  sized = sized;
   messages = messages;
   listens = listens_some (passes_over body.link.phase) line.came some;
 }
 
 pub sound_came : (e : EndView) (came : Option Intake) → IsSoundEnd e → HasMessages came → IsSome came → IsSoundEnd (with_came came e)
-sound_came e came s messages some = sound_line e e.end.body (record e.end.line { came = came }) s s.least s.most messages some
+sound_came e came s messages some = sound_line e e.end.body (record e.end.line { came = came }) s s.sized messages some
 
 -- an end that is over looks at nothing
 pub sound_deaf : (e : EndView) → IsSoundEnd e → passes_over e.end.body.link.phase ≡ true → IsSoundEnd (with_came None e)
 sound_deaf e s over = record {
   associated = s.associated;
   accepted = s.accepted;
-  least = s.least;
-  most = s.most;
+  sized = s.sized;
   messages = tt;
   listens = listens_over (passes_over e.end.body.link.phase) None over;
 }
@@ -176,8 +172,7 @@ pub sound_lost : (e : EndView) (came : Option Intake) → IsSoundEnd e → HasMe
 sound_lost e came s messages = record {
   associated = s.associated;
   accepted = s.accepted;
-  least = s.least;
-  most = s.most;
+  sized = s.sized;
   messages = messages;
   listens = tt;
 }

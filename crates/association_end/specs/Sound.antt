@@ -1,6 +1,6 @@
 -- What holds of every end. No public clause cites this module.
 use Rattle.std.specs.Prelude.{◌≡◌, ◌≤◌, List, [], ◌∷◌, Bool, true, false, Option, Some, None, IsSome}
-use Rattle.osi_base.specs.Limits.{unit_least, unit_most}
+use Rattle.osi_base.specs.Limits.{IsUnitSize}
 use Rattle.end_rules.specs.Base.{is_bare}
 use Rattle.end_rules.specs.State.{passes_over}
 use Rattle.end_config.specs.Refusing.{config_refusal}
@@ -29,7 +29,6 @@ Listens false came = IsSome came
 pub record IsSoundEnd (e : EndView) : Type 0 where
   pub associated : is_bare e.config.mode ≡ false
   pub accepted : config_refusal e.config ≡ None
-  pub least : unit_least ≤ e.end.line.size
-  pub most : e.end.line.size ≤ unit_most
+  pub sized : IsUnitSize e.end.line.size
   pub messages : HasMessages e.end.line.came
   pub listens : Listens (passes_over e.end.body.link.phase) e.end.line.came

@@ -1,7 +1,7 @@
 //! How many octets a DT has at most (X.224 13.3.4, RFC 1006 5).
 
 ghost use Rattle.std.specs.Prelude.{◌≡◌, ◌≤◌, ◌^◌};
-ghost use Rattle.osi_base.specs.Limits.{unit_least, unit_most, named_most};
+ghost use Rattle.osi_base.specs.Limits.{IsUnitSize, unit_least, named_most};
 ghost use Rattle.end_rules.specs.TakesTransport.{is_size, octets_of_size};
 ghost use Rattle.association_line.specs.Line as line;
 ghost use Rattle.association_intake.specs.Seen.{seen_front};
@@ -13,8 +13,7 @@ use association_words::TransportUnit;
 /// How many octets a DT has at most where no size is named.
 pub(crate) fn first_size(initiator: bool) -> u32
     ensures is { result ≡ line.first_size initiator }
-    ensures least { unit_least ≤ result }
-    ensures most { result ≤ unit_most }
+    ensures sized { IsUnitSize result }
 {
     if initiator { 128 } else { 65_531 }
 }
@@ -47,13 +46,10 @@ fn octets_of(code: u8) -> u32
 
 /// The size that the code names, where it is one; else this one.
 fn size_named(first: u32, before: u32, code: Option<u8>) -> u32
-    requires first_least { unit_least ≤ first }
-    requires first_most { first ≤ unit_most }
-    requires least { unit_least ≤ before }
-    requires most { before ≤ unit_most }
+    requires first_sized { IsUnitSize first }
+    requires sized { IsUnitSize before }
     ensures is { result ≡ line.size_named first before code }
-    ensures least { unit_least ≤ result }
-    ensures most { result ≤ unit_most }
+    ensures sized { IsUnitSize result }
 {
     match code {
         None => first,
@@ -69,13 +65,10 @@ fn size_named(first: u32, before: u32, code: Option<u8>) -> u32
 
 /// The size once what stands first is taken.
 pub(crate) fn size_with(first: u32, before: u32, front: &Front) -> u32
-    requires first_least { unit_least ≤ first }
-    requires first_most { first ≤ unit_most }
-    requires least { unit_least ≤ before }
-    requires most { before ≤ unit_most }
+    requires first_sized { IsUnitSize first }
+    requires sized { IsUnitSize before }
     ensures is { result ≡ size_of_front first before (seen_front front.now) }
-    ensures least { unit_least ≤ result }
-    ensures most { result ≤ unit_most }
+    ensures sized { IsUnitSize result }
 {
     match front {
         Front::OfTransport(TransportUnit::ConnectionRequest { size, .. }) => {

@@ -1,7 +1,7 @@
 //! What an end does with what stands first.
 
-ghost use Rattle.std.specs.Prelude.{◌≡◌, ◌≤◌, IfOk, OnErr, MatchResult, false, true};
-ghost use Rattle.osi_base.specs.Limits.{unit_least, unit_most};
+ghost use Rattle.std.specs.Prelude.{◌≡◌, IfOk, OnErr, MatchResult, false, true};
+ghost use Rattle.osi_base.specs.Limits.{IsUnitSize};
 ghost use Rattle.end_rules.specs.State.{passes_over};
 ghost use Rattle.association_intake.specs.Seen.{seen_front, IsPlaced, TakesFirst};
 ghost use Rattle.association_end.specs.Progress.{Keeps};
@@ -53,8 +53,7 @@ impl<'t> End<'t> {
     fn size_with(&self, front: &Front) -> u32
         ensures is { result ≡ size_of_front (line.first_size self.now.config.initiator)
             self.now.end.line.size (seen_front front.now) }
-        ensures least { unit_least ≤ result }
-        ensures most { result ≤ unit_most }
+        ensures sized { IsUnitSize result }
     {
         size_with(first_size(self.basis.config.initiator), self.size, front)
     }

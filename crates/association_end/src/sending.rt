@@ -1,7 +1,7 @@
 //! Messages that an end sends.
 
-ghost use Rattle.std.specs.Prelude.{◌≡◌, ◌≤◌, [], ◌∷◌, IfOk, OnOk, OnErr};
-ghost use Rattle.osi_base.specs.Limits.{unit_least, unit_most};
+ghost use Rattle.std.specs.Prelude.{◌≡◌, [], ◌∷◌, IfOk, OnOk, OnErr};
+ghost use Rattle.osi_base.specs.Limits.{IsUnitSize};
 ghost use Rattle.association_words.specs.Seen.{seen_message};
 ghost use Rattle.association_answers.specs.Reacted.{seen_messages};
 ghost use Rattle.association_writing.specs.Room.{MayStand};
@@ -23,8 +23,7 @@ fn write_all(
     size: u32,
     messages: &[Message],
 ) -> Result<Octets, NoMemory>
-    requires least { unit_least ≤ size }
-    requires most { size ≤ unit_most }
+    requires sized { IsUnitSize size }
     requires room { AllMayStand (seen_messages messages.now) }
     ensures { IfOk result (λ octets. octets ≡ all_written tables.now size
         (seen_messages messages.now)) }

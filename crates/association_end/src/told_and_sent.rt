@@ -1,7 +1,7 @@
 //! What an end tells and sends for a message.
 
-ghost use Rattle.std.specs.Prelude.{◌≡◌, ◌≤◌, ◌++◌, true, List, OnOk, OnErr, MatchResult, Some, None};
-ghost use Rattle.osi_base.specs.Limits.{unit_least, unit_most};
+ghost use Rattle.std.specs.Prelude.{◌≡◌, ◌++◌, true, List, OnOk, OnErr, MatchResult, Some, None};
+ghost use Rattle.osi_base.specs.Limits.{IsUnitSize};
 ghost use Rattle.dialogue.specs.declared.indication.Indication.{Indication};
 ghost use Rattle.end_rules.specs.State.{passes_over};
 ghost use Rattle.association_answers.specs.Reacted.{seen_messages};
@@ -26,8 +26,7 @@ fn show(shown: &mut Indications, told: Indications) -> Result<(), NoMemory>
 impl<'t> End<'t> {
     /// Answers a message that is taken.
     fn answer(&mut self, taken: Brought, size: u32, shown: &mut Indications) -> Result<(), NoMemory>
-        requires least { unit_least ≤ size }
-        requires most { size ≤ unit_most }
+        requires sized { IsUnitSize size }
         requires room { AllMayStand (seen_messages taken.answers) }
         ensures ok { OnOk result (Settles self.old self.new (sending (seen_messages taken.answers)
             (with_line (record self.old.end.line { size = size }) self.old)) shown.old shown.new
@@ -70,8 +69,7 @@ impl<'t> End<'t> {
         size: u32,
         shown: &mut Indications,
     ) -> Result<bool, NoMemory>
-        requires least { unit_least ≤ size }
-        requires most { size ≤ unit_most }
+        requires sized { IsUnitSize size }
         requires room { AllMayStand (sent_for reaction) }
         requires over { IsOverFor reaction self.old }
         ensures { MatchResult result (λ more. SettlesFor reaction size self.old self.new shown.old

@@ -19,7 +19,8 @@ use Rattle.reliable_model.specs.Goes as goes_
 use Rattle.outcome_laws.specs.Deals.{Dealings, on_dealt, loses}
 use Rattle.outcome_laws.specs.Deals as deals_
 use Rattle.association_reading.specs.Front.{Intake, with_octets}
-use Rattle.association_worlds.specs.Lines.{IsSize, more_came}
+use Rattle.association_worlds.specs.Lines.{more_came}
+use Rattle.osi_base.specs.Limits.{IsUnitSize}
 use Rattle.association_worlds.specs.Ways.{Way}
 use Rattle.association_worlds.specs.Laws.{IsMeant}
 use Rattle.association_worlds.proofs.Kept.{way-moved}
@@ -72,7 +73,7 @@ module _ (common : Common) (Extra : World → Two → Ledger → Dealings → Ty
       bodies-so j Initiator = j.bodies Initiator
       bodies-so j Responder = j.bodies Responder
 
-      sizes-so : Joint common w s.two s.ledger s.dealings → (r : Role) → IsSize (end_for common r (record { side = B; step = fed octets } ∷ record { side = A; step = gave n } ∷ w)).line.size
+      sizes-so : Joint common w s.two s.ledger s.dealings → (r : Role) → IsUnitSize (end_for common r (record { side = B; step = fed octets } ∷ record { side = A; step = gave n } ∷ w)).line.size
       sizes-so j Initiator = j.sizes Initiator
       sizes-so j Responder = j.sizes Responder
 
@@ -100,7 +101,7 @@ module _ (common : Common) (Extra : World → Two → Ledger → Dealings → Ty
       bodies-so j Initiator = j.bodies Initiator
       bodies-so j Responder = j.bodies Responder
 
-      sizes-so : Joint common w s.two s.ledger s.dealings → (r : Role) → IsSize (end_for common r (record { side = A; step = fed octets } ∷ record { side = B; step = gave n } ∷ w)).line.size
+      sizes-so : Joint common w s.two s.ledger s.dealings → (r : Role) → IsUnitSize (end_for common r (record { side = A; step = fed octets } ∷ record { side = B; step = gave n } ∷ w)).line.size
       sizes-so j Initiator = j.sizes Initiator
       sizes-so j Responder = j.sizes Responder
 
@@ -139,7 +140,7 @@ module _ (common : Common) (Extra : World → Two → Ledger → Dealings → Ty
       bodies-so j Initiator = ap (after_broke (base_at Initiator common)) (j.bodies Initiator)
       bodies-so j Responder = ap (after_broke (base_at Responder common)) (j.bodies Responder)
 
-      sizes-so : (r : Role) → IsSize (end_for common r (record { side = B; step = broke } ∷ record { side = A; step = broke } ∷ w)).line.size
+      sizes-so : (r : Role) → IsUnitSize (end_for common r (record { side = B; step = broke } ∷ record { side = A; step = broke } ∷ w)).line.size
       sizes-so Initiator = first-fits true
       sizes-so Responder = first-fits false
 

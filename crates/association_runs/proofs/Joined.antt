@@ -30,7 +30,7 @@ use Rattle.outcome_laws.specs.Deals as deals_
 use Rattle.association_wire.specs.Written.{written}
 use Rattle.association_reading.specs.Front.{all_fronts}
 use Rattle.said_words.specs.Calls.{IsCall, Speaks}
-use Rattle.association_worlds.specs.Lines.{IsSize}
+use Rattle.osi_base.specs.Limits.{IsUnitSize}
 use Rattle.association_worlds.specs.Ways.{IsWay, Way}
 use Rattle.association_worlds.specs.Laws.{IsMeant, IsHeard}
 use Rattle.association_worlds.proofs.Heard.{meant-heard}
@@ -113,7 +113,7 @@ module _ (common : Common) (m : IsMeant common) (Extra : World → Two → Ledge
       bodies-so Initiator = refl
       bodies-so Responder = refl
 
-      sizes-so : (role : Role) → IsSize (end_for common role []).line.size
+      sizes-so : (role : Role) → IsUnitSize (end_for common role []).line.size
       sizes-so Initiator = first-fits true
       sizes-so Responder = first-fits false
 
@@ -203,8 +203,8 @@ module _ (common : Common) (m : IsMeant common) (Extra : World → Two → Ledge
               bodies =
                   both role (λ (r : Role). (end_for common r v).body ≡ body_at r s.two) (ap (λ (e : End). e.body) own ∙ j.bodies role) (ap (λ (e : End). e.body) peer ∙ j.bodies (other role));
               sizes =
-                  both role (λ (r : Role). IsSize (end_for common r v).line.size)
-                  (subst (λ (e : End). IsSize e.line.size) (sym own) (subst IsSize (sym size) (j.sizes role))) (subst (λ (e : End). IsSize e.line.size) (sym peer) (j.sizes (other role)));
+                  both role (λ (r : Role). IsUnitSize (end_for common r v).line.size)
+                  (subst (λ (e : End). IsUnitSize e.line.size) (sym own) (subst IsUnitSize (sym size) (j.sizes role))) (subst (λ (e : End). IsUnitSize e.line.size) (sym peer) (j.sizes (other role)));
               ways =
                   both role (λ (r : Role). WayTo common v r (coming_to r s.two))
                   (subst (λ (e : End). Way common.tables e.line.came (end_for common (other role) v).line.waiting (coming_to role s.two)) (sym own)

@@ -12,7 +12,8 @@ use Rattle.end_model.specs.Pairs.{Common, base_at, Two, body_at, coming_to, step
 use Rattle.reliable_model.specs.Goes.{Ledger}
 use Rattle.outcome_laws.specs.Deals.{Dealings, Deals}
 use Rattle.said_words.specs.Calls.{Speaks}
-use Rattle.association_worlds.specs.Lines.{IsSize, written_all}
+use Rattle.association_worlds.specs.Lines.{written_all}
+use Rattle.osi_base.specs.Limits.{IsUnitSize}
 use Rattle.association_worlds.specs.Ways.{AreCarried, Way}
 use Rattle.association_worlds.specs.Laws.{IsHeard}
 use Rattle.association_worlds.proofs.Kept.{way-sent}
@@ -60,7 +61,7 @@ pub record Joint (common : Common) (w : World) (two : Two) (ledger : Ledger) (de
   pub deals : Deals common two ledger dealings
   pub speaks : Speaks common two ledger
   pub bodies : (role : Role) → (end_for common role w).body ≡ body_at role two
-  pub sizes : (role : Role) → IsSize (end_for common role w).line.size
+  pub sizes : (role : Role) → IsUnitSize (end_for common role w).line.size
   pub ways : (role : Role) → WayTo common w role (coming_to role two)
   pub shared : shared_at (ends_for common) w ≡ ledger.shared
   pub follows : (role : Role) → FollowsAt common w role (coming_to role two)
@@ -72,7 +73,7 @@ module _ (common : Common) (m : IsHeard common) where
     pub sends : all_sent_in xs ≡ more
     pub end : after_all (base_at role common) (end_for common role w) xs ≡ record { body = body; line = writing (base_at role common) more line }
     pub waits : line.waiting ≡ (end_for common role w).line.waiting
-    pub size : IsSize line.size
+    pub size : IsUnitSize line.size
     pub way : Way common.tables line.came (end_for common (other role) w).line.waiting left
     pub follows : Follows (readings (side_of role) w ++ all_read xs) (messages_in (sendings (ends_for common) (side_of (other role)) w)) left
     pub shared : shared_on (base_at role common) (side_of role) (shared_at (ends_for common) w) xs ≡ ledger.shared
@@ -99,11 +100,11 @@ module _ (common : Common) (m : IsHeard common) where
         (ap (λ (e : End). e.body) own-is ∙ sym (own-body role body left more two))
         (ap (λ (e : End). e.body) peer-is ∙ j.bodies (other role) ∙ sym (peer-body role body left more two))
 
-    sizes-so : (r : Role) → IsSize (end_for common r later).line.size
+    sizes-so : (r : Role) → IsUnitSize (end_for common r later).line.size
     sizes-so =
-        both role (λ (r : Role). IsSize (end_for common r later).line.size)
-        (subst (λ (e : End). IsSize e.line.size) (sym own-is) d.size)
-        (subst (λ (e : End). IsSize e.line.size) (sym peer-is) (j.sizes (other role)))
+        both role (λ (r : Role). IsUnitSize (end_for common r later).line.size)
+        (subst (λ (e : End). IsUnitSize e.line.size) (sym own-is) d.size)
+        (subst (λ (e : End). IsUnitSize e.line.size) (sym peer-is) (j.sizes (other role)))
 
     own-way : WayTo common later role (coming_to role two_later)
     own-way =

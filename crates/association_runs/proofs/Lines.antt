@@ -11,7 +11,8 @@ use Rattle.end_rules.specs.History.{sent, answered}
 use Rattle.end_model.specs.Requests.{sent_all}
 use Rattle.association_wire.specs.Written.{written}
 use Rattle.association_line.specs.Line.{Line, End, after, after_all, first_size, size_named, size_of_unit, size_after}
-use Rattle.association_worlds.specs.Lines.{IsSize, written_all}
+use Rattle.association_worlds.specs.Lines.{written_all}
+use Rattle.osi_base.specs.Limits.{IsUnitSize}
 
 -- ---- what is written
 
@@ -37,7 +38,7 @@ all-answered base e to (m ∷ ms) = all-answered base (after base e (answered to
 
 -- ---- sizes
 
-pub first-fits : (initiator : Bool) → IsSize (first_size initiator)
+pub first-fits : (initiator : Bool) → IsUnitSize (first_size initiator)
 first-fits true = record { least = omega arith; most = omega arith }
 first-fits false = record { least = omega arith; most = omega arith }
 
@@ -52,25 +53,25 @@ and-right false b h = cc
 at-most : (m n : ℕ) → nat_le m n ≡ true → m ≤ n
 at-most m n h = grind (arith, nat_tests)
 
-powers-fit : (code : ℕ) → 7 ≤ code → code ≤ 13 → IsSize (2 ^ code)
+powers-fit : (code : ℕ) → 7 ≤ code → code ≤ 13 → IsUnitSize (2 ^ code)
 powers-fit code low high =
     let least : 128 ≤ 2 ^ code = pow_mono low in
     let most : 2 ^ code ≤ 8192 = pow_mono high in record { least = least; most = omega (arith, most) }
 
-named-fits : (first before : ℕ) (size : Option ℕ) → IsSize first → IsSize before → IsSize (size_named first before size)
+named-fits : (first before : ℕ) (size : Option ℕ) → IsUnitSize first → IsUnitSize before → IsUnitSize (size_named first before size)
 named-fits first before None f h = f
 named-fits first before (Some code) f h = go (nat_le 7 code && nat_le code 13) refl
   where
-    go : (b : Bool) → (nat_le 7 code && nat_le code 13) ≡ b → IsSize (if b then 2 ^ code else before)
+    go : (b : Bool) → (nat_le 7 code && nat_le code 13) ≡ b → IsUnitSize (if b then 2 ^ code else before)
     go false e = h
     go true e = powers-fit code (at-most 7 code (and-left (nat_le 7 code) (nat_le code 13) e)) (at-most code 13 (and-right (nat_le 7 code) (nat_le code 13) e))
 
-unit-fits : (first before : ℕ) (unit : TransportUnit) → IsSize first → IsSize before → IsSize (size_of_unit first before unit)
+unit-fits : (first before : ℕ) (unit : TransportUnit) → IsUnitSize first → IsUnitSize before → IsUnitSize (size_of_unit first before unit)
 unit-fits first before (ConnectionRequest source size calling called) f h = named-fits first before size f h
 unit-fits first before (ConnectionConfirm destination size) f h = named-fits first before size f h
 unit-fits first before (DisconnectRequest destination) f h = h
 unit-fits first before TransportError f h = h
 
-pub size-fits : (base : Base) (before : ℕ) (message : Message) → IsSize before → IsSize (size_after base before message)
+pub size-fits : (base : Base) (before : ℕ) (message : Message) → IsUnitSize before → IsUnitSize (size_after base before message)
 size-fits base before (Transport unit) h = unit-fits (first_size base.initiator) before unit (first-fits base.initiator) h
 size-fits base before (Session word) h = h

@@ -28,7 +28,8 @@ use Rattle.reliable_model.specs.Goes as goes
 use Rattle.association_reading.specs.Front.{Front, Short, Intake, front_held, first_front, first_in, behind_first, without_first, all_fronts, fronts_of}
 use Rattle.association_reading.specs.Reacting.{react_to}
 use Rattle.said_words.specs.Calls.{IsCall, Speaks}
-use Rattle.association_worlds.specs.Lines.{End, IsSize, written_all, more_came}
+use Rattle.association_worlds.specs.Lines.{End, written_all, more_came}
+use Rattle.osi_base.specs.Limits.{IsUnitSize}
 use Rattle.association_worlds.specs.Worlds.{LineEnds, ends_new, end_at, with_end, sending, carried, both_cut, Spoken}
 use Rattle.association_worlds.specs.Worlds as spoken
 use Rattle.association_worlds.specs.Ways.{AreCarried, front_of, Sent, text_of, texts, messages_of, fronts_of_sent, AreWritten, IsWay, Way}
@@ -75,13 +76,13 @@ messages-sized : (size : ℕ) (ms : List Message) → messages_of (sized size ms
 messages-sized size [] = refl
 messages-sized size (m ∷ ms) = ap (λ (l : List Message). m ∷ l) (messages-sized size ms)
 
-written-sized : (tables : Tables) (size : ℕ) (ms : List Message) → IsSize size → AreCarried tables ms → AreWritten tables (sized size ms)
+written-sized : (tables : Tables) (size : ℕ) (ms : List Message) → IsUnitSize size → AreCarried tables ms → AreWritten tables (sized size ms)
 written-sized tables size [] z h = tt
 written-sized tables size (m ∷ ms) z h = (h.0, z, written-sized tables size ms z h.1)
 
 -- ---- one way
 
-pub way-sent : (tables : Tables) (came : Option Intake) (waiting : List ℕ) (coming ms : List Message) (size : ℕ) → IsSize size → AreCarried tables (coming ++ ms) → Way tables came waiting coming
+pub way-sent : (tables : Tables) (came : Option Intake) (waiting : List ℕ) (coming ms : List Message) (size : ℕ) → IsUnitSize size → AreCarried tables (coming ++ ms) → Way tables came waiting coming
     → Way tables came (waiting ++ written_all tables size ms) (coming ++ ms)
 way-sent tables None waiting coming ms size z h w = tt
 way-sent tables (Some intake) waiting coming ms size z h w = record {
@@ -274,7 +275,7 @@ module _ (common : Common) (h : IsHeard common) where
       first-of common.tables (base_at role common) (end_at role ends).body intake (end_at (other role) ends).line.waiting (coming_to role s.two) r (some-way role ends (coming_to role s.two) intake e (s.ways role)) t
 
   -- the end of this role sent these messages in a step to which this is left
-  sent-so : (role : Role) (ends : LineEnds) (size : ℕ) (body : Body) (left more : List Message) (came : Option Intake) (ledger : Ledger) (s : IsSpelled common ends) → IsSize size
+  sent-so : (role : Role) (ends : LineEnds) (size : ℕ) (body : Body) (left more : List Message) (came : Option Intake) (ledger : Ledger) (s : IsSpelled common ends) → IsUnitSize size
       → Speaks common (stepped role body left more s.two) ledger → Way common.tables came (end_at (other role) ends).line.waiting left
       → IsSpelled common (with_end role (sending common.tables size (end_at role ends) body more came) ends)
   sent-so role ends size body left more came ledger s z g own =

@@ -23,7 +23,7 @@ use Rattle.association_wire.specs.Units.{user_octets}
 use Rattle.association_wire.specs.Written.{with_user, in_its_place, session_units, tsdu_of, request_ends, confirm_ends, written_unit, written}
 use Rattle.association_reading.specs.Front.{Front, OfSession, OfTransport, fronts_of, fronts_of_units, all_fronts}
 use Rattle.association_reading.specs.Laws.{IsSendable}
-use Rattle.association_worlds.specs.Lines.{IsSize}
+use Rattle.osi_base.specs.Limits.{IsUnitSize}
 use Rattle.association_worlds.specs.Ways.{IsOfTransport, IsCarried, start_in, session_front, front_of, Sent, text_of, texts, fronts_of_sent, AreWritten}
 
 -- what a message adds in front of other units
@@ -44,7 +44,7 @@ word-front tables word h =
     ap (fronts_of_units (user_places (tsdu_of tables word))) (all_again (tsdu_of tables word) (session_units tables word) (written_are (session_units tables word) h.units))
     ∙ one-front (user_places (tsdu_of tables word)) (with_user (user_octets tables word) (unit_of word))
 
-adds-word : (tables : Tables) (size : ℕ) (word : Word) (more : List ℕ) (us : List Tpdu) → IsSendable tables word → IsSize size → Splits [] more us [] → Adds tables (written tables size (Session word)) (front_of tables (Session word)) more us
+adds-word : (tables : Tables) (size : ℕ) (word : Word) (more : List ℕ) (us : List Tpdu) → IsSendable tables word → IsUnitSize size → Splits [] more us [] → Adds tables (written tables size (Session word)) (front_of tables (Session word)) more us
 adds-word tables size word more us h s sp =
     let t = tsdu_split size (tsdu_of tables word) more us [] s.least s.most h.within sp in
     record { parts = t.0 ++ us; splits = t.1; hands = ap all_fronts t.2 ∙ ap (λ (fs : List Front). fs ++ all_fronts (handed [] us)) (word-front tables word h) }
@@ -63,7 +63,7 @@ adds-transport tables (DisconnectRequest destination) more us h sp =
     (adds-unit tables Disconnect _ _ more us (disconnect_is [] 1 0 0 (omega arith) (omega arith)) refl sp)
 adds-transport tables TransportError more us h sp = absurd h
 
-adds : (tables : Tables) (s : Sent) (more : List ℕ) (us : List Tpdu) → IsCarried tables s.message → IsSize s.size → Splits [] more us [] → Adds tables (text_of tables s) (front_of tables s.message) more us
+adds : (tables : Tables) (s : Sent) (more : List ℕ) (us : List Tpdu) → IsCarried tables s.message → IsUnitSize s.size → Splits [] more us [] → Adds tables (text_of tables s) (front_of tables s.message) more us
 adds tables s more us h z sp = by s.message h
   where
     by : (m : Message) → IsCarried tables m → Adds tables (written tables s.size m) (front_of tables m) more us
@@ -79,7 +79,7 @@ o : (x : ℕ) (xs : List ℕ) → x < 256 → IsOctets xs → IsOctets (x ∷ xs
 o x xs p q zero = p
 o x xs p q (suc i) = q i
 
-pub small-octets : (tables : Tables) (s : Sent) → IsCarried tables s.message → IsSize s.size → IsOctets (text_of tables s)
+pub small-octets : (tables : Tables) (s : Sent) → IsCarried tables s.message → IsUnitSize s.size → IsOctets (text_of tables s)
 small-octets tables s h z = by s.message h
   where
     dr : (destination : ℕ) → destination ≡ 1 → IsOctets (written_unit (DisconnectRequest destination))

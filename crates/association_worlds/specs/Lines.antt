@@ -1,6 +1,5 @@
 -- An end of an association with its line: the octets that wait to be given out, and what came and isn't reacted to yet.
-use Rattle.std.specs.Prelude.{ℕ, ◌≤◌, List, [], ◌∷◌, ◌++◌, Option, Some, None}
-use Rattle.osi_base.specs.Limits.{unit_least, unit_most}
+use Rattle.std.specs.Prelude.{ℕ, List, [], ◌∷◌, ◌++◌, Option, Some, None}
 use Rattle.stub_tables.specs.declared.tables.Tables.{Tables}
 use Rattle.end_rules.specs.Base.{Base}
 use Rattle.end_rules.specs.Messages.{Message}
@@ -22,11 +21,6 @@ new_line = record { waiting = []; came = Some nothing_came }
 
 abbrev pub new_end : Base → End
 new_end base = record { body = new_body base; line = new_line }
-
--- how many octets a packet of an end may have in it
-pub record IsSize (size : ℕ) : Type 0 where
-  pub least : unit_least ≤ size
-  pub most : size ≤ unit_most
 
 -- what is written of messages, one behind the other
 abbrev pub written_all : Tables → ℕ → List Message → List ℕ

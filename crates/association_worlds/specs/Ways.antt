@@ -14,7 +14,7 @@ use Rattle.association_wire.specs.Units.{user_octets}
 use Rattle.association_wire.specs.Written.{with_user, tsdu_of, request_ends, confirm_ends, written_unit, written}
 use Rattle.association_reading.specs.Front.{Front, OfTransport, OfSession, Intake, start_of, all_fronts}
 use Rattle.association_reading.specs.Laws.{IsSendable}
-use Rattle.association_worlds.specs.Lines.{IsSize}
+use Rattle.osi_base.specs.Limits.{IsUnitSize}
 
 -- ---- messages that may be written
 
@@ -65,7 +65,7 @@ fronts_of_sent tables sents = map (λ (s : Sent). front_of tables s.message) sen
 
 abbrev pub AreWritten : Tables → List Sent → Type 0
 AreWritten tables [] = Unit {0}
-AreWritten tables (s ∷ sents) = IsCarried tables s.message × IsSize s.size × AreWritten tables sents
+AreWritten tables (s ∷ sents) = IsCarried tables s.message × IsUnitSize s.size × AreWritten tables sents
 
 -- ---- the way to an end
 

@@ -20,7 +20,8 @@ use Rattle.reliable_model.specs.Goes.{own_messages}
 use Rattle.association_reading.specs.Front.{Intake, first_in, behind_first}
 use Rattle.association_reading.specs.Reacting.{react_to}
 use Rattle.said_words.specs.Calls.{IsCall}
-use Rattle.association_worlds.specs.Lines.{End, IsSize, new_line, new_end, written_all, more_came}
+use Rattle.association_worlds.specs.Lines.{End, new_line, new_end, written_all, more_came}
+use Rattle.osi_base.specs.Limits.{IsUnitSize}
 
 pub record LineEnds : Type 0 where
   pub a : End
@@ -63,23 +64,23 @@ both_cut common ends =
 pub data Spoken (common : Common) : LineEnds → Type 0 where
   begins : Spoken common (ends_new common)
   -- An accepted call is made, and sends what it makes due.
-  calls : (ends : LineEnds) (role : Role) (call : Call) (answer : Option ℤ) (size : ℕ) → IsSize size → IsCall call → Spoken common ends
+  calls : (ends : LineEnds) (role : Role) (call : Call) (answer : Option ℤ) (size : ℕ) → IsUnitSize size → IsCall call → Spoken common ends
       → can_call (base_at role common) (end_at role ends).body call ≡ Ok answer
       → Spoken common (with_end role (sending common.tables size (end_at role ends) (after_called common.mode (base_at role common) (end_at role ends).body call answer) (due_of (base_at role common) (end_at role ends).body call (Ok answer)) (end_at role ends).line.came) ends)
   -- An end makes a step by itself.
-  acts : (ends : LineEnds) (role : Role) (own : OwnAct) (size : ℕ) → IsSize size → Spoken common ends
+  acts : (ends : LineEnds) (role : Role) (own : OwnAct) (size : ℕ) → IsUnitSize size → Spoken common ends
       → next_own (base_at role common) (end_at role ends).body ≡ Some own
       → Spoken common (with_end role (sending common.tables size (end_at role ends) (after_step (base_at role common) (end_at role ends).body (step_of own)) (own_messages own) (end_at role ends).line.came) ends)
   -- Octets go over.
   carries : (ends : LineEnds) (role : Role) (n : ℕ) → Spoken common ends → Spoken common (carried role n ends)
   -- What stands first is taken and answered, passed over, or is a fault, behind which nothing is taken any more.
-  takes : (ends : LineEnds) (role : Role) (intake : Intake) (body : Body) (answers : List Message) (shown : List Indication) (size : ℕ) → IsSize size → Spoken common ends
+  takes : (ends : LineEnds) (role : Role) (intake : Intake) (body : Body) (answers : List Message) (shown : List Indication) (size : ℕ) → IsUnitSize size → Spoken common ends
       → (end_at role ends).line.came ≡ Some intake → react_to (base_at role common) (end_at role ends).body (first_in intake) ≡ Some (Takes body answers shown)
       → Spoken common (with_end role (sending common.tables size (end_at role ends) body answers (Some (behind_first intake))) ends)
   passes : (ends : LineEnds) (role : Role) (intake : Intake) → Spoken common ends
       → (end_at role ends).line.came ≡ Some intake → react_to (base_at role common) (end_at role ends).body (first_in intake) ≡ Some Passes
       → Spoken common (with_end role (sending common.tables 128 (end_at role ends) (end_at role ends).body [] (Some (behind_first intake))) ends)
-  fails : (ends : LineEnds) (role : Role) (intake : Intake) (fault : Fault) (body : Body) (aborts : List Message) (shown : List Indication) (size : ℕ) → IsSize size → Spoken common ends
+  fails : (ends : LineEnds) (role : Role) (intake : Intake) (fault : Fault) (body : Body) (aborts : List Message) (shown : List Indication) (size : ℕ) → IsUnitSize size → Spoken common ends
       → (end_at role ends).line.came ≡ Some intake → react_to (base_at role common) (end_at role ends).body (first_in intake) ≡ Some (Fails fault body aborts shown)
       → Spoken common (with_end role (sending common.tables size (end_at role ends) body aborts None) ends)
   -- An end that is over or dead keeps nothing of what comes.

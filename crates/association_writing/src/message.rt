@@ -1,7 +1,7 @@
 //! Messages in octets.
 
-ghost use Rattle.std.specs.Prelude.{◌≡◌, ◌≤◌, IfOk};
-ghost use Rattle.osi_base.specs.Limits.{unit_least, unit_most};
+ghost use Rattle.std.specs.Prelude.{◌≡◌, IfOk};
+ghost use Rattle.osi_base.specs.Limits.{IsUnitSize};
 ghost use Rattle.association_words.specs.Seen.{seen_word, seen_message};
 ghost use Rattle.association_wire.specs.Written.{tsdu_of, written};
 ghost use Rattle.association_writing.specs.Room.{MayStand};
@@ -41,8 +41,7 @@ pub fn write_message(
     size: u32,
     message: &Message,
 ) -> Result<Octets, NoMemory>
-    requires least { unit_least ≤ size }
-    requires most { size ≤ unit_most }
+    requires sized { IsUnitSize size }
     requires room { MayStand (seen_message message.now) }
     ensures { IfOk result (λ octets. octets ≡ written tables.now size (seen_message message.now)) }
 {

@@ -8,7 +8,7 @@ use Rattle.end_rules.specs.Messages.{Message}
 use Rattle.end_rules.specs.History.{Step, History, took, broke}
 use Rattle.end_rules.specs.World.{World, Ends, base_at, history_of, is_side}
 use Rattle.association_wire.specs.Written.{written}
-use Rattle.association_worlds.specs.Lines.{IsSize}
+use Rattle.osi_base.specs.Limits.{IsUnitSize}
 use Rattle.association_worlds.specs.Ways.{AreCarried, Sent, text_of, messages_of, AreWritten}
 use Rattle.association_worlds.proofs.Kept.{map-append}
 use Rattle.run_laws.specs.Passing.{Passed, sent_in, at_sending, on_connection, sendings}
@@ -77,22 +77,22 @@ messages-are ends side (m ∷ w) =
 
 abbrev pub AreSized : List Sent → Type 0
 AreSized [] = Unit {0}
-AreSized (s ∷ sents) = IsSize s.size × AreSized sents
+AreSized (s ∷ sents) = IsUnitSize s.size × AreSized sents
 
 sized-append : (xs ys : List Sent) → AreSized xs → AreSized ys → AreSized (xs ++ ys)
 sized-append [] ys h k = k
 sized-append (x ∷ xs) ys h k = (h.0, sized-append xs ys h.1 k)
 
-sized-all : (size : ℕ) (ms : List Message) → IsSize size → AreSized (sized size ms)
+sized-all : (size : ℕ) (ms : List Message) → IsUnitSize size → AreSized (sized size ms)
 sized-all size [] z = tt
 sized-all size (m ∷ ms) z = (z, sized-all size ms z)
 
-step-size : (base : Base) (e : End) (x : Step) → IsSize e.line.size → IsSize (after base e x).line.size
+step-size : (base : Base) (e : End) (x : Step) → IsUnitSize e.line.size → IsUnitSize (after base e x).line.size
 step-size base e (took message) h = size-fits base e.line.size message h
 step-size base e broke h = first-fits base.initiator
 step-size base e _ h = h
 
-pub size-always : (base : Base) (h : History) → IsSize (end_of base h).line.size
+pub size-always : (base : Base) (h : History) → IsUnitSize (end_of base h).line.size
 size-always base [] = first-fits base.initiator
 size-always base (x ∷ h) = step-size base (end_of base h) x (size-always base h)
 

@@ -1,6 +1,6 @@
 -- The limits that definitions and contracts cite, each once, as literals: what each is, and where it comes from.
 -- A number of a format, as the code of a unit, stands with the format.
-use Rattle.std.specs.Prelude.{ℕ, ◌^◌}
+use Rattle.std.specs.Prelude.{ℕ, ◌≤◌, ◌^◌}
 
 -- ---- integers and places (what those of the code hold)
 
@@ -99,6 +99,11 @@ unit_least = 128
 -- a unit has at most this many octets, so that its packet has at most 65,535 (RFC 1006 5)
 abbrev pub unit_most : ℕ
 unit_most = 65531
+
+-- how many octets the units of an end may have at most: a size that a CR or a CC names, or that is used without one
+pub record IsUnitSize (size : ℕ) : Type 0 where
+  pub least : unit_least ≤ size
+  pub most : size ≤ unit_most
 
 -- the greatest size of a unit that a CR or a CC can name (X.224 13.3.4)
 abbrev pub named_most : ℕ

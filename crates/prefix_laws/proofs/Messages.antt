@@ -11,7 +11,7 @@ use Rattle.tpkt.proofs.WrittenLaws.{connect_is, confirm_is, disconnect_is}
 use Rattle.end_rules.specs.Messages.{TransportUnit, ConnectionRequest, ConnectionConfirm, DisconnectRequest, TransportError, Message, Transport, Session}
 use Rattle.association_wire.specs.Written.{request_ends, confirm_ends, written_unit, written, tsdu_of}
 use Rattle.association_reading.specs.Front.{Front, OfTransport, fronts_of, all_fronts}
-use Rattle.association_worlds.specs.Lines.{IsSize}
+use Rattle.osi_base.specs.Limits.{IsUnitSize}
 use Rattle.association_worlds.specs.Ways.{IsOfTransport, IsCarried, front_of, Sent, text_of, texts, fronts_of_sent, AreWritten}
 use Rattle.association_worlds.proofs.Streams.{word-front, small-octets, texts-octets}
 use Rattle.association_worlds.proofs.Kept.{fronts-append}
@@ -37,7 +37,7 @@ closing-transport (DisconnectRequest destination) h =
     (record { packet = Disconnect; closes = unit-closes _ _ (disconnect_is [] 1 0 0 (omega arith) (omega arith)); brings = refl })
 closing-transport TransportError h = absurd h
 
-closing : (tables : Tables) (s : Sent) → IsCarried tables s.message → IsSize s.size → Closing (text_of tables s) (front_of tables s.message)
+closing : (tables : Tables) (s : Sent) → IsCarried tables s.message → IsUnitSize s.size → Closing (text_of tables s) (front_of tables s.message)
 closing tables s h z = by s.message h
   where
     by : (m : Message) → IsCarried tables m → Closing (written tables s.size m) (front_of tables m)

@@ -2,7 +2,7 @@
 
 ghost use Rattle.std.specs.Prelude.{◌≡◌, ◌+◌, ◌≤◌, ◌<◌, ◌++◌, [], ◌∷◌, length, true, false, OnOk, IfOk};
 ghost use Rattle.std.specs.List.{flat_map};
-ghost use Rattle.osi_base.specs.Limits.{unit_least, unit_most, last_octet, most_header_fields};
+ghost use Rattle.osi_base.specs.Limits.{IsUnitSize, unit_most, last_octet, most_header_fields};
 ghost use Rattle.tpkt.specs.Wire.{two, packet, header, parameter};
 ghost use Rattle.tpkt.specs.Written.{part_packet, written_tsdu, size_parameter, selector_parameter, connection_fields, control_packet, HasRoom};
 
@@ -26,8 +26,7 @@ fn push_part(out: &mut Octets, octets: &[u8], last: bool) -> Result<(), NoMemory
 /// header. Each but the last is as long as it may be, and the last has the mark of the TSDU's end.
 /// The size is 128 to 65,531. `NoMemory` where memory runs out.
 pub fn write_tsdu(alloc: Global, tsdu: &[u8], size: u32) -> Result<Octets, NoMemory>
-    requires least { unit_least ≤ size }
-    requires most { size ≤ unit_most }
+    requires { IsUnitSize size }
     ensures { IfOk result (λ octets. octets ≡ written_tsdu size tsdu.now) }
 {
     let most = size as usize - 3;

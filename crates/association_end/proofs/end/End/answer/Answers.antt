@@ -9,7 +9,7 @@ use Rattle.association_end.proofs.Dealing.{settled_so, kept_sized}
 use Rattle.association_end.proofs.end.End.answer.Goals as goal
 
 pub invariant_of-self : goal.invariant_of-self
-invariant_of-self c = sound_size (view_in c.self.inside) c.args.size c.self.invariant c.requires.least c.requires.most
+invariant_of-self c = sound_size (view_in c.self.inside) c.args.size c.self.invariant c.requires.sized
 
 pub send_all-requires : goal.send_all-requires
 send_all-requires c = subst (λ (ms : List Message). AllMayStand (seen_messages ms)) (sym c.as_slice.ensures) c.requires.room

@@ -10,7 +10,7 @@ use Rattle.association_end.proofs.end.End.broke.Goals as goal
 
 pub invariant_of-self : goal.invariant_of-self
 invariant_of-self c =
-    sound_line (view_in c.self.inside) (seen c.connection_broke.new.body) (record { waiting = c.clear.new.self; came = c.new.result; size = c.first_size-self-inside.result }) c.self.invariant c.first_size-self-inside.ensures.least c.first_size-self-inside.ensures.most
+    sound_line (view_in c.self.inside) (seen c.connection_broke.new.body) (record { waiting = c.clear.new.self; came = c.new.result; size = c.first_size-self-inside.result }) c.self.invariant c.first_size-self-inside.ensures.sized
     (subst HasMessages (sym c.new.ensures) tt) (ap is_some c.new.ensures)
 
 pub returns-clause-steps : goal.returns-clause-steps

@@ -10,8 +10,7 @@ invariant_of-result c =
     record {
       associated = c.requires.associated;
       accepted = c.requires.accepted;
-      least = c.first_size-size.ensures.least;
-      most = c.first_size-size.ensures.most;
+      sized = c.first_size-size.ensures.sized;
       messages = subst HasMessages (sym c.new-5.ensures) tt;
       listens = listens_some (passes_over (seen c.in_ok-body.body).link.phase) c.new-5.result (ap is_some c.new-5.ensures);
     }
