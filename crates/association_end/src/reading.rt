@@ -30,7 +30,9 @@ use association_place::{is_unit_in_place, is_unit_purged};
 use association_reacting::{fails_on_accepted, has_connection, react, react_to_end};
 use association_sets::copy_set;
 use association_state::{Body, Ground};
-use association_words::{ActivityWord, Arrived, Fault, Message, Value, ValueContent, Word};
+use association_words::{
+    ActivityWord, Arrived, Fault, Message, TransferItem, Value, ValueContent, Word,
+};
 use osi_base::{Layer, NoMemory, PresentationWord, SessionWord, SetList};
 use presentation_pdus::{PpduFault, PpduPlace};
 use set_rules::set_for;
@@ -53,11 +55,14 @@ fn arrived_value(arrived: Arrived) -> Value
     ensures { seen_value result ≡ activities.arrived_value (seen_arrived arrived) }
 {
     match arrived {
-        Arrived::Whole(item) => Value {
-            id: item.id,
-            pair: Some(item.pair),
-            content: ValueContent::Remote(item.apdu),
-        },
+        Arrived::Whole { item, place } => {
+            let TransferItem { id, pair, apdu } = item;
+            Value {
+                id,
+                pair: Some(pair),
+                content: ValueContent::Remote { apdu, place },
+            }
+        }
         Arrived::Raw { id, pair, octets } => Value {
             id,
             pair: Some(pair),

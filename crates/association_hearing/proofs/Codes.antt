@@ -5,9 +5,10 @@ use Rattle.std.specs.List.{position_from}
 use Rattle.std.proofs.lemmas.Bool.{eq-eqb, eqb-true}
 use Rattle.stub_tables.specs.declared.operation.Code.{Code}
 use Rattle.stub_tables.specs.declared.operation.Operation.{Operation}
+use Rattle.stub_tables.specs.declared.operation.ErrorRow.{ErrorRow}
 use Rattle.stub_tables.specs.declared.tables.Tables.{Tables}
 use Rattle.stub_tables.specs.Codes.{same_code}
-use Rattle.stub_tables.specs.Lookup.{operation_at, operation_with}
+use Rattle.stub_tables.specs.Lookup.{operation_at, error_at, operation_with, error_with}
 use Rattle.stub_tables.proofs.OwnCodes.{own_codes}
 use Rattle.apdu_spelling.proofs.Written.{same_is}
 use Rattle.end_rules.specs.Hearing.{is_place}
@@ -40,15 +41,18 @@ module _ {X : Type 0} (test : X → Bool) where
   found_passes : (k : ℕ) (x : X) (xs : List X) → position_from test 0 xs ≡ Some k → slice_get xs k ≡ Some x → test x ≡ true
   found_passes k x xs h e = found_from 0 k x xs (h ∙ ap Some (omega arith)) e
 
--- ---- the operation at a place
+-- ---- the row at a place
+
+-- it is found by its code
+pub operation_found : (tables : Tables) (place : ℕ) (o : Operation) (code : Code) → operation_at tables place ≡ Some o → same_code o.code code ≡ true → operation_with tables code ≡ Some place
+operation_found tables place o code there same = subst (λ (c : Code). operation_with tables c ≡ Some place) (same_is o.code code same) ((own_codes tables).operations place o there)
+
+pub error_found : (tables : Tables) (place : ℕ) (e : ErrorRow) (code : Code) → error_at tables place ≡ Some e → same_code e.code code ≡ true → error_with tables code ≡ Some place
+error_found tables place e code there same = subst (λ (c : Code). error_with tables c ≡ Some place) (same_is e.code code same) ((own_codes tables).errors place e there)
 
 module _ (tables : Tables) (place : ℕ) (o : Operation) (code : Code) (there : operation_at tables place ≡ Some o) where
-  -- it is found by its code
-  found_by_code : same_code o.code code ≡ true → operation_with tables code ≡ Some place
-  found_by_code same = subst (λ (c : Code). operation_with tables c ≡ Some place) (same_is o.code code same) ((own_codes tables).operations place o there)
-
   is_found : same_code o.code code ≡ true → is_place (operation_with tables code) place ≡ true
-  is_found same = ap (λ (w : Option ℕ). is_place w place) (found_by_code same) ∙ eq-eqb place place refl
+  is_found same = ap (λ (w : Option ℕ). is_place w place) (operation_found tables place o code there same) ∙ eq-eqb place place refl
 
   its_place : (w : Option ℕ) → operation_with tables code ≡ w → (b : Bool) → is_place w place ≡ b → same_code o.code code ≡ false → b ≡ false
   its_place w e false at other = refl

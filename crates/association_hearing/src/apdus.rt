@@ -8,6 +8,7 @@ ghost use Rattle.end_rules.specs.State.{opened_with};
 
 use crate::invocations::hear_invoke;
 use crate::outcomes::{hear_error, hear_reject, hear_result};
+use crate::places::{error_with, operation_with};
 use association_state::Ground;
 use open_invocations::Invocations;
 use osi_base::NoMemory;
@@ -33,12 +34,14 @@ fn hear_returned(
     }
 }
 
-/// What becomes of an APDU that was read whole on a context.
+/// What becomes of an APDU that was read whole on a context. The place is where the operation or
+/// the error with its code was found before, if it was; any other gives the same.
 pub fn hear_apdu(
     basis: &Ground<'_>,
     calls: &mut Invocations,
     context: u32,
     apdu: Apdu,
+    place: Option<u32>,
 ) -> Result<RoseTaken, NoMemory>
     ensures { IfOk result (λ taken. heard_with calls.new taken ≡ hear (base_in basis.now) calls.old
         context (head_of_apdu apdu)) }
@@ -49,13 +52,19 @@ pub fn hear_apdu(
             linked,
             code,
             argument,
-        } => hear_invoke(basis, calls, context, id, linked, &code, argument),
+        } => {
+            let place = operation_with(basis.tables, &code, place);
+            hear_invoke(basis, calls, context, id, linked, place, argument)
+        }
         Apdu::Result { id, returned } => Ok(hear_returned(basis, calls, id, returned)),
         Apdu::Error {
             id,
             code,
             parameter,
-        } => Ok(hear_error(basis, calls, id, &code, parameter)),
+        } => {
+            let place = error_with(basis.tables, &code, place);
+            Ok(hear_error(basis, calls, id, place, parameter))
+        }
         Apdu::Reject { id, problem } => Ok(hear_reject(calls, id, problem)),
     }
 }

@@ -6,6 +6,7 @@
 mod apdus;
 mod invocations;
 mod outcomes;
+mod places;
 mod problems;
 mod transfers;
 mod unread;

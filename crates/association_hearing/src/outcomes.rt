@@ -1,7 +1,6 @@
 //! Results, errors and rejects.
 
 ghost use Rattle.std.specs.Prelude.{◌≡◌, Some, true};
-ghost use Rattle.stub_tables.specs.Lookup.{error_with};
 ghost use Rattle.end_rules.specs.State.{opened_with};
 ghost use Rattle.end_rules.specs.Hearing.{carried_in, hear_result_of, hear_error_of, hear_reject};
 ghost use Rattle.rose_roles.specs.Hearing.{heard_with};
@@ -37,22 +36,20 @@ pub(crate) fn hear_result(
     }
 }
 
-/// Hears an error.
+/// Hears an error, the one at this place if there is one.
 pub(crate) fn hear_error(
     basis: &Ground<'_>,
     calls: &mut Invocations,
     id: i64,
-    code: &Code,
+    error: Option<u32>,
     parameter: Option<Val>,
 ) -> RoseTaken
     ensures { heard_with calls.new result ≡ hear_error_of (base_in basis.now) calls.old id
-        (opened_with true id calls.old.opens) (error_with basis.now.tables.now code.now)
-        (carried_in parameter) }
+        (opened_with true id calls.old.opens) error (carried_in parameter) }
 {
     let Some(called) = calls.called(true, &id) else {
         return reject_with(Some(id), ProblemKind::Error, 0);
     };
-    let error = basis.tables.error_with(code);
     let problem = error_problem(basis, called.operation, error, &parameter);
     calls.close_own(&id);
     match (problem, error) {

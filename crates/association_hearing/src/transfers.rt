@@ -19,7 +19,7 @@ pub fn part_in(content: &ValueContent) -> &[u8]
 {
     match content {
         ValueContent::Part(octets) => octets.as_slice(),
-        ValueContent::Remote(_) => &[],
+        ValueContent::Remote { .. } => &[],
         ValueContent::Unread(_) => &[],
         ValueContent::Association { .. } => &[],
         ValueContent::Plea { .. } => &[],

@@ -34,7 +34,7 @@ fn hear_value(
     let Value { id, pair, content } = value;
     let syntax = syntax_of(&pair);
     match content {
-        ValueContent::Remote(apdu) => hear_apdu(basis, calls, id, apdu),
+        ValueContent::Remote { apdu, place } => hear_apdu(basis, calls, id, apdu, place),
         ValueContent::Unread(octets) => hear_unread(basis, calls, id, syntax, &octets),
         ValueContent::Association { apdu: _, user: _ } => Ok(reject_with(
             None,
@@ -54,7 +54,7 @@ pub fn data_on(basis: &Ground<'_>, body: &Body, id: u32, apdu: Apdu) -> Result<M
         drop(apdu);
         return Err(NoMemory);
     };
-    let content = ValueContent::Remote(apdu);
+    let content = ValueContent::Remote { apdu, place: None };
     let mut values: Values = ListOf::new(basis.alloc);
     values.push(Value { id, pair, content })?;
     Ok(Message::Session(Word::OfData(DataWord::Values(values))))

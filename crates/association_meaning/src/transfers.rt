@@ -40,8 +40,11 @@ fn arrived_as(
         pair.now (Ok (seen_content content))) }
 {
     match content {
-        ValueContent::Remote(apdu) => match pair.copy(basis.alloc) {
-            Ok(pair) => Ok(Arrived::Whole(TransferItem { id, pair, apdu })),
+        ValueContent::Remote { apdu, place } => match pair.copy(basis.alloc) {
+            Ok(pair) => {
+                let item = TransferItem { id, pair, apdu };
+                Ok(Arrived::Whole { item, place })
+            }
             Err(NoMemory) => {
                 drop(apdu);
                 Err(Halt::NoMemory)

@@ -211,7 +211,9 @@ fn informed_value(
                 one(basis, id, pair, ValueContent::Association { apdu, user })
             }
         }
-        ValueContent::Remote(apdu) => one(basis, id, pair, ValueContent::Remote(apdu)),
+        ValueContent::Remote { apdu, place } => {
+            one(basis, id, pair, ValueContent::Remote { apdu, place })
+        }
         ValueContent::Unread(octets) => one(basis, id, pair, ValueContent::Unread(octets)),
         ValueContent::Plea { priority } => one(basis, id, pair, ValueContent::Plea { priority }),
         ValueContent::Part(octets) => one(basis, id, pair, ValueContent::Part(octets)),

@@ -26,7 +26,7 @@ fn is_part(content: &ValueContent) -> bool
 {
     match content {
         ValueContent::Part(_) => true,
-        ValueContent::Remote(_) => false,
+        ValueContent::Remote { .. } => false,
         ValueContent::Unread(_) => false,
         ValueContent::Association { .. } => false,
         ValueContent::Plea { .. } => false,
@@ -40,7 +40,7 @@ fn is_associated(content: &ValueContent) -> bool
     match content {
         ValueContent::Association { .. } => true,
         ValueContent::Part(_) => false,
-        ValueContent::Remote(_) => false,
+        ValueContent::Remote { .. } => false,
         ValueContent::Unread(_) => false,
         ValueContent::Plea { .. } => false,
     }
@@ -51,7 +51,7 @@ fn is_remote(content: &ValueContent) -> bool
     ensures { result ≡ is_remote (seen_content content.now) }
 {
     match content {
-        ValueContent::Remote(_) => true,
+        ValueContent::Remote { .. } => true,
         ValueContent::Unread(_) => true,
         ValueContent::Association { .. } => false,
         ValueContent::Part(_) => false,

@@ -1,4 +1,4 @@
--- The values of this crate as the rules of one end speak of them: word for word the same.
+-- The values of this crate as the rules of one end speak of them: word for word the same. They say nothing of the places in tables at which codes were found.
 use Rattle.std.specs.Prelude.{ℕ, ℤ, pos, negsuc, List, map, option_map}
 use Rattle.end_rules.specs.Base as rules
 use Rattle.end_rules.specs.Messages as meant
@@ -36,7 +36,7 @@ seen_information (Transferring id apdu) = meant.Transferring id apdu
 seen_information (Other id octets) = meant.Other id octets
 
 abbrev pub seen_content : ValueContent → meant.ValueContent
-seen_content (Remote apdu) = meant.Remote apdu
+seen_content (Remote apdu place) = meant.Remote apdu
 seen_content (Unread octets) = meant.Unread octets
 seen_content (Association apdu user) = meant.Association apdu (map seen_information user)
 seen_content (Plea priority) = meant.Plea priority
@@ -52,7 +52,7 @@ abbrev pub seen_item : TransferItem → rules.Item
 seen_item item = record { id = item.id; pair = item.pair; apdu = item.apdu }
 
 abbrev pub seen_arrived : Arrived → rules.Arrived
-seen_arrived (Whole item) = rules.Whole (seen_item item)
+seen_arrived (Whole item place) = rules.Whole (seen_item item)
 seen_arrived (Raw id pair octets) = rules.Raw id pair octets
 
 -- ---- faults

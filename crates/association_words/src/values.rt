@@ -31,8 +31,10 @@ pub type UserInformation = ListOf<Information>;
 /// What a presentation data value is.
 #[derive(Debug, Drop)]
 pub enum ValueContent {
-    /// An APDU of remote operations.
-    Remote(Apdu),
+    /// An APDU of remote operations, and the place in the module's tables where the operation or
+    /// the error with its code was found as it was read, if it was. What hears it compares the
+    /// codes before it takes that place.
+    Remote { apdu: Apdu, place: Option<u32> },
     /// Octets of the module's abstract syntax that spell no APDU.
     Unread(Octets),
     /// An APDU of association control, whose own user information is left empty, and its user
@@ -80,8 +82,11 @@ pub struct TransferItem {
 /// What a transfer holds.
 #[derive(Debug, Drop)]
 pub enum Arrived {
-    /// An APDU.
-    Whole(TransferItem),
+    /// An APDU, and the place as in `ValueContent::Remote`.
+    Whole {
+        item: TransferItem,
+        place: Option<u32>,
+    },
     /// Octets on a context of the module that spell none.
     Raw {
         /// Presentation context identifier, 1 to 32,767.

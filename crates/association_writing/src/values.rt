@@ -127,7 +127,7 @@ pub fn write_content(
         (seen_content content.now)) }
 {
     match content {
-        ValueContent::Remote(apdu) => codecs.heads.write(alloc, syntax, tables, apdu),
+        ValueContent::Remote { apdu, .. } => codecs.heads.write(alloc, syntax, tables, apdu),
         ValueContent::Unread(octets) => octets.copy(alloc),
         ValueContent::Association { apdu, user } => {
             association_octets(alloc, codecs, apdu, user.as_slice())

@@ -17,6 +17,11 @@ use Rattle.apdu_spelling.specs.declared.head.ApduKind.{ApduKind}
 use Rattle.apdu_spelling.specs.declared.head.ApduKind.TheVariants.{Invoke, Result, Error, Reject}
 use Rattle.end_rules.specs.Base.{Carried, Absent, Spelled, Unspelled}
 use Rattle.end_wire.specs.Heads.{carried_at, value_or_lack}
+use Rattle.module_contents.specs.declared.contents.Found.{Found}
+
+-- the APDU that was read
+abbrev pub apdu_in : Found → Apdu
+apdu_in found = found.apdu
 
 -- an APDU has at most 262,144 octets, in the packed syntax with those before its value
 abbrev pub room_in : Syntax → ℕ → ℕ

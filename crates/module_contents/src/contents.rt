@@ -1,11 +1,14 @@
 //! Octets of the module's abstract syntax: an APDU that they spell, or they themselves (X.882 9).
 
 ghost use Rattle.std.specs.Prelude.{◌≡◌, IfOk};
+ghost use Rattle.std.specs.Option.{option_copied, option_map};
 ghost use Rattle.ber_spelling.specs.Octets.{AreOctets};
+ghost use Rattle.stub_tables.specs.Lookup.{operation_at, error_at};
+ghost use Rattle.stub_tables.specs.Apdus.{placed, argument_of, result_of, parameter_of};
 ghost use Rattle.end_wire.specs.Heads.{head_at, apdu_of};
 ghost use Rattle.end_wire.specs.Values as values;
 ghost use Rattle.association_words.specs.Seen.{seen_content};
-ghost use Rattle.module_contents.specs.Said.{invoke_by, result_by, error_by, reject_by, apdu_by};
+ghost use Rattle.module_contents.specs.Said.{apdu_in, invoke_by, result_by, error_by, reject_by, apdu_by};
 
 use crate::module_values::{carried, needed};
 use apdu_codec::{HeadFault, Heads};
@@ -14,7 +17,48 @@ use association_words::ValueContent;
 use ber_spelling::are_octets;
 use osi_base::{NoMemory, Octets, Syntax};
 use std::alloc::Global;
-use stub_tables::{Apdu, Returned, Tables};
+use stub_tables::{Apdu, Returned, Tables, Use};
+
+/// An APDU that was read, and the place in the module's tables of the operation or the error with
+/// its code, if there is one.
+#[derive(Drop)]
+struct Found {
+    apdu: Apdu,
+    place: Option<u32>,
+}
+
+/// How the argument of the operation at this place is used.
+fn argument_at(tables: &Tables, place: Option<u32>) -> Option<&Use>
+    ensures { option_copied result ≡ option_map argument_of (placed (operation_at tables.now)
+        place) }
+{
+    match tables.operation(place?) {
+        Some(operation) => Some(&operation.argument),
+        None => None,
+    }
+}
+
+/// How the result of the operation at this place is used.
+fn result_at(tables: &Tables, place: Option<u32>) -> Option<&Use>
+    ensures { option_copied result ≡ option_map result_of (placed (operation_at tables.now)
+        place) }
+{
+    match tables.operation(place?) {
+        Some(operation) => Some(&operation.result),
+        None => None,
+    }
+}
+
+/// How the parameter of the error at this place is used.
+fn parameter_at(tables: &Tables, place: Option<u32>) -> Option<&Use>
+    ensures { option_copied result ≡ option_map parameter_of (placed (error_at tables.now)
+        place) }
+{
+    match tables.error(place?) {
+        Some(error) => Some(&error.parameter),
+        None => None,
+    }
+}
 
 /// The invocation that a head says.
 fn invocation(
@@ -22,21 +66,26 @@ fn invocation(
     syntax: Syntax,
     tables: &Tables,
     head: ApduHead,
-) -> Result<Option<Apdu>, NoMemory>
-    ensures { IfOk result (λ apdu. apdu ≡ invoke_by tables.now syntax head head.id head.code) }
+) -> Result<Option<Found>, NoMemory>
+    ensures { IfOk result (λ found. option_map apdu_in found ≡ invoke_by tables.now syntax head
+        head.id head.code) }
 {
     let (Some(id), Some(code)) = (head.id, head.code) else {
         return Ok(None);
     };
-    let used = tables.argument_of(&code);
+    let place = tables.operation_with(&code);
+    let used = argument_at(tables, place);
     match carried(alloc, syntax, &tables.types, used, &head.rest, head.room)? {
         None => Ok(None),
-        Some(argument) => Ok(Some(Apdu::Invoke {
-            id,
-            linked: head.linked,
-            code,
-            argument,
-        })),
+        Some(argument) => {
+            let apdu = Apdu::Invoke {
+                id,
+                linked: head.linked,
+                code,
+                argument,
+            };
+            Ok(Some(Found { apdu, place }))
+        }
     }
 }
 
@@ -46,8 +95,9 @@ fn result(
     syntax: Syntax,
     tables: &Tables,
     head: ApduHead,
-) -> Result<Option<Apdu>, NoMemory>
-    ensures { IfOk result (λ apdu. apdu ≡ result_by tables.now syntax head head.id head.code) }
+) -> Result<Option<Found>, NoMemory>
+    ensures { IfOk result (λ found. option_map apdu_in found ≡ result_by tables.now syntax head
+        head.id head.code) }
 {
     let ApduHead {
         id: Some(id),
@@ -60,15 +110,18 @@ fn result(
         return Ok(None);
     };
     let Some(code) = code else {
-        return Ok(Some(Apdu::Result { id, returned: None }));
+        let apdu = Apdu::Result { id, returned: None };
+        return Ok(Some(Found { apdu, place: None }));
     };
-    let used = tables.result_of(&code);
+    let place = tables.operation_with(&code);
+    let used = result_at(tables, place);
     match needed(alloc, syntax, &tables.types, used, &rest, room)? {
         None => Ok(None),
-        Some(value) => Ok(Some(Apdu::Result {
-            id,
-            returned: Some(Returned { code, value }),
-        })),
+        Some(value) => {
+            let returned = Some(Returned { code, value });
+            let apdu = Apdu::Result { id, returned };
+            Ok(Some(Found { apdu, place }))
+        }
     }
 }
 
@@ -78,33 +131,39 @@ fn error(
     syntax: Syntax,
     tables: &Tables,
     head: ApduHead,
-) -> Result<Option<Apdu>, NoMemory>
-    ensures { IfOk result (λ apdu. apdu ≡ error_by tables.now syntax head head.id head.code) }
+) -> Result<Option<Found>, NoMemory>
+    ensures { IfOk result (λ found. option_map apdu_in found ≡ error_by tables.now syntax head
+        head.id head.code) }
 {
     let (Some(id), Some(code)) = (head.id, head.code) else {
         return Ok(None);
     };
-    let used = tables.parameter_of(&code);
+    let place = tables.error_with(&code);
+    let used = parameter_at(tables, place);
     match carried(alloc, syntax, &tables.types, used, &head.rest, head.room)? {
         None => Ok(None),
-        Some(parameter) => Ok(Some(Apdu::Error {
-            id,
-            code,
-            parameter,
-        })),
+        Some(parameter) => {
+            let apdu = Apdu::Error {
+                id,
+                code,
+                parameter,
+            };
+            Ok(Some(Found { apdu, place }))
+        }
     }
 }
 
 /// The reject that a head says.
-fn reject(head: ApduHead) -> Option<Apdu>
-    ensures { result ≡ reject_by head.id head.problem }
+fn reject(head: ApduHead) -> Option<Found>
+    ensures { option_map apdu_in result ≡ reject_by head.id head.problem }
 {
     match head.problem {
         None => None,
-        Some(problem) => Some(Apdu::Reject {
-            id: head.id,
-            problem,
-        }),
+        Some(problem) => {
+            let id = head.id;
+            let apdu = Apdu::Reject { id, problem };
+            Some(Found { apdu, place: None })
+        }
     }
 }
 
@@ -114,8 +173,9 @@ fn said(
     syntax: Syntax,
     tables: &Tables,
     head: ApduHead,
-) -> Result<Option<Apdu>, NoMemory>
-    ensures { IfOk result (λ apdu. apdu ≡ apdu_by tables.now syntax head head.kind) }
+) -> Result<Option<Found>, NoMemory>
+    ensures { IfOk result (λ found. option_map apdu_in found ≡ apdu_by tables.now syntax head
+        head.kind) }
 {
     match head.kind {
         ApduKind::Invoke => invocation(alloc, syntax, tables, head),
@@ -132,9 +192,9 @@ fn spelled(
     tables: &Tables,
     syntax: Syntax,
     octets: &[u8],
-) -> Result<Option<Apdu>, NoMemory>
+) -> Result<Option<Found>, NoMemory>
     requires { AreOctets octets.now }
-    ensures { IfOk result (λ apdu. apdu ≡ apdu_of tables.now
+    ensures { IfOk result (λ found. option_map apdu_in found ≡ apdu_of tables.now
         (head_at tables.now syntax octets.now)) }
 {
     tables.is_readable();
@@ -160,7 +220,7 @@ pub fn content_at(
 {
     are_octets(octets);
     match spelled(alloc, heads, tables, syntax, octets)? {
-        Some(apdu) => Ok(ValueContent::Remote(apdu)),
+        Some(Found { apdu, place }) => Ok(ValueContent::Remote { apdu, place }),
         None => Ok(ValueContent::Unread(Octets::from_slice(alloc, octets)?)),
     }
 }
