@@ -1,18 +1,17 @@
 //! APDUs of association control out of values and into them.
 
-ghost use Rattle.std.specs.Prelude.{◌≡◌, ◌++◌, ◌∷◌, [], IfOk, List, Option};
-ghost use Rattle.asn1_types.specs.Value as tree;
+ghost use Rattle.std.specs.Prelude.{◌≡◌, ◌∷◌, [], IfOk};
 ghost use Rattle.std.specs.Option.{option_copied};
 ghost use Rattle.asn1_types.specs.ValueView.{parts_of};
-ghost use Rattle.acse.specs.Words.{external_in, user_in, diagnostic_in, request_in, response_in, said_by, said, external_value, user_part, bits_part, diagnostic_value, value_of};
+ghost use Rattle.acse.specs.Words.{external_in, user_in, diagnostic_in, request_in, response_in, said_by, said, external_value, user_part, diagnostic_value, value_of};
 
 use asn1_types::Val;
 use fixed_tables::{
-    InValue, alternative, any, bits, chosen, chosen_in, integer, list_in, list_of, maybe_bits,
+    InValue, alternative, any, bits_part, chosen, chosen_in, integer, list_in, list_of, maybe_bits,
     number_or, object_id, octet_or, octets_in, oid_in, part_in, reason_in, reason_value, sequence,
     small_number_or,
 };
-use osi_base::{Acse, BitString, Diagnostic, External, Externals, NoMemory};
+use osi_base::{Acse, Diagnostic, External, Externals, NoMemory};
 use std::alloc::Global;
 
 /// Items of user information.
@@ -105,17 +104,6 @@ fn user_part(alloc: Global, user: &Externals) -> Result<Option<Val>, NoMemory>
     match user.as_slice() {
         [] => Ok(None),
         items => Ok(Some(list_of::<ExternalItems>(alloc, items)?)),
-    }
-}
-
-/// A BIT STRING as a part.
-fn bits_part(alloc: Global, string: &Option<BitString>) -> Result<Option<Val>, NoMemory>
-    ensures { IfOk result (λ part. (more : List (Option tree.Value)) → parts_of (part ∷ more)
-        ≡ bits_part string.now (parts_of more)) }
-{
-    match string {
-        Some(string) => Ok(Some(bits(alloc, string)?)),
-        None => Ok(None),
     }
 }
 

@@ -92,6 +92,11 @@ pub record AreSoundRows (rows : List TypeRow) : Type 0 where
   pub each : (n : ℕ) (row : TypeRow) → slice_get rows n ≡ Some row → refusal (take n rows) row ≡ None
   pub short : (n : ℕ) (row : TypeRow) → slice_get rows n ≡ Some row → HasShortTag row
 
+-- the row of this number in a table whose rows are all sound
+pub record IsRowOf (rows : List TypeRow) (of : ℕ) (row : TypeRow) : Type 0 where
+  pub found : slice_get rows of ≡ Some row
+  pub sound : AreSoundRows rows
+
 -- a refusal is the first that holds; want of memory may come always
 abbrev pub IsRefused : Option RowRefusal → RowRefusal → Type 0
 IsRefused first NoMemory = Unit {0}

@@ -1,9 +1,9 @@
 //! Parts with a default (X.680 25.9), and which defaults fit which types.
 
-ghost use Rattle.std.specs.Prelude.{◌≡◌, ◌<◌, ◌≤◌, Some, length, slice_get};
+ghost use Rattle.std.specs.Prelude.{◌≡◌, ◌<◌, ◌≤◌, Some, length};
 ghost use Rattle.std.specs.List.{list_any, AllByRecursion};
 ghost use Rattle.asn1_types.specs.Rows.{names_of, rows_of_parts};
-ghost use Rattle.asn1_types.specs.Table.{AreSoundRows};
+ghost use Rattle.asn1_types.specs.Table.{IsRowOf};
 ghost use Rattle.asn1_types.specs.Defaults.{may_be_absent, is_named, is_default, default_by, takes_default, is_bad_part, is_bad_alternative, has_bad_default};
 
 use crate::row::{Part, TypeId, TypeRow};
@@ -53,8 +53,7 @@ fn takes_default(table: &TypeTable, of: TypeId, default: i64) -> bool
 
 #[cycle(defaults)]
 fn row_takes_default(table: &TypeTable, of: TypeId, row: &TypeRow, default: i64) -> bool
-    requires row { slice_get table.now of.0 ≡ Some row.now }
-    requires sound { AreSoundRows table.now }
+    requires row { IsRowOf table.now of.0 row.now }
     ensures { result ≡ default_by (takes_default table.now) row.now default }
 {
     match row {

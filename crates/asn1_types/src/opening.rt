@@ -1,9 +1,9 @@
 //! The tags that values begin with.
 
-ghost use Rattle.std.specs.Prelude.{◌≡◌, ◌<◌, ◌≤◌, Some, length, slice_get};
+ghost use Rattle.std.specs.Prelude.{◌≡◌, ◌<◌, ◌≤◌, Some, length};
 ghost use Rattle.std.specs.List.{list_any, flat_map, AllByRecursion};
 ghost use Rattle.asn1_types.specs.Rows.{allows, meets, tag, openings, openings_by, begins, same_class, rows_of_parts, text_number, is_no_tag};
-ghost use Rattle.asn1_types.specs.Table.{AreSoundRows};
+ghost use Rattle.asn1_types.specs.Table.{IsRowOf};
 
 use crate::row::{Class, Part, TextKind, TypeId, TypeRow};
 use crate::table::TypeTable;
@@ -59,8 +59,7 @@ fn opens(table: &TypeTable, of: TypeId, class: Class, number: u64) -> bool
 
 #[cycle(opening)]
 fn opens_row(table: &TypeTable, of: TypeId, row: &TypeRow, class: Class, number: u64) -> bool
-    requires row { slice_get table.now of.0 ≡ Some row.now }
-    requires sound { AreSoundRows table.now }
+    requires row { IsRowOf table.now of.0 row.now }
     ensures { result ≡ list_any (allows class number) (openings_by (openings table.now) row.now) }
 {
     let own = match row {
@@ -115,8 +114,7 @@ pub(crate) fn meet(table: &TypeTable, a: TypeId, b: TypeId) -> bool
 
 #[cycle(meeting)]
 fn meets_row(table: &TypeTable, a: TypeId, row: &TypeRow, b: TypeId) -> bool
-    requires row { slice_get table.now a.0 ≡ Some row.now }
-    requires sound { AreSoundRows table.now }
+    requires row { IsRowOf table.now a.0 row.now }
     requires b { b.0 < length table.now }
     ensures { result ≡ list_any (λ o. list_any (meets o) (openings table.now b.0))
         (openings_by (openings table.now) row.now) }

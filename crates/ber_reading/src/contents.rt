@@ -2,7 +2,7 @@
 
 ghost use Rattle.std.specs.Prelude.{◌≡◌, length, IfOk};
 ghost use Rattle.osi_base.specs.OctetPlaces.{HasPlaces};
-ghost use Rattle.ber_spelling.specs.Reading.{Gives, spot_of, opened_of, GoesOn};
+ghost use Rattle.ber_spelling.specs.Reading.{Gives, spot_of, opened_of, GoesOn, IsBehind};
 ghost use Rattle.ber_spelling.specs.Rules.{open_at, close_at, any_at, explicit_at};
 
 use asn1_types::{Node, Val};
@@ -74,8 +74,7 @@ pub fn any_value<'a>(
     opened: &Opened<'a>,
     spot: Spot<'a>,
 ) -> Result<(Val, Spot<'a>), ReadFault>
-    requires whole { HasPlaces spot.place spot.rest.now }
-    requires start { GoesOn opened.now.start.place (length opened.now.start.rest.now) spot }
+    requires { IsBehind opened.now spot }
     ensures gives { Gives (λ x. (x.0, spot_of x.1)) result
         (any_at scope.now (opened_of opened.now) (spot_of spot.entry)) }
     ensures stops { IfOk result (λ x. GoesOn spot.entry.place (length spot.entry.rest.now) x.1) }

@@ -1,16 +1,15 @@
 //! Reading values, row by row.
 
-ghost use Rattle.std.specs.Prelude.{◌≡◌, false, true, ◌++◌, ◌∷◌, ◌+◌, ◌≤◌, ◌<◌, ◌^◌, [], length, Some, None, slice_get, slice_set, IfOk, List};
-ghost use Rattle.osi_base.specs.OctetPlaces.{HasPlaces};
+ghost use Rattle.std.specs.Prelude.{◌≡◌, false, true, ◌++◌, ◌∷◌, ◌+◌, ◌≤◌, ◌<◌, ◌^◌, [], length, Some, None, slice_set, IfOk, List};
 ghost use Rattle.asn1_types.specs.Rows.{begins};
 ghost use Rattle.asn1_types.specs.Defaults.{kept};
-ghost use Rattle.asn1_types.specs.Table.{AreSoundRows};
+ghost use Rattle.asn1_types.specs.Table.{IsRowOf};
 ghost use Rattle.asn1_types.specs.Value as tree;
 ghost use Rattle.asn1_types.specs.Writing.{written};
 ghost use Rattle.asn1_types.specs.Rising.{sorted};
 ghost use Rattle.asn1_types.specs.ValueView.{values_of, parts_of};
 ghost use Rattle.asn1_types.specs.Tags.{rank};
-ghost use Rattle.ber_spelling.specs.Reading.{begun, Opens, Gives, FailsWith, spot_of, opened_of, GoesOn};
+ghost use Rattle.ber_spelling.specs.Reading.{begun, Opens, Gives, FailsWith, spot_of, opened_of, GoesOn, IsBehind};
 ghost use Rattle.ber_spelling.specs.Rules.{all_items_at, list_item_at, list_done, list_at, set_item_at, set_of_done, set_of_at, sequence_at, choice_at, explicit_at, read_by, reads, no_parts_of, nothing_filled, is_free, is_filled, set_done, bare, under, late_at, ordered_at, slot_at, set_at};
 ghost use Rattle.ber_spelling.specs.Below.{ReadsBelow, ReadsPartsBelow};
 ghost use Rattle.ber_reading.specs.Parts.{found_at, part_from, parts_from};
@@ -42,8 +41,7 @@ pub fn value<'a>(
     spot: Spot<'a>,
 ) -> Result<(Val, Spot<'a>), ReadFault>
     requires row { of.0 < length table.now }
-    requires whole { HasPlaces spot.place spot.rest.now }
-    requires start { GoesOn opened.now.start.place (length opened.now.start.rest.now) spot }
+    requires behind { IsBehind opened.now spot }
     ensures gives { Gives (λ x. (x.0, spot_of x.1)) result
         (reads table.now of.0 (under tag default) scope.now (opened_of opened.now)
         (spot_of spot.entry)) }
@@ -67,10 +65,8 @@ fn value_as<'a>(
     opened: &Opened<'a>,
     spot: Spot<'a>,
 ) -> Result<(Val, Spot<'a>), ReadFault>
-    requires row { slice_get table.now of.0 ≡ Some row.now }
-    requires sound { AreSoundRows table.now }
-    requires whole { HasPlaces spot.place spot.rest.now }
-    requires start { GoesOn opened.now.start.place (length opened.now.start.rest.now) spot }
+    requires row { IsRowOf table.now of.0 row.now }
+    requires behind { IsBehind opened.now spot }
     ensures gives { Gives (λ x. (x.0, spot_of x.1)) result
         (read_by (begins table.now) (written table.now) (reads table.now) row.now
         (under tag default) scope.now (opened_of opened.now) (spot_of spot.entry)) }

@@ -1,12 +1,12 @@
 //! Parts whose identifier and length have one octet each, read without the cycle of rows: INTEGERs,
 //! CHOICEs of one, and parts that are not there. What isn't read so is left to the cycle.
 
-ghost use Rattle.std.specs.Prelude.{◌≡◌, ◌+◌, ◌-◌, ◌≤◌, ◌<◌, true, false, length, drop, Bool, Some, None, option_map, slice_get, IfSome, Ok};
+ghost use Rattle.std.specs.Prelude.{◌≡◌, ◌+◌, ◌-◌, ◌≤◌, ◌<◌, true, false, length, drop, Bool, None, option_map, IfSome, Ok};
 ghost use Rattle.std.specs.List.{AllByRecursion};
 ghost use Rattle.std.specs.Vec.{vec_len, vec_capacity};
 ghost use Rattle.osi_base.specs.OctetPlaces.{HasPlaces};
 ghost use Rattle.asn1_types.specs.Rows.{begins, rows_of_parts};
-ghost use Rattle.asn1_types.specs.Table.{AreSoundRows};
+ghost use Rattle.asn1_types.specs.Table.{IsRowOf};
 ghost use Rattle.asn1_types.specs.Value as tree;
 ghost use Rattle.ber_spelling.specs.Reading.{begun, spot_of, opened_of, GoesOn, Opens};
 ghost use Rattle.ber_spelling.specs.Fields.{identifier_at, look_at};
@@ -139,8 +139,7 @@ fn first_ahead<'a>(
 /// Whether a value of this row may begin with this tag.
 #[inline(always)]
 fn row_begins(table: &TypeTable, of: TypeId, row: &TypeRow, class: Class, number: u64) -> bool
-    requires row { slice_get table.now of.0 ≡ Some row.now }
-    requires sound { AreSoundRows table.now }
+    requires row { IsRowOf table.now of.0 row.now }
     ensures { result ≡ begins table.now of.0 class number }
 {
     match row {
@@ -166,8 +165,7 @@ fn is_absent(
     reach: usize,
     spot: Spot,
 ) -> bool
-    requires row { slice_get table.now part.now.inner.0 ≡ Some row.now }
-    requires sound { AreSoundRows table.now }
+    requires row { IsRowOf table.now part.now.inner.0 row.now }
     requires whole { HasPlaces spot.place spot.rest.now }
     requires reach { IsReach scope.now (spot.place + length spot.rest.now) reach }
     ensures { result ≡ true → part_from (begins table.now) (reads table.now part.now.inner.0)

@@ -6,7 +6,7 @@ ghost use Rattle.osi_base.specs.Limits.{most_octets};
 ghost use Rattle.osi_base.specs.OctetPlaces.{HasPlaces};
 ghost use Rattle.asn1_types.specs.Rows.{begins, rows_of_parts};
 ghost use Rattle.asn1_types.specs.Value as tree;
-ghost use Rattle.ber_spelling.specs.Reading.{Gives, GoesOn, opened_of, spot_of};
+ghost use Rattle.ber_spelling.specs.Reading.{Gives, GoesOn, IsBehind, opened_of, spot_of};
 ghost use Rattle.ber_spelling.specs.Rules.{plain, outermost, reads, sequence_at, read_at};
 ghost use Rattle.ber_spelling.specs.Spelling.{Spells};
 ghost use Rattle.ber_reading.specs.Calls.{IsRead, GivesRead};
@@ -220,8 +220,7 @@ fn read_behind<'a>(
     spot: Spot<'a>,
 ) -> Result<Read, ReadFault>
     requires row { of.0 < length table.now }
-    requires whole { HasPlaces spot.place spot.rest.now }
-    requires start { GoesOn opened.now.start.place (length opened.now.start.rest.now) spot }
+    requires behind { IsBehind opened.now spot }
     ensures { GivesRead result (reads table.now of.0 plain scope.now (opened_of opened.now)
         (spot_of spot.entry)) }
 {

@@ -1,5 +1,6 @@
 -- Reading from the left: what the readers give is a function of the octets.
-use Rattle.std.specs.Prelude.{◌≡◌, ℕ, ◌+◌, ◌≤◌, Bool, false, Option, Some, None, List, length, Result, Ok, Err, nat_lt, if◌then◌else◌}
+use Rattle.std.specs.Prelude.{◌≡◌, ◌≢◌, ℕ, ◌+◌, ◌≤◌, Bool, false, Option, Some, None, List, length, Result, Ok, Err, IfOk, IfErr, nat_lt, if◌then◌else◌}
+use Rattle.osi_base.specs.OctetPlaces.{HasPlaces}
 use Rattle.osi_base.specs.declared.layer_words.Kind.{Kind}
 use Rattle.osi_base.specs.declared.layer_words.Kind.TheVariants.{Length}
 use Rattle.asn1_types.specs.declared.row.Class.{Class}
@@ -78,6 +79,16 @@ within scope place until =
 pub record GoesOn (place len : ℕ) (to : code.Spot) : Type 0 where
   pub whole : to.place + length to.rest.now ≡ place + len
   pub onward : place ≤ to.place
+
+-- Reading from a place with this many octets behind it never wants memory, and goes on behind what it read.
+pub record GoesOnWithoutMemory {X : Type 0} (place len : ℕ) (result : Reading (X × code.Spot)) : Type 0 where
+  pub no_memory : IfErr result (λ e. e ≢ faults.NoMemory)
+  pub stops : IfOk result (λ x. GoesOn place len x.1)
+
+-- Reading went on from this identifier to this spot, whose octets all have places.
+pub record IsBehind (opened : codes.Opened) (spot : code.Spot) : Type 0 where
+  pub whole : HasPlaces spot.place spot.rest.now
+  pub start : GoesOn opened.start.place (length opened.start.rest.now) spot
 
 -- An identifier began at a place with this many octets behind it, and reading goes on here.
 pub record Opens (place len : ℕ) (opened : codes.Opened) (to : code.Spot) : Type 0 where

@@ -4,7 +4,7 @@ ghost use Rattle.std.specs.Prelude.{◌≢◌, IfErr, ◌≡◌, ◌∷◌, ◌+
 ghost use Rattle.osi_base.specs.OctetPlaces.{HasPlaces};
 ghost use Rattle.osi_base.specs.Limits.{past_places};
 ghost use Rattle.asn1_types.specs.Whole.{number_256};
-ghost use Rattle.ber_spelling.specs.Reading.{Gives, within, spot_of, opened_of, ahead_of, is_past, LiesIn, GoesOn, Opens};
+ghost use Rattle.ber_spelling.specs.Reading.{Gives, within, spot_of, opened_of, ahead_of, is_past, LiesIn, GoesOn, GoesOnWithoutMemory, Opens};
 ghost use Rattle.ber_spelling.specs.Fields.{is_constructed, digits_at, high_at, identifier_at, announced_at, long_at, definite_at, extent_at, contents_at, begin_at, mark_at, look_at, is_end, lacking_from, cut_off, sure_reach};
 ghost use Rattle.asn1_types.specs.Tags.{class_of, capped};
 
@@ -312,8 +312,7 @@ fn definite<'a>(scope: &Scope, spot: Spot<'a>) -> Result<(u64, Spot<'a>), ReadFa
     requires { HasPlaces spot.place spot.rest.now }
     ensures gives { Gives (λ x. (x.0, spot_of x.1)) result
         (definite_at scope.now spot.entry.place spot.entry.rest.now) }
-    ensures no_memory { IfErr result (λ e. e ≢ ReadFault.NoMemory) }
-    ensures stops { IfOk result (λ x. GoesOn spot.entry.place (length spot.entry.rest.now) x.1) }
+    ensures stops { GoesOnWithoutMemory spot.entry.place (length spot.entry.rest.now) result }
     ensures reach { IfOk result (λ x. x.1.place + x.0 ≤ scope.now.limit) }
 {
     match spot.rest {
@@ -369,8 +368,7 @@ pub fn extent<'a>(scope: &Scope, spot: Spot<'a>) -> Result<(Scope, Spot<'a>), Re
     requires { HasPlaces spot.place spot.rest.now }
     ensures gives { Gives (λ x. (x.0, spot_of x.1)) result
         (extent_at scope.now spot.entry.place spot.entry.rest.now) }
-    ensures no_memory { IfErr result (λ e. e ≢ ReadFault.NoMemory) }
-    ensures stops { IfOk result (λ x. GoesOn spot.entry.place (length spot.entry.rest.now) x.1) }
+    ensures stops { GoesOnWithoutMemory spot.entry.place (length spot.entry.rest.now) result }
 {
     match spot.rest {
         [] => Err(lacking(scope, spot.place, spot.place)),

@@ -1,9 +1,9 @@
 //! The order of tags (X.680 8.6).
 
-ghost use Rattle.std.specs.Prelude.{◌≡◌, ◌<◌, ◌≤◌, ◌^◌, None, Some, length, slice_get};
+ghost use Rattle.std.specs.Prelude.{◌≡◌, ◌<◌, ◌≤◌, ◌^◌, None, length, slice_get};
 ghost use Rattle.std.specs.List.{AllByRecursion};
 ghost use Rattle.asn1_types.specs.Rows.{rows_of_parts};
-ghost use Rattle.asn1_types.specs.Table.{AreSoundRows};
+ghost use Rattle.asn1_types.specs.Table.{IsRowOf};
 ghost use Rattle.asn1_types.specs.Writing.{alternative_written, choice_written, any_written, write_by, writes};
 ghost use Rattle.asn1_types.specs.Tags.{capped, rank, front_number, front_rank};
 
@@ -64,8 +64,7 @@ pub fn rank_of(table: &TypeTable, of: TypeId, value: &Val) -> u64
 
 #[cycle(ranking)]
 fn rank_by(table: &TypeTable, of: TypeId, row: &TypeRow, value: &Val) -> u64
-    requires row { slice_get table.now of.0 ≡ Some row.now }
-    requires sound { AreSoundRows table.now }
+    requires row { IsRowOf table.now of.0 row.now }
     ensures { result ≡ front_rank (write_by (writes table.now) row.now None value.now) }
 {
     match row {

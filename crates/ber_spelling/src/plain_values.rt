@@ -1,9 +1,9 @@
 //! Reading primitive values other than strings.
 
-ghost use Rattle.std.specs.Prelude.{◌≡◌, ◌&&◌, ◌≢◌, IfErr, length, IfOk, Some};
+ghost use Rattle.std.specs.Prelude.{◌≡◌, ◌&&◌, length, IfOk, Some};
 ghost use Rattle.osi_base.specs.OctetPlaces.{HasPlaces};
 ghost use Rattle.asn1_types.specs.Value as tree;
-ghost use Rattle.ber_spelling.specs.Reading.{Gives, spot_of, opened_of, GoesOn};
+ghost use Rattle.ber_spelling.specs.Reading.{Gives, spot_of, opened_of, GoesOn, GoesOnWithoutMemory};
 ghost use Rattle.ber_spelling.specs.Rules.{primitive_at, always, boolean_rule, is_strict_boolean, is_other, integer_rule, enumerated_rule, null_rule, object_id_rule};
 
 use crate::fault::ReadFault;
@@ -52,8 +52,7 @@ pub fn boolean<'a>(
     ensures gives { Gives (λ x. (x.0, spot_of x.1)) result
         (primitive_at boolean_rule (λ c. is_strict_boolean c && is_other default (boolean_rule c))
         tag scope.now (opened_of opened.now) (spot_of spot.entry)) }
-    ensures no_memory { IfErr result (λ e. e ≢ ReadFault.NoMemory) }
-    ensures stops { IfOk result (λ x. GoesOn spot.entry.place (length spot.entry.rest.now) x.1) }
+    ensures stops { GoesOnWithoutMemory spot.entry.place (length spot.entry.rest.now) result }
 {
     expect_tag(tag, false, opened)?;
     let (place, octets, after) = contents(scope, spot)?;
@@ -90,8 +89,7 @@ pub fn enumerated<'a>(
         (primitive_at (enumerated_rule items.now)
         (λ c. is_other default (enumerated_rule items.now c)) tag scope.now (opened_of opened.now)
         (spot_of spot.entry)) }
-    ensures no_memory { IfErr result (λ e. e ≢ ReadFault.NoMemory) }
-    ensures stops { IfOk result (λ x. GoesOn spot.entry.place (length spot.entry.rest.now) x.1) }
+    ensures stops { GoesOnWithoutMemory spot.entry.place (length spot.entry.rest.now) result }
 {
     expect_tag(tag, false, opened)?;
     let (place, octets, after) = contents(scope, spot)?;
@@ -124,8 +122,7 @@ pub fn integer<'a>(
     ensures gives { Gives (λ x. (x.0, spot_of x.1)) result
         (primitive_at (integer_rule low high) (λ c. is_other default (integer_rule low high c)) tag
         scope.now (opened_of opened.now) (spot_of spot.entry)) }
-    ensures no_memory { IfErr result (λ e. e ≢ ReadFault.NoMemory) }
-    ensures stops { IfOk result (λ x. GoesOn spot.entry.place (length spot.entry.rest.now) x.1) }
+    ensures stops { GoesOnWithoutMemory spot.entry.place (length spot.entry.rest.now) result }
 {
     expect_tag(tag, false, opened)?;
     let (place, octets, after) = contents(scope, spot)?;
@@ -153,8 +150,7 @@ pub fn null<'a>(
     requires { HasPlaces spot.place spot.rest.now }
     ensures gives { Gives (λ x. (x.0, spot_of x.1)) result
         (primitive_at null_rule always tag scope.now (opened_of opened.now) (spot_of spot.entry)) }
-    ensures no_memory { IfErr result (λ e. e ≢ ReadFault.NoMemory) }
-    ensures stops { IfOk result (λ x. GoesOn spot.entry.place (length spot.entry.rest.now) x.1) }
+    ensures stops { GoesOnWithoutMemory spot.entry.place (length spot.entry.rest.now) result }
 {
     expect_tag(tag, false, opened)?;
     let (place, octets, after) = contents(scope, spot)?;

@@ -1,3 +1,4 @@
 pub mod Merging
 pub mod Short
 pub mod Comparing
+pub mod Below

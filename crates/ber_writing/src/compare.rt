@@ -6,12 +6,13 @@
 //! piece stands in one value alone, it is compared by its identifier with what stands next in the
 //! other. Only values that don't fit have pieces of which this doesn't tell how they compare.
 
-ghost use Rattle.std.specs.Prelude.{◌≡◌, ◌<◌, ◌≤◌, ℕ, List, [], ◌++◌, Some, None, false, true, length, slice_get, IfSome};
+ghost use Rattle.std.specs.Prelude.{◌≡◌, ◌<◌, ℕ, List, [], ◌++◌, Some, None, false, true, length, slice_get, IfSome};
 ghost use Rattle.std.specs.List.{AllByRecursion};
 ghost use Rattle.asn1_types.specs.Rows.{rows_of_parts};
-ghost use Rattle.asn1_types.specs.Table.{AreSoundRows};
+ghost use Rattle.asn1_types.specs.Table.{IsRowOf};
 ghost use Rattle.asn1_types.specs.ValueView.{parts_of, values_of};
 ghost use Rattle.asn1_types.specs.Writing.{definite, values_contents, list_contents, part_contents, parts_contents, of_rank, sequence_contents, set_parts, alternative_written, choice_written, under, write_by, writes};
+ghost use Rattle.ber_writing.specs.Below.{ArePartsBelow, IsRowBelow};
 ghost use Rattle.ber_writing.specs.Comparing.{IsCompared, IsApart, IsRest};
 
 use crate::contents::{chosen_in, items_in, parts_in};
@@ -55,8 +56,7 @@ fn row_compared(
     a: &Val,
     b: &Val,
 ) -> Option<Compared>
-    requires row { slice_get table.now of.0 ≡ Some row.now }
-    requires sound { AreSoundRows table.now }
+    requires row { IsRowOf table.now of.0 row.now }
     ensures { IfSome result (λ c. IsApart c (write_by (writes table.now) row.now tag a.now)
         (write_by (writes table.now) row.now tag b.now)) }
 {
@@ -281,8 +281,7 @@ fn sets_compared(
     a: &Val,
     b: &Val,
 ) -> Option<Compared>
-    requires below { AllByRecursion (λ m. m < of.0) (rows_of_parts parts.now) }
-    requires row { of.0 ≤ length table.now }
+    requires parts { ArePartsBelow parts.now of.0 table.now }
     ensures { IfSome result (λ c. IsApart c
         (definite true tag (sequence_contents (set_parts (writes table.now) parts.now) a.now))
         (definite true tag (sequence_contents (set_parts (writes table.now) parts.now) b.now))) }
@@ -302,8 +301,7 @@ fn risen_compared(
     values: &[Option<Val>],
     others: &[Option<Val>],
 ) -> Option<Compared>
-    requires below { AllByRecursion (λ m. m < of.0) (rows_of_parts parts.now) }
-    requires row { of.0 ≤ length table.now }
+    requires parts { ArePartsBelow parts.now of.0 table.now }
     ensures { IfSome result (λ c. IsCompared c
         (set_parts (writes table.now) parts.now (parts_of values.now))
         (set_parts (writes table.now) parts.now (parts_of others.now))) }
@@ -337,8 +335,7 @@ fn rank_before(
     rank: u64,
     behind: Rest,
 ) -> Option<Rest>
-    requires below { AllByRecursion (λ m. m < of.0) (rows_of_parts parts.now) }
-    requires row { of.0 ≤ length table.now }
+    requires parts { ArePartsBelow parts.now of.0 table.now }
     requires values { length values.now ≡ length parts.now }
     requires others { length others.now ≡ length parts.now }
     ensures { (xs ys : List ℕ) → IsRest behind xs ys → IfSome result (λ rest. IsRest rest
@@ -366,8 +363,7 @@ fn ranked_before(
     rank: u64,
     behind: Rest,
 ) -> Option<Rest>
-    requires below { part.now.inner.0 < of.0 }
-    requires row { of.0 ≤ length table.now }
+    requires part { IsRowBelow part.now.inner.0 of.0 table.now }
     ensures { (xs ys : List ℕ) → IsRest behind xs ys → IfSome result (λ rest. IsRest rest
         (part_contents (of_rank rank (writes table.now)) part.now value.now ++ xs)
         (part_contents (of_rank rank (writes table.now)) part.now other.now ++ ys)) }
@@ -387,8 +383,7 @@ fn ranked_before(
 
 /// Whether a part stands whose tag has this rank.
 fn has_rank(table: &TypeTable, of: TypeId, part: &Part, value: &Option<Val>, rank: u64) -> bool
-    requires below { part.now.inner.0 < of.0 }
-    requires row { of.0 ≤ length table.now }
+    requires part { IsRowBelow part.now.inner.0 of.0 table.now }
     ensures yes { result ≡ true → part_contents (of_rank rank (writes table.now)) part.now value.now
         ≡ part_contents (writes table.now) part.now value.now }
     ensures no { result ≡ false

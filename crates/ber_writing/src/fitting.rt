@@ -1,14 +1,14 @@
 //! Which values fit which types.
 
-ghost use Rattle.std.specs.Prelude.{◌≡◌, ◌&&◌, ◌<◌, ◌≤◌, Some, length, slice_get};
-ghost use Rattle.std.specs.List.{list_all, AllByRecursion};
+ghost use Rattle.std.specs.Prelude.{◌≡◌, ◌&&◌, Some, length, slice_get};
+ghost use Rattle.std.specs.List.{list_all};
 ghost use Rattle.osi_base.specs.Oid.{is_oid};
-ghost use Rattle.asn1_types.specs.Rows.{rows_of_parts};
-ghost use Rattle.asn1_types.specs.Table.{AreSoundRows};
+ghost use Rattle.asn1_types.specs.Table.{IsRowOf};
 ghost use Rattle.asn1_types.specs.ValueView.{parts_of, values_of};
 ghost use Rattle.asn1_types.specs.Writing.{written};
 ghost use Rattle.asn1_types.specs.Fits.{has_32_bits, boolean_fits, integer_fits, enumerated_fits, null_fits, object_id_fits, octets_fit, bits_fit, text_fits, part_fits, parts_fit, sequence_fits, values_fit, list_fits, alternative_fits, choice_fits, any_fits, is_short, fits};
 ghost use Rattle.asn1_types.specs.PackedSize.{packed_size};
+ghost use Rattle.ber_writing.specs.Below.{ArePartsBelow, IsRowBelow};
 ghost use Rattle.ber_writing.specs.Short.{short_by, has_short_form};
 
 use crate::length::ber_len;
@@ -146,8 +146,7 @@ fn has_form(table: &TypeTable, of: TypeId, value: &Val) -> bool
 
 #[cycle(fitting)]
 fn fits_row(table: &TypeTable, of: TypeId, row: &TypeRow, value: &Val) -> bool
-    requires row { slice_get table.now of.0 ≡ Some row.now }
-    requires sound { AreSoundRows table.now }
+    requires row { IsRowOf table.now of.0 row.now }
     ensures { result ≡ short_by (written table.now) (has_short_form table.now) row.now value.now }
 {
     match row {
@@ -173,8 +172,7 @@ fn fits_row(table: &TypeTable, of: TypeId, row: &TypeRow, value: &Val) -> bool
 
 #[cycle(fitting)]
 fn list_fits(table: &TypeTable, of: TypeId, inner: TypeId, value: &Val) -> bool
-    requires below { inner.0 < of.0 }
-    requires within { of.0 ≤ length table.now }
+    requires part { IsRowBelow inner.0 of.0 table.now }
     ensures { result ≡ list_fits (has_short_form table.now inner.0) value.now }
 {
     match &value.node {
@@ -185,8 +183,7 @@ fn list_fits(table: &TypeTable, of: TypeId, inner: TypeId, value: &Val) -> bool
 
 #[cycle(fitting)]
 fn values_fit(table: &TypeTable, of: TypeId, inner: TypeId, values: &[Val]) -> bool
-    requires below { inner.0 < of.0 }
-    requires within { of.0 ≤ length table.now }
+    requires part { IsRowBelow inner.0 of.0 table.now }
     ensures { result ≡ values_fit (has_short_form table.now inner.0) (values_of values.now) }
 {
     for value in values {
@@ -199,8 +196,7 @@ fn values_fit(table: &TypeTable, of: TypeId, inner: TypeId, values: &[Val]) -> b
 
 #[cycle(fitting)]
 fn sequence_fits(table: &TypeTable, of: TypeId, parts: &[Part], value: &Val) -> bool
-    requires below { AllByRecursion (λ m. m < of.0) (rows_of_parts parts.now) }
-    requires within { of.0 ≤ length table.now }
+    requires parts { ArePartsBelow parts.now of.0 table.now }
     ensures { result ≡ sequence_fits (parts_fit (has_short_form table.now) parts.now) value.now }
 {
     match &value.node {
@@ -211,8 +207,7 @@ fn sequence_fits(table: &TypeTable, of: TypeId, parts: &[Part], value: &Val) -> 
 
 #[cycle(fitting)]
 fn parts_fit(table: &TypeTable, of: TypeId, parts: &[Part], values: &[Option<Val>]) -> bool
-    requires below { AllByRecursion (λ m. m < of.0) (rows_of_parts parts.now) }
-    requires within { of.0 ≤ length table.now }
+    requires parts { ArePartsBelow parts.now of.0 table.now }
     ensures { result ≡ parts_fit (has_short_form table.now) parts.now (parts_of values.now) }
 {
     if parts.len() != values.len() {
@@ -228,8 +223,7 @@ fn parts_fit(table: &TypeTable, of: TypeId, parts: &[Part], values: &[Option<Val
 
 #[cycle(fitting)]
 fn part_fits(table: &TypeTable, of: TypeId, part: &Part, value: &Option<Val>) -> bool
-    requires below { part.now.inner.0 < of.0 }
-    requires within { of.0 ≤ length table.now }
+    requires part { IsRowBelow part.now.inner.0 of.0 table.now }
     ensures { result ≡ part_fits (has_short_form table.now) part.now value.now }
 {
     match value {
@@ -240,8 +234,7 @@ fn part_fits(table: &TypeTable, of: TypeId, part: &Part, value: &Option<Val>) ->
 
 #[cycle(fitting)]
 fn choice_fits(table: &TypeTable, of: TypeId, alternatives: &Parts, value: &Val) -> bool
-    requires below { AllByRecursion (λ m. m < of.0) (rows_of_parts alternatives.now) }
-    requires within { of.0 ≤ length table.now }
+    requires parts { ArePartsBelow alternatives.now of.0 table.now }
     ensures { result ≡ choice_fits (λ which. alternative_fits (has_short_form table.now)
         (slice_get alternatives.now which)) value.now }
 {

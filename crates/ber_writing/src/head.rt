@@ -1,9 +1,9 @@
 //! The identifiers that values are written with.
 
-ghost use Rattle.std.specs.Prelude.{◌≡◌, ◌<◌, ◌++◌, ℕ, Bool, List, Some, None, true, false, slice_get, IfSome};
+ghost use Rattle.std.specs.Prelude.{◌<◌, ◌++◌, ℕ, Bool, List, Some, None, true, false, slice_get, IfSome};
 ghost use Rattle.std.specs.List.{AllByRecursion};
 ghost use Rattle.asn1_types.specs.Rows.{rows_of_parts};
-ghost use Rattle.asn1_types.specs.Table.{AreSoundRows};
+ghost use Rattle.asn1_types.specs.Table.{IsRowOf};
 ghost use Rattle.asn1_types.specs.Writing.{definite, alternative_written, choice_written, under, write_by, writes};
 ghost use Rattle.asn1_types.specs.declared.row.Class.TheVariants.{Universal};
 ghost use Rattle.asn1_types.specs.Tags.{tag_or};
@@ -61,8 +61,7 @@ fn row_head(
     tag: Option<Tag>,
     value: &Val,
 ) -> Option<Head>
-    requires row { slice_get table.now of.0 ≡ Some row.now }
-    requires sound { AreSoundRows table.now }
+    requires row { IsRowOf table.now of.0 row.now }
     ensures { IfSome result (λ head. Leads head
         (write_by (writes table.now) row.now tag value.now)) }
 {

@@ -3,7 +3,7 @@
 ghost use Rattle.std.specs.Prelude.{◌≡◌, ◌+◌, ◌-◌, ◌<◌, ◌≤◌, ◌^◌, [], Some, None, false, true, length, min, slice_get};
 ghost use Rattle.std.specs.List.{AllByRecursion, flat_map};
 ghost use Rattle.asn1_types.specs.Rows.{rows_of_parts};
-ghost use Rattle.asn1_types.specs.Table.{AreSoundRows};
+ghost use Rattle.asn1_types.specs.Table.{IsRowOf};
 ghost use Rattle.asn1_types.specs.ValueView.{parts_of, values_of};
 ghost use Rattle.asn1_types.specs.Writing.{saturated, base_128, base_256, natural_octets, integer_octets, identifier, length_octets, definite, boolean_contents, integer_contents, octets_contents, text_contents, bits_contents, object_id_contents, values_contents, list_contents, part_contents, parts_contents, sequence_contents, alternative_written, choice_written, any_written, under, write_by, writes, written, subidentifiers};
 
@@ -206,8 +206,7 @@ pub(crate) fn value_len(table: &TypeTable, of: TypeId, tag: Option<Tag>, value: 
 
 #[cycle(measuring)]
 fn row_len(table: &TypeTable, of: TypeId, row: &TypeRow, tag: Option<Tag>, value: &Val) -> u64
-    requires row { slice_get table.now of.0 ≡ Some row.now }
-    requires sound { AreSoundRows table.now }
+    requires row { IsRowOf table.now of.0 row.now }
     ensures { result ≡ saturated (length (write_by (writes table.now) row.now tag value.now)) }
 {
     match row {

@@ -4,9 +4,10 @@ ghost use Rattle.std.specs.Prelude.{◌≡◌, [], ℕ, ◌++◌, ◌∷◌, ◌
 ghost use Rattle.std.specs.List.{AllByRecursion, flat_map};
 ghost use Rattle.osi_base.specs.Limits.{most_spelled};
 ghost use Rattle.asn1_types.specs.Rows.{rows_of_parts};
-ghost use Rattle.asn1_types.specs.Table.{AreSoundRows};
+ghost use Rattle.asn1_types.specs.Table.{IsRowOf};
 ghost use Rattle.asn1_types.specs.ValueView.{parts_of, values_of};
 ghost use Rattle.asn1_types.specs.Writing.{base_128, integer_octets, subidentifiers, identifier, length_octets, definite, boolean_contents, integer_contents, octets_contents, text_contents, bits_contents, object_id_contents, values_contents, list_contents, part_contents, parts_contents, sequence_contents, set_parts, of_rank, alternative_written, choice_written, any_written, under, write_by, writes};
+ghost use Rattle.ber_writing.specs.Below.{ArePartsBelow, IsRowBelow};
 
 use crate::fields::{put_base_128, put_head, put_integer};
 use crate::length::{
@@ -264,8 +265,7 @@ fn row_octet(
     value: &Val,
     at: u64,
 ) -> u8
-    requires row { slice_get table.now of.0 ≡ Some row.now }
-    requires sound { AreSoundRows table.now }
+    requires row { IsRowOf table.now of.0 row.now }
     requires short { length (write_by (writes table.now) row.now tag value.now) ≤ most_spelled }
     ensures { result ≡ slice_index (write_by (writes table.now) row.now tag value.now) at }
 {
@@ -493,8 +493,7 @@ fn part_octet(table: &TypeTable, of: TypeId, part: &Part, value: &Option<Val>, a
 
 #[cycle(picking)]
 fn set_octet(table: &TypeTable, of: TypeId, parts: &[Part], tag: Tag, value: &Val, at: u64) -> u8
-    requires below { AllByRecursion (λ m. m < of.0) (rows_of_parts parts.now) }
-    requires row { of.0 ≤ length table.now }
+    requires parts { ArePartsBelow parts.now of.0 table.now }
     requires short { length (definite true tag
         (sequence_contents (set_parts (writes table.now) parts.now) value.now)) ≤ most_spelled }
     ensures { result ≡ slice_index (definite true tag
@@ -515,8 +514,7 @@ fn set_parts_octet(
     values: &[Option<Val>],
     at: u64,
 ) -> u8
-    requires below { AllByRecursion (λ m. m < of.0) (rows_of_parts parts.now) }
-    requires row { of.0 ≤ length table.now }
+    requires parts { ArePartsBelow parts.now of.0 table.now }
     requires short { length (definite true tag
         (set_parts (writes table.now) parts.now (parts_of values.now))) ≤ most_spelled }
     ensures { result ≡ slice_index (definite true tag
@@ -549,8 +547,7 @@ fn risen_octet(
     count: u64,
     at: u64,
 ) -> u8
-    requires below { AllByRecursion (λ m. m < of.0) (rows_of_parts parts.now) }
-    requires row { of.0 ≤ length table.now }
+    requires parts { ArePartsBelow parts.now of.0 table.now }
     requires count { count ≡ length (set_parts (writes table.now) parts.now (parts_of values.now)) }
     requires short { count ≤ most_spelled }
     ensures { result ≡ slice_index (set_parts (writes table.now) parts.now (parts_of values.now))
@@ -583,8 +580,7 @@ fn ranked_len(
     values: &[Option<Val>],
     rank: u64,
 ) -> u64
-    requires below { AllByRecursion (λ m. m < of.0) (rows_of_parts parts.now) }
-    requires row { of.0 ≤ length table.now }
+    requires parts { ArePartsBelow parts.now of.0 table.now }
     requires short { length (parts_contents (of_rank rank (writes table.now)) parts.now
         (parts_of values.now)) ≤ most_spelled }
     ensures { result ≡ length (parts_contents (of_rank rank (writes table.now)) parts.now
@@ -600,8 +596,7 @@ fn ranked_len(
 }
 
 fn if_ranked_len(table: &TypeTable, of: TypeId, part: &Part, value: &Option<Val>, rank: u64) -> u64
-    requires below { part.now.inner.0 < of.0 }
-    requires row { of.0 ≤ length table.now }
+    requires part { IsRowBelow part.now.inner.0 of.0 table.now }
     requires short { length (part_contents (of_rank rank (writes table.now)) part.now value.now)
         ≤ most_spelled }
     ensures { result ≡ length (part_contents (of_rank rank (writes table.now)) part.now value.now) }
@@ -627,8 +622,7 @@ fn ranked_octet(
     rank: u64,
     at: u64,
 ) -> u8
-    requires below { AllByRecursion (λ m. m < of.0) (rows_of_parts parts.now) }
-    requires row { of.0 ≤ length table.now }
+    requires parts { ArePartsBelow parts.now of.0 table.now }
     requires short { length (parts_contents (of_rank rank (writes table.now)) parts.now
         (parts_of values.now)) ≤ most_spelled }
     ensures { result ≡ slice_index (parts_contents (of_rank rank (writes table.now)) parts.now

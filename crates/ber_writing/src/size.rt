@@ -4,7 +4,7 @@
 ghost use Rattle.std.specs.Prelude.{◌≡◌, ◌<◌, ◌+◌, Some, slice_get};
 ghost use Rattle.std.specs.List.{AllByRecursion};
 ghost use Rattle.asn1_types.specs.Rows.{rows_of_parts};
-ghost use Rattle.asn1_types.specs.Table.{AreSoundRows};
+ghost use Rattle.asn1_types.specs.Table.{IsRowOf};
 ghost use Rattle.asn1_types.specs.ValueView.{parts_of, values_of};
 ghost use Rattle.asn1_types.specs.Writing.{saturated};
 ghost use Rattle.asn1_types.specs.PackedSize.{count_size, boolean_size, number_size, octets_size, text_size, bits_size, object_id_size, part_size, parts_size, sequence_size, values_size, list_size, alternative_size, choice_size, size_by, packed_size};
@@ -88,8 +88,7 @@ pub fn packed_size(table: &TypeTable, of: TypeId, value: &Val) -> u64
 
 #[cycle(sizing)]
 fn row_size(table: &TypeTable, of: TypeId, row: &TypeRow, value: &Val) -> u64
-    requires row { slice_get table.now of.0 ≡ Some row.now }
-    requires sound { AreSoundRows table.now }
+    requires row { IsRowOf table.now of.0 row.now }
     ensures { result ≡ saturated (size_by (packed_size table.now) row.now value.now) }
 {
     match row {

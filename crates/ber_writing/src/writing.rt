@@ -4,9 +4,10 @@
 ghost use Rattle.std.specs.Prelude.{◌≡◌, ℕ, ◌++◌, ◌+◌, ◌-◌, ◌<◌, ◌≤◌, [], Some, None, true, length, drop, slice_get, IfOk};
 ghost use Rattle.std.specs.List.{AllByRecursion};
 ghost use Rattle.asn1_types.specs.Rows.{rows_of_parts};
-ghost use Rattle.asn1_types.specs.Table.{AreSoundRows};
+ghost use Rattle.asn1_types.specs.Table.{IsRowOf};
 ghost use Rattle.asn1_types.specs.ValueView.{parts_of, values_of};
 ghost use Rattle.asn1_types.specs.Writing.{definite, values_contents, list_contents, part_contents, parts_contents, sequence_contents, alternative_written, choice_written, under, write_by, writes, written, of_rank, set_parts};
+ghost use Rattle.ber_writing.specs.Below.{ArePartsBelow, IsRowBelow};
 
 use crate::fields::{
     put_any, put_bits, put_boolean, put_head, put_integer_value, put_object_id, put_octets,
@@ -51,8 +52,7 @@ fn put_row(
     room: &mut [u8],
     end: usize,
 ) -> usize
-    requires row { slice_get table.now of.0 ≡ Some row.now }
-    requires sound { AreSoundRows table.now }
+    requires row { IsRowOf table.now of.0 row.now }
     requires room { length (write_by (writes table.now) row.now tag value.now) ≤ end }
     requires end { end ≤ length room.old }
     ensures start { result + length (write_by (writes table.now) row.now tag value.now) ≡ end }
@@ -332,8 +332,7 @@ fn put_set(
     room: &mut [u8],
     end: usize,
 ) -> usize
-    requires below { AllByRecursion (λ m. m < of.0) (rows_of_parts parts.now) }
-    requires row { of.0 ≤ length table.now }
+    requires parts { ArePartsBelow parts.now of.0 table.now }
     requires room { length (definite true tag
         (sequence_contents (set_parts (writes table.now) parts.now) value.now)) ≤ end }
     requires end { end ≤ length room.old }
@@ -360,8 +359,7 @@ fn put_risen(
     room: &mut [u8],
     end: usize,
 ) -> usize
-    requires below { AllByRecursion (λ m. m < of.0) (rows_of_parts parts.now) }
-    requires row { of.0 ≤ length table.now }
+    requires parts { ArePartsBelow parts.now of.0 table.now }
     requires room { length (set_parts (writes table.now) parts.now (parts_of values.now)) ≤ end }
     requires end { end ≤ length room.old }
     ensures start { result + length (set_parts (writes table.now) parts.now (parts_of values.now))
@@ -393,8 +391,7 @@ fn put_of_rank(
     room: &mut [u8],
     end: usize,
 ) -> usize
-    requires below { AllByRecursion (λ m. m < of.0) (rows_of_parts parts.now) }
-    requires row { of.0 ≤ length table.now }
+    requires parts { ArePartsBelow parts.now of.0 table.now }
     requires room { length (parts_contents (of_rank rank (writes table.now)) parts.now
         (parts_of values.now)) ≤ end }
     requires end { end ≤ length room.old }
@@ -422,8 +419,7 @@ fn put_if_of_rank(
     room: &mut [u8],
     end: usize,
 ) -> usize
-    requires below { part.now.inner.0 < of.0 }
-    requires row { of.0 ≤ length table.now }
+    requires part { IsRowBelow part.now.inner.0 of.0 table.now }
     requires room { length (part_contents (of_rank rank (writes table.now)) part.now value.now)
         ≤ end }
     requires end { end ≤ length room.old }
@@ -452,8 +448,7 @@ pub(crate) fn next_rank(
     values: &[Option<Val>],
     bound: u64,
 ) -> u64
-    requires below { AllByRecursion (λ m. m < of.0) (rows_of_parts parts.now) }
-    requires row { of.0 ≤ length table.now }
+    requires parts { ArePartsBelow parts.now of.0 table.now }
     ensures within { result ≤ bound }
     ensures none { (k : ℕ) → result ≤ k → k < bound → parts_contents (of_rank k (writes table.now))
         parts.now (parts_of values.now) ≡ [] }
@@ -476,8 +471,7 @@ fn raised(
     bound: u64,
     next: u64,
 ) -> u64
-    requires below { part.now.inner.0 < of.0 }
-    requires row { of.0 ≤ length table.now }
+    requires part { IsRowBelow part.now.inner.0 of.0 table.now }
     requires within { next ≤ bound }
     ensures within { result ≤ bound }
     ensures more { next ≤ result }

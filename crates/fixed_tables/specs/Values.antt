@@ -75,6 +75,10 @@ abbrev pub maybe_bits : Option Value → Option strings.BitString
 maybe_bits (Some (bits os unused)) = Some (record { octets = os; unused = unused })
 maybe_bits v = None
 
+-- the value of a BIT STRING
+abbrev pub bits_value : strings.BitString → Value
+bits_value string = bits string.octets string.unused
+
 abbrev pub values_list : Values → List Value
 values_list no_values = []
 values_list (value v vs) = v ∷ values_list vs

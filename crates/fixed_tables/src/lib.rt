@@ -15,7 +15,8 @@ pub use building::{explicit, implicit, joined_rows, parts, table_of, tagged};
 pub use laws::{spelled_is_whole, whole_is_spelled};
 pub use lists::{InValue, list_in, list_of};
 pub use making::{
-    any, bits, chosen, integer, name_part, number_part, object_id, octets, present, sequence,
+    any, bits, bits_part, chosen, integer, name_part, number_part, object_id, octets, present,
+    sequence,
 };
 pub use pdu::{PduFault, fault_of, whole};
 pub use pdvs::{pdv_in, pdv_value};

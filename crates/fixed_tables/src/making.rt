@@ -3,6 +3,7 @@
 ghost use Rattle.std.specs.Prelude.{◌≡◌, ◌++◌, ◌∷◌, [], IfOk, OnOk, option_map};
 ghost use Rattle.asn1_types.specs.Value as tree;
 ghost use Rattle.asn1_types.specs.ValueView.{parts_of};
+ghost use Rattle.fixed_tables.specs.Values.{bits_value};
 
 use asn1_types::{MaybeVals, Node, Val};
 use osi_base::{BitString, Copied, NoMemory, Octets, Oid};
@@ -85,7 +86,7 @@ pub fn object_id(alloc: Global, oid: &Oid) -> Result<Val, NoMemory>
 
 /// A value of BIT STRING.
 pub fn bits(alloc: Global, string: &BitString) -> Result<Val, NoMemory>
-    ensures { IfOk result (λ v. v ≡ tree.bits string.now.octets string.now.unused) }
+    ensures { IfOk result (λ v. v ≡ bits_value string.now) }
 {
     Ok(Val {
         node: Node::Bits {
@@ -101,6 +102,16 @@ pub fn name_part(alloc: Global, name: &Option<Oid>) -> Result<Option<Val>, NoMem
 {
     match name {
         Some(name) => Ok(Some(object_id(alloc, name)?)),
+        None => Ok(None),
+    }
+}
+
+/// Bits as a part, a value of BIT STRING, where there are some (X.690 8.6).
+pub fn bits_part(alloc: Global, string: &Option<BitString>) -> Result<Option<Val>, NoMemory>
+    ensures { IfOk result (λ part. part ≡ option_map bits_value string.now) }
+{
+    match string {
+        Some(string) => Ok(Some(bits(alloc, string)?)),
         None => Ok(None),
     }
 }

@@ -1,5 +1,5 @@
 -- Reading tokens from left to right, with the first fault that is met: the means.
-use Rattle.std.specs.Prelude.{◌≡◌, ℕ, zero, suc, ℤ, pos, Bool, List, [], ◌∷◌, length, Option, Some, None, Result, Ok, Err, if◌then◌else◌}
+use Rattle.std.specs.Prelude.{◌≡◌, ◌<◌, ◌≤◌, ℕ, zero, suc, ℤ, pos, Bool, List, [], ◌∷◌, length, Option, Some, None, Result, Ok, Err, OnOk, if◌then◌else◌}
 use Rattle.osi_base.specs.Limits.{most_signed}
 use Rattle.notation_tokens.specs.Lexeme.{Lexeme, begins}
 use Rattle.notation_tokens.specs.Words.{is_unsupported, place, word_of, type_name_of, value_name_of, number_of, int_of, end_of, bool_of}
@@ -44,6 +44,11 @@ Gives (Err e) rest read = FailsWith e rest read
 abbrev pub GivesAs : {A B : Type 0} → (A → B) → Result A Refusal → List Lexeme → Read B → Type 0
 GivesAs view (Ok x) rest read = read ≡ Ok (view x, rest)
 GivesAs view (Err e) rest read = FailsWith e rest read
+
+-- where a function succeeds it has taken a token at least, and it never leaves more tokens than it found
+pub record Shortens {A E : Type 0} (result : Result A E) (old new : List Lexeme) : Type 0 where
+  pub on_ok : OnOk result (length new < length old)
+  pub always : length new ≤ length old
 
 -- what is wrong with a first token that can't stand where it stands
 unfoldable pub kind_at : List Lexeme → NotationKind

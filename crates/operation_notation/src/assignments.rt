@@ -1,8 +1,8 @@
 //! Parsing modules and their assignments.
 
-ghost use Rattle.std.specs.Prelude.{◌≡◌, ◌≤◌, ◌<◌, codes, length, OnOk};
+ghost use Rattle.std.specs.Prelude.{◌≡◌, ◌≤◌, codes, length};
 ghost use Rattle.operation_notation.specs.GrammarTypes.{narrow};
-ghost use Rattle.operation_notation.specs.Reading.{Gives, behind};
+ghost use Rattle.operation_notation.specs.Reading.{Gives, behind, Shortens};
 ghost use Rattle.operation_notation.specs.ReadingModules.{typed_at, opens_at, operation_body_at, error_body_at, body_at, valued_at, assignment_at, assignments_at, imported_at, listed_imports_at, maybe_oid_at, imports_at, maybe_imports_at, tagging_at, heading_at, module_at, whole_at};
 
 use crate::cursor::Cursor;
@@ -25,8 +25,7 @@ impl<'t> Cursor<'t> {
     #[tactic(auto, unfolding(crate::specs::ReadingModules::typed_at))]
     fn typed(&mut self, alloc: Global) -> Result<Assignment, Refusal>
         ensures gives { Gives result self.new (typed_at narrow self.old) }
-        ensures takes { OnOk result (length self.new < length self.old) }
-        ensures keeps { length self.new ≤ length self.old }
+        ensures takes { Shortens result self.old self.new }
     {
         let name = self.type_name(alloc)?;
         self.expect(b"::=")?;
@@ -41,8 +40,7 @@ impl<'t> Cursor<'t> {
     #[tactic(auto, unfolding(crate::specs::ReadingModules::opens_at))]
     fn opens(&mut self, word: &[u8]) -> Result<Place, Refusal>
         ensures gives { Gives result self.new (opens_at word.now self.old) }
-        ensures takes { OnOk result (length self.new < length self.old) }
-        ensures keeps { length self.new ≤ length self.old }
+        ensures takes { Shortens result self.old self.new }
     {
         self.expect(word)?;
         self.expect(b"::=")?;
@@ -53,8 +51,7 @@ impl<'t> Cursor<'t> {
     #[tactic(auto, unfolding(crate::specs::ReadingModules::operation_body_at))]
     fn operation_body(&mut self, alloc: Global) -> Result<Body, Refusal>
         ensures gives { Gives result self.new (operation_body_at narrow self.old) }
-        ensures takes { OnOk result (length self.new < length self.old) }
-        ensures keeps { length self.new ≤ length self.old }
+        ensures takes { Shortens result self.old self.new }
     {
         self.opens(b"OPERATION")?;
         let operation = self.operation(alloc)?;
@@ -66,8 +63,7 @@ impl<'t> Cursor<'t> {
     #[tactic(auto, unfolding(crate::specs::ReadingModules::error_body_at))]
     fn error_body(&mut self, alloc: Global) -> Result<Body, Refusal>
         ensures gives { Gives result self.new (error_body_at narrow self.old) }
-        ensures takes { OnOk result (length self.new < length self.old) }
-        ensures keeps { length self.new ≤ length self.old }
+        ensures takes { Shortens result self.old self.new }
     {
         self.opens(b"ERROR")?;
         let error = self.error(alloc)?;
@@ -79,8 +75,7 @@ impl<'t> Cursor<'t> {
     #[tactic(auto, unfolding(crate::specs::ReadingModules::body_at))]
     fn body(&mut self, alloc: Global) -> Result<Body, Refusal>
         ensures gives { Gives result self.new (body_at narrow self.old) }
-        ensures takes { OnOk result (length self.new < length self.old) }
-        ensures keeps { length self.new ≤ length self.old }
+        ensures takes { Shortens result self.old self.new }
     {
         if self.is(b"OPERATION") {
             self.operation_body(alloc)
@@ -93,8 +88,7 @@ impl<'t> Cursor<'t> {
     #[tactic(auto, unfolding(crate::specs::ReadingModules::valued_at))]
     fn valued(&mut self, alloc: Global) -> Result<Assignment, Refusal>
         ensures gives { Gives result self.new (valued_at narrow self.old) }
-        ensures takes { OnOk result (length self.new < length self.old) }
-        ensures keeps { length self.new ≤ length self.old }
+        ensures takes { Shortens result self.old self.new }
     {
         let name = self.value_name(alloc)?;
         let body = self.body(alloc)?;
@@ -105,8 +99,7 @@ impl<'t> Cursor<'t> {
     #[tactic(auto, unfolding(crate::specs::ReadingModules::assignment_at))]
     fn assignment(&mut self, alloc: Global) -> Result<Assignment, Refusal>
         ensures gives { Gives result self.new (assignment_at narrow self.old) }
-        ensures takes { OnOk result (length self.new < length self.old) }
-        ensures keeps { length self.new ≤ length self.old }
+        ensures takes { Shortens result self.old self.new }
     {
         if self.starts_name() {
             self.valued(alloc)
@@ -132,8 +125,7 @@ impl<'t> Cursor<'t> {
     #[tactic(auto, unfolding(crate::specs::ReadingModules::imported_at))]
     fn imported(&mut self) -> Result<Place, Refusal>
         ensures gives { Gives result self.new (imported_at narrow self.old) }
-        ensures takes { OnOk result (length self.new < length self.old) }
-        ensures keeps { length self.new ≤ length self.old }
+        ensures takes { Shortens result self.old self.new }
     {
         if self.is(b"OPERATION") {
             self.expect(b"OPERATION")
@@ -147,8 +139,7 @@ impl<'t> Cursor<'t> {
     /// A class behind a comma.
     fn next_imported(&mut self) -> Result<Place, Refusal>
         ensures gives { Gives result self.new (behind (codes ",") (imported_at narrow) self.old) }
-        ensures takes { OnOk result (length self.new < length self.old) }
-        ensures keeps { length self.new ≤ length self.old }
+        ensures takes { Shortens result self.old self.new }
     {
         self.expect(b",")?;
         self.imported()
@@ -158,8 +149,7 @@ impl<'t> Cursor<'t> {
     #[tactic(auto, using(crate::proofs::Loops::goes), unfolding(crate::specs::ReadingModules::listed_imports_at))]
     fn listed_imports(&mut self) -> Result<Place, Refusal>
         ensures gives { Gives result self.new (listed_imports_at narrow self.old) }
-        ensures takes { OnOk result (length self.new < length self.old) }
-        ensures keeps { length self.new ≤ length self.old }
+        ensures takes { Shortens result self.old self.new }
     {
         let first = self.imported()?;
         while self.is(b",") {
@@ -185,8 +175,7 @@ impl<'t> Cursor<'t> {
     #[tactic(auto, unfolding(crate::specs::ReadingModules::imports_at))]
     fn imports(&mut self, alloc: Global) -> Result<Place, Refusal>
         ensures gives { Gives result self.new (imports_at narrow self.old) }
-        ensures takes { OnOk result (length self.new < length self.old) }
-        ensures keeps { length self.new ≤ length self.old }
+        ensures takes { Shortens result self.old self.new }
     {
         self.expect(b"IMPORTS")?;
         self.listed_imports()?;
@@ -232,8 +221,7 @@ impl<'t> Cursor<'t> {
     #[tactic(auto, unfolding(crate::specs::ReadingModules::heading_at))]
     fn heading(&mut self, alloc: Global) -> Result<Heading, Refusal>
         ensures gives { Gives result self.new (heading_at self.old) }
-        ensures takes { OnOk result (length self.new < length self.old) }
-        ensures keeps { length self.new ≤ length self.old }
+        ensures takes { Shortens result self.old self.new }
     {
         let name = self.type_name(alloc)?;
         let name_oid = self.oid(alloc)?;
@@ -251,8 +239,7 @@ impl<'t> Cursor<'t> {
     #[tactic(auto, unfolding(crate::specs::ReadingModules::module_at))]
     fn module(&mut self, alloc: Global) -> Result<ModuleText, Refusal>
         ensures gives { Gives result self.new (module_at narrow self.old) }
-        ensures takes { OnOk result (length self.new < length self.old) }
-        ensures keeps { length self.new ≤ length self.old }
+        ensures takes { Shortens result self.old self.new }
     {
         let heading = self.heading(alloc)?;
         self.expect(b"BEGIN")?;
@@ -271,8 +258,7 @@ impl<'t> Cursor<'t> {
     #[tactic(auto, unfolding(crate::specs::ReadingModules::whole_at))]
     pub fn whole(&mut self, alloc: Global) -> Result<ModuleText, Refusal>
         ensures gives { Gives result self.new (whole_at narrow self.old) }
-        ensures takes { OnOk result (length self.new < length self.old) }
-        ensures keeps { length self.new ≤ length self.old }
+        ensures takes { Shortens result self.old self.new }
     {
         let module = self.module(alloc)?;
         if self.is_done() {

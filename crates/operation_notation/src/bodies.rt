@@ -1,8 +1,8 @@
 //! Parsing the bodies of operations and errors.
 
-ghost use Rattle.std.specs.Prelude.{◌≡◌, ◌≤◌, ◌<◌, codes, length, OnOk};
+ghost use Rattle.std.specs.Prelude.{◌≡◌, ◌≤◌, codes, length};
 ghost use Rattle.operation_notation.specs.GrammarTypes.{narrow};
-ghost use Rattle.operation_notation.specs.Reading.{Gives, behind, listed_at, value_name_at};
+ghost use Rattle.operation_notation.specs.Reading.{Gives, behind, listed_at, value_name_at, Shortens};
 ghost use Rattle.operation_notation.specs.ReadingModules.{flag_at, flag_2_at, flag_or_at, passed_flag_at, use_at, maybe_use_at, names_at, named_list_at, priority_at, passed_priority_at, invoke_priority_at, local_at, global_at, code_value_at, code_at, maybe_code_at, signature_at, manner_at, operation_at, error_at};
 
 use crate::cursor::Cursor;
@@ -25,8 +25,7 @@ impl<'t> Cursor<'t> {
     #[tactic(auto, unfolding(crate::specs::ReadingModules::flag_at))]
     pub fn flag(&mut self, word: &[u8]) -> Result<bool, Refusal>
         ensures gives { Gives result self.new (flag_at word.now self.old) }
-        ensures takes { OnOk result (length self.new < length self.old) }
-        ensures keeps { length self.new ≤ length self.old }
+        ensures takes { Shortens result self.old self.new }
     {
         self.expect(word)?;
         self.truth()
@@ -36,8 +35,7 @@ impl<'t> Cursor<'t> {
     #[tactic(auto, unfolding(crate::specs::ReadingModules::flag_2_at))]
     pub fn flag_behind_two(&mut self, word: &[u8], next: &[u8]) -> Result<bool, Refusal>
         ensures gives { Gives result self.new (flag_2_at word.now next.now self.old) }
-        ensures takes { OnOk result (length self.new < length self.old) }
-        ensures keeps { length self.new ≤ length self.old }
+        ensures takes { Shortens result self.old self.new }
     {
         self.expect(word)?;
         self.expect(next)?;
@@ -74,8 +72,7 @@ impl<'t> Cursor<'t> {
     #[tactic(auto, unfolding(crate::specs::ReadingModules::use_at))]
     pub fn use_text(&mut self, alloc: Global, word: &[u8]) -> Result<UseText, Refusal>
         ensures gives { Gives result self.new (use_at narrow word.now self.old) }
-        ensures takes { OnOk result (length self.new < length self.old) }
-        ensures keeps { length self.new ≤ length self.old }
+        ensures takes { Shortens result self.old self.new }
     {
         let place = self.expect(word)?;
         let of = self.outer_type(alloc)?;
@@ -108,8 +105,7 @@ impl<'t> Cursor<'t> {
     /// A name behind a bar.
     pub fn next_name(&mut self, alloc: Global) -> Result<Located, Refusal>
         ensures gives { Gives result self.new (behind (codes "|") value_name_at self.old) }
-        ensures takes { OnOk result (length self.new < length self.old) }
-        ensures keeps { length self.new ≤ length self.old }
+        ensures takes { Shortens result self.old self.new }
     {
         self.expect(b"|")?;
         self.value_name(alloc)
@@ -119,8 +115,7 @@ impl<'t> Cursor<'t> {
     #[tactic(auto, using(crate::proofs::Loops::goes, crate::proofs::Loops::listed_starts))]
     pub fn listed_names(&mut self, alloc: Global) -> Result<Locateds, Refusal>
         ensures gives { Gives result self.new (listed_at (codes "|") value_name_at self.old) }
-        ensures takes { OnOk result (length self.new < length self.old) }
-        ensures keeps { length self.new ≤ length self.old }
+        ensures takes { Shortens result self.old self.new }
     {
         let mut names = ListOf::new(alloc);
         names.push(self.value_name(alloc)?)?;
@@ -134,8 +129,7 @@ impl<'t> Cursor<'t> {
     #[tactic(auto, unfolding(crate::specs::ReadingModules::names_at))]
     pub fn names(&mut self, alloc: Global) -> Result<Locateds, Refusal>
         ensures gives { Gives result self.new (names_at self.old) }
-        ensures takes { OnOk result (length self.new < length self.old) }
-        ensures keeps { length self.new ≤ length self.old }
+        ensures takes { Shortens result self.old self.new }
     {
         self.expect(b"{")?;
         let names = self.listed_names(alloc)?;
@@ -161,8 +155,7 @@ impl<'t> Cursor<'t> {
     #[tactic(auto, unfolding(crate::specs::ReadingModules::priority_at))]
     pub fn priority(&mut self) -> Result<Place, Refusal>
         ensures gives { Gives result self.new (priority_at self.old) }
-        ensures takes { OnOk result (length self.new < length self.old) }
-        ensures keeps { length self.new ≤ length self.old }
+        ensures takes { Shortens result self.old self.new }
     {
         self.expect(b"{")?;
         self.number_64()?;
@@ -202,8 +195,7 @@ impl<'t> Cursor<'t> {
     #[tactic(auto, unfolding(crate::specs::ReadingModules::local_at))]
     pub fn local_code(&mut self) -> Result<CodeText, Refusal>
         ensures gives { Gives result self.new (local_at self.old) }
-        ensures takes { OnOk result (length self.new < length self.old) }
-        ensures keeps { length self.new ≤ length self.old }
+        ensures takes { Shortens result self.old self.new }
     {
         let place = self.expect(b"local")?;
         self.expect(b":")?;
@@ -220,8 +212,7 @@ impl<'t> Cursor<'t> {
     #[tactic(auto, unfolding(crate::specs::ReadingModules::global_at))]
     pub fn global_code(&mut self, alloc: Global) -> Result<CodeText, Refusal>
         ensures gives { Gives result self.new (global_at self.old) }
-        ensures takes { OnOk result (length self.new < length self.old) }
-        ensures keeps { length self.new ≤ length self.old }
+        ensures takes { Shortens result self.old self.new }
     {
         let place = self.expect(b"global")?;
         self.expect(b":")?;
@@ -238,8 +229,7 @@ impl<'t> Cursor<'t> {
     #[tactic(auto, unfolding(crate::specs::ReadingModules::code_value_at))]
     pub fn code_value(&mut self, alloc: Global) -> Result<CodeText, Refusal>
         ensures gives { Gives result self.new (code_value_at self.old) }
-        ensures takes { OnOk result (length self.new < length self.old) }
-        ensures keeps { length self.new ≤ length self.old }
+        ensures takes { Shortens result self.old self.new }
     {
         if self.is(b"local") {
             self.local_code()
@@ -252,8 +242,7 @@ impl<'t> Cursor<'t> {
     #[tactic(auto, unfolding(crate::specs::ReadingModules::code_at))]
     pub fn code(&mut self, alloc: Global) -> Result<CodeText, Refusal>
         ensures gives { Gives result self.new (code_at self.old) }
-        ensures takes { OnOk result (length self.new < length self.old) }
-        ensures keeps { length self.new ≤ length self.old }
+        ensures takes { Shortens result self.old self.new }
     {
         self.expect(b"CODE")?;
         self.code_value(alloc)

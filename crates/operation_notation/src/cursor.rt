@@ -1,12 +1,12 @@
 //! Where the parser stands, and the tokens that it takes one at a time.
 
-ghost use Rattle.std.specs.Prelude.{◌≡◌, ◌≤◌, ◌<◌, List, length, IfOk, OnOk, IsTrue, IfSome, is_some, ◌==◌};
+ghost use Rattle.std.specs.Prelude.{◌≡◌, ◌≤◌, List, length, IfOk, IsTrue, IfSome, is_some, ◌==◌};
 ghost use Rattle.notation_tokens.specs.Lexeme.{Lexeme, IsSpan, lexemes, same, begins, goes_on};
 ghost use Rattle.std.specs.List.{AllByRecursion, list_any};
 ghost use Rattle.notation_tokens.specs.Words.{type_name_of, value_name_of, number_of, int_of, end_of, bool_of, text_kind_of, arc_name_of, root_name};
 ghost use Rattle.notation_tokens.specs.Forms.{is_word};
 ghost use Rattle.operation_notation.specs.ReadingModules.{class_kind};
-ghost use Rattle.operation_notation.specs.Reading.{Gives, kind_at, word_at, type_name_at, value_name_at, number_at, number_64_at, int_at, end_at, bool_at, place_of};
+ghost use Rattle.operation_notation.specs.Reading.{Gives, kind_at, word_at, type_name_at, value_name_at, number_at, number_64_at, int_at, end_at, bool_at, place_of, Shortens};
 ghost use Rattle.operation_notation.specs.ReadingTypes.{dflt_at, type_words, starts_type, starts_name, root_word, text_kind, arc_name_at, text_kind_at};
 
 use crate::fault::Refusal;
@@ -169,8 +169,7 @@ impl<'t> Cursor<'t> {
     #[tactic(auto, unfolding(crate::specs::Reading::word_at, notation_tokens::specs::Words::word_of))]
     pub fn expect(&mut self, word: &[u8]) -> Result<Place, Refusal>
         ensures gives { Gives result self.new (word_at word.now self.old) }
-        ensures takes { OnOk result (length self.new < length self.old) }
-        ensures keeps { length self.new ≤ length self.old }
+        ensures takes { Shortens result self.old self.new }
     {
         match self.tokens {
             [token, rest @ ..] if is_same(&self.source[token.from..token.to], word) => {
@@ -185,8 +184,7 @@ impl<'t> Cursor<'t> {
     #[tactic(auto, unfolding(crate::specs::Reading::value_name_at, notation_tokens::specs::Words::value_name_of))]
     pub fn value_name(&mut self, alloc: Global) -> Result<Located, Refusal>
         ensures gives { Gives result self.new (value_name_at self.old) }
-        ensures takes { OnOk result (length self.new < length self.old) }
-        ensures keeps { length self.new ≤ length self.old }
+        ensures takes { Shortens result self.old self.new }
     {
         match self.tokens {
             [token, rest @ ..] if is_lower_name(token.kind, &self.source[token.from..token.to]) => {
@@ -202,8 +200,7 @@ impl<'t> Cursor<'t> {
     #[tactic(auto, unfolding(crate::specs::Reading::type_name_at, notation_tokens::specs::Words::type_name_of))]
     pub fn type_name(&mut self, alloc: Global) -> Result<Located, Refusal>
         ensures gives { Gives result self.new (type_name_at self.old) }
-        ensures takes { OnOk result (length self.new < length self.old) }
-        ensures keeps { length self.new ≤ length self.old }
+        ensures takes { Shortens result self.old self.new }
     {
         match self.tokens {
             [token, rest @ ..] if is_upper_name(token.kind, &self.source[token.from..token.to]) => {
@@ -219,8 +216,7 @@ impl<'t> Cursor<'t> {
     #[tactic(auto, unfolding(crate::specs::Reading::number_at))]
     pub fn number(&mut self, most: u64) -> Result<u64, Refusal>
         ensures gives { Gives result self.new (number_at most self.old) }
-        ensures takes { OnOk result (length self.new < length self.old) }
-        ensures keeps { length self.new ≤ length self.old }
+        ensures takes { Shortens result self.old self.new }
         ensures most { IfOk result (λ value. value ≤ most) }
     {
         if let [token, rest @ ..] = self.tokens
@@ -236,8 +232,7 @@ impl<'t> Cursor<'t> {
     #[tactic(auto, unfolding(crate::specs::Reading::number_64_at))]
     pub fn number_64(&mut self) -> Result<i64, Refusal>
         ensures gives { Gives result self.new (number_64_at self.old) }
-        ensures takes { OnOk result (length self.new < length self.old) }
-        ensures keeps { length self.new ≤ length self.old }
+        ensures takes { Shortens result self.old self.new }
     {
         let value = self.number(i64::MAX as u64)?;
         Ok(value as i64)
@@ -247,8 +242,7 @@ impl<'t> Cursor<'t> {
     #[tactic(auto, unfolding(crate::specs::Reading::int_at))]
     pub fn int(&mut self) -> Result<i64, Refusal>
         ensures gives { Gives result self.new (int_at self.old) }
-        ensures takes { OnOk result (length self.new < length self.old) }
-        ensures keeps { length self.new ≤ length self.old }
+        ensures takes { Shortens result self.old self.new }
     {
         if let [token, rest @ ..] = self.tokens
             && let Some(value) = integer(&self.source[token.from..token.to])
@@ -263,8 +257,7 @@ impl<'t> Cursor<'t> {
     #[tactic(auto, unfolding(crate::specs::Reading::end_at))]
     pub fn range_end(&mut self) -> Result<i64, Refusal>
         ensures gives { Gives result self.new (end_at self.old) }
-        ensures takes { OnOk result (length self.new < length self.old) }
-        ensures keeps { length self.new ≤ length self.old }
+        ensures takes { Shortens result self.old self.new }
     {
         if let [token, rest @ ..] = self.tokens
             && let Some(value) = range_end(&self.source[token.from..token.to])
@@ -279,8 +272,7 @@ impl<'t> Cursor<'t> {
     #[tactic(auto, unfolding(crate::specs::Reading::bool_at))]
     pub fn truth(&mut self) -> Result<bool, Refusal>
         ensures gives { Gives result self.new (bool_at self.old) }
-        ensures takes { OnOk result (length self.new < length self.old) }
-        ensures keeps { length self.new ≤ length self.old }
+        ensures takes { Shortens result self.old self.new }
     {
         if let [token, rest @ ..] = self.tokens
             && let Some(value) = truth(&self.source[token.from..token.to])
@@ -295,8 +287,7 @@ impl<'t> Cursor<'t> {
     #[tactic(auto, unfolding(crate::specs::ReadingTypes::dflt_at, crate::specs::GrammarTypes::dflt_of, crate::specs::Reading::value_name_at, notation_tokens::specs::Words::value_name_of))]
     pub fn dflt(&mut self, alloc: Global) -> Result<DfltText, Refusal>
         ensures gives { Gives result self.new (dflt_at self.old) }
-        ensures takes { OnOk result (length self.new < length self.old) }
-        ensures keeps { length self.new ≤ length self.old }
+        ensures takes { Shortens result self.old self.new }
     {
         if let [token, rest @ ..] = self.tokens
             && let Some(value) = truth(&self.source[token.from..token.to])
@@ -330,8 +321,7 @@ impl<'t> Cursor<'t> {
     #[tactic(auto, unfolding(crate::specs::ReadingTypes::text_kind_at))]
     pub fn text_kind(&mut self) -> Result<u8, Refusal>
         ensures gives { Gives result self.new (text_kind_at self.old) }
-        ensures takes { OnOk result (length self.new < length self.old) }
-        ensures keeps { length self.new ≤ length self.old }
+        ensures takes { Shortens result self.old self.new }
     {
         if let [token, rest @ ..] = self.tokens
             && let Some(value) = text_word(&self.source[token.from..token.to])
@@ -346,8 +336,7 @@ impl<'t> Cursor<'t> {
     #[tactic(auto, unfolding(crate::specs::ReadingTypes::arc_name_at, notation_tokens::specs::Words::arc_name_of))]
     pub fn arc_name(&mut self) -> Result<Place, Refusal>
         ensures gives { Gives result self.new (arc_name_at self.old) }
-        ensures takes { OnOk result (length self.new < length self.old) }
-        ensures keeps { length self.new ≤ length self.old }
+        ensures takes { Shortens result self.old self.new }
     {
         match self.tokens {
             [token, rest @ ..] if is_lower_name(token.kind, &self.source[token.from..token.to]) => {

@@ -1,8 +1,8 @@
 //! Parsing object identifiers.
 
-ghost use Rattle.std.specs.Prelude.{◌≡◌, ◌≤◌, ◌<◌, codes, length, IfOk, IfSome, OnOk};
+ghost use Rattle.std.specs.Prelude.{◌≡◌, ◌≤◌, codes, length, IfOk, IfSome};
 ghost use Rattle.osi_base.specs.Limits.{most_32};
-ghost use Rattle.operation_notation.specs.Reading.{Gives, number_at, many_at};
+ghost use Rattle.operation_notation.specs.Reading.{Gives, number_at, many_at, Shortens};
 ghost use Rattle.notation_tokens.specs.Lexeme.{goes_on};
 ghost use Rattle.operation_notation.specs.ReadingTypes.{bracketed_at, arc_at, named_root_at, root_at, most_second, oid_at};
 
@@ -15,8 +15,7 @@ impl<'t> Cursor<'t> {
     /// A number of 32 bits that is at most `most`.
     pub fn arc_number(&mut self, most: u32) -> Result<u32, Refusal>
         ensures gives { Gives result self.new (number_at most self.old) }
-        ensures takes { OnOk result (length self.new < length self.old) }
-        ensures keeps { length self.new ≤ length self.old }
+        ensures takes { Shortens result self.old self.new }
         ensures most { IfOk result (λ arc. arc ≤ most) }
     {
         let arc = self.number(u64::from(most))?;
@@ -27,8 +26,7 @@ impl<'t> Cursor<'t> {
     #[tactic(auto, unfolding(crate::specs::ReadingTypes::bracketed_at))]
     fn bracketed_arc(&mut self, most: u32) -> Result<u32, Refusal>
         ensures gives { Gives result self.new (bracketed_at most self.old) }
-        ensures takes { OnOk result (length self.new < length self.old) }
-        ensures keeps { length self.new ≤ length self.old }
+        ensures takes { Shortens result self.old self.new }
         ensures most { IfOk result (λ arc. arc ≤ most) }
     {
         self.expect(b"(")?;
@@ -41,8 +39,7 @@ impl<'t> Cursor<'t> {
     #[tactic(auto, unfolding(crate::specs::ReadingTypes::arc_at))]
     fn arc(&mut self, most: u32) -> Result<u32, Refusal>
         ensures gives { Gives result self.new (arc_at most self.old) }
-        ensures takes { OnOk result (length self.new < length self.old) }
-        ensures keeps { length self.new ≤ length self.old }
+        ensures takes { Shortens result self.old self.new }
         ensures most { IfOk result (λ arc. arc ≤ most) }
     {
         if self.starts_name() {
@@ -76,8 +73,7 @@ impl<'t> Cursor<'t> {
     fn root(&mut self) -> Result<u32, Refusal>
         ensures gives { Gives result self.new (root_at self.old) }
         ensures most { IfOk result (λ root. root ≤ 2) }
-        ensures takes { OnOk result (length self.new < length self.old) }
-        ensures keeps { length self.new ≤ length self.old }
+        ensures takes { Shortens result self.old self.new }
     {
         if self.starts_name() {
             let alone = self.root_word();
@@ -110,8 +106,7 @@ impl<'t> Cursor<'t> {
     #[tactic(auto, unfolding(crate::specs::ReadingTypes::oid_at))]
     pub fn oid(&mut self, alloc: Global) -> Result<Oid, Refusal>
         ensures gives { Gives result self.new (oid_at self.old) }
-        ensures takes { OnOk result (length self.new < length self.old) }
-        ensures keeps { length self.new ≤ length self.old }
+        ensures takes { Shortens result self.old self.new }
     {
         self.expect(b"{")?;
         let root = self.root()?;

@@ -1,8 +1,8 @@
 //! Parsing types that hold types.
 
-ghost use Rattle.std.specs.Prelude.{◌≡◌, ◌≤◌, ◌<◌, codes, length, OnOk};
+ghost use Rattle.std.specs.Prelude.{◌≡◌, ◌≤◌, codes, length};
 ghost use Rattle.operation_notation.specs.GrammarTypes.{narrow};
-ghost use Rattle.operation_notation.specs.Reading.{Gives, GivesAs, behind, listed_at};
+ghost use Rattle.operation_notation.specs.Reading.{Gives, GivesAs, behind, listed_at, Shortens};
 ghost use Rattle.operation_notation.specs.ReadingTypes.{absence_at, absent_at, part_at, parts_at, alternatives_at, sequence_at, set_at, choice_at, plain_at, type_text_at, type_at, outer_type_at, deep_kind};
 ghost use Rattle.operation_notation.specs.TreeView.{plain_of};
 
@@ -72,8 +72,7 @@ impl<'t> Cursor<'t> {
     #[tactic(auto, unfolding(crate::specs::ReadingTypes::part_at))]
     fn part(&mut self, alloc: Global, levels: u32, may: bool) -> Result<PartText, Refusal>
         ensures gives { Gives result self.new (part_at may (type_at narrow levels) self.old) }
-        ensures takes { OnOk result (length self.new < length self.old) }
-        ensures keeps { length self.new ≤ length self.old }
+        ensures takes { Shortens result self.old self.new }
     {
         let name = self.value_name(alloc)?;
         let of = self.type_text(alloc, levels)?;
@@ -91,8 +90,7 @@ impl<'t> Cursor<'t> {
     fn next_part(&mut self, alloc: Global, levels: u32, may: bool) -> Result<PartText, Refusal>
         ensures gives { Gives result self.new
             (behind (codes ",") (part_at may (type_at narrow levels)) self.old) }
-        ensures takes { OnOk result (length self.new < length self.old) }
-        ensures keeps { length self.new ≤ length self.old }
+        ensures takes { Shortens result self.old self.new }
     {
         self.expect(b",")?;
         self.part(alloc, levels, may)
@@ -109,8 +107,7 @@ impl<'t> Cursor<'t> {
     ) -> Result<ListOf<PartText>, Refusal>
         ensures gives { Gives result self.new
             (listed_at (codes ",") (part_at may (type_at narrow levels)) self.old) }
-        ensures takes { OnOk result (length self.new < length self.old) }
-        ensures keeps { length self.new ≤ length self.old }
+        ensures takes { Shortens result self.old self.new }
     {
         let mut parts = ListOf::new(alloc);
         parts.push(self.part(alloc, levels, may)?)?;
@@ -125,8 +122,7 @@ impl<'t> Cursor<'t> {
     #[tactic(auto, unfolding(crate::specs::ReadingTypes::parts_at))]
     fn parts(&mut self, alloc: Global, levels: u32) -> Result<ListOf<PartText>, Refusal>
         ensures gives { Gives result self.new (parts_at (type_at narrow levels) self.old) }
-        ensures takes { OnOk result (length self.new < length self.old) }
-        ensures keeps { length self.new ≤ length self.old }
+        ensures takes { Shortens result self.old self.new }
     {
         self.expect(b"{")?;
         let parts = if self.is(b"}") {
@@ -143,8 +139,7 @@ impl<'t> Cursor<'t> {
     #[tactic(auto, unfolding(crate::specs::ReadingTypes::alternatives_at))]
     fn alternatives(&mut self, alloc: Global, levels: u32) -> Result<ListOf<PartText>, Refusal>
         ensures gives { Gives result self.new (alternatives_at (type_at narrow levels) self.old) }
-        ensures takes { OnOk result (length self.new < length self.old) }
-        ensures keeps { length self.new ≤ length self.old }
+        ensures takes { Shortens result self.old self.new }
     {
         self.expect(b"{")?;
         let parts = self.listed_parts(alloc, levels, false)?;
@@ -158,8 +153,7 @@ impl<'t> Cursor<'t> {
     fn sequence(&mut self, alloc: Global, levels: u32) -> Result<PlainText, Refusal>
         ensures gives { GivesAs plain_of result self.new
             (sequence_at (type_at narrow levels) self.old) }
-        ensures takes { OnOk result (length self.new < length self.old) }
-        ensures keeps { length self.new ≤ length self.old }
+        ensures takes { Shortens result self.old self.new }
     {
         self.expect(b"SEQUENCE")?;
         if self.is(b"OF") {
@@ -177,8 +171,7 @@ impl<'t> Cursor<'t> {
     #[tactic(auto, unfolding(crate::specs::ReadingTypes::set_at))]
     fn set(&mut self, alloc: Global, levels: u32) -> Result<PlainText, Refusal>
         ensures gives { GivesAs plain_of result self.new (set_at (type_at narrow levels) self.old) }
-        ensures takes { OnOk result (length self.new < length self.old) }
-        ensures keeps { length self.new ≤ length self.old }
+        ensures takes { Shortens result self.old self.new }
     {
         self.expect(b"SET")?;
         if self.is(b"OF") {
@@ -197,8 +190,7 @@ impl<'t> Cursor<'t> {
     fn choice(&mut self, alloc: Global, levels: u32) -> Result<PlainText, Refusal>
         ensures gives { GivesAs plain_of result self.new
             (choice_at (type_at narrow levels) self.old) }
-        ensures takes { OnOk result (length self.new < length self.old) }
-        ensures keeps { length self.new ≤ length self.old }
+        ensures takes { Shortens result self.old self.new }
     {
         self.expect(b"CHOICE")?;
         let parts = self.alternatives(alloc, levels)?;
@@ -211,8 +203,7 @@ impl<'t> Cursor<'t> {
     fn plain(&mut self, alloc: Global, levels: u32) -> Result<PlainText, Refusal>
         ensures gives { GivesAs plain_of result self.new
             (plain_at narrow (type_at narrow levels) self.old) }
-        ensures takes { OnOk result (length self.new < length self.old) }
-        ensures keeps { length self.new ≤ length self.old }
+        ensures takes { Shortens result self.old self.new }
     {
         if self.is(b"SEQUENCE") {
             self.sequence(alloc, levels)
@@ -231,8 +222,7 @@ impl<'t> Cursor<'t> {
     fn type_over(&mut self, alloc: Global, levels: u32) -> Result<TypeText, Refusal>
         ensures gives { Gives result self.new
             (type_text_at narrow (type_at narrow levels) self.old) }
-        ensures takes { OnOk result (length self.new < length self.old) }
-        ensures keeps { length self.new ≤ length self.old }
+        ensures takes { Shortens result self.old self.new }
     {
         let place = self.place();
         let tag = if self.is(b"[") {
@@ -254,8 +244,7 @@ impl<'t> Cursor<'t> {
     #[tactic(auto, using(crate::proofs::Levels::type_at_none, crate::proofs::Levels::type_at_some))]
     pub fn type_text(&mut self, alloc: Global, levels: u32) -> Result<TypeText, Refusal>
         ensures gives { Gives result self.new (type_at narrow levels self.old) }
-        ensures takes { OnOk result (length self.new < length self.old) }
-        ensures keeps { length self.new ≤ length self.old }
+        ensures takes { Shortens result self.old self.new }
     {
         if levels == 0 {
             Err(Refusal::Fault(self.deep()))
@@ -268,8 +257,7 @@ impl<'t> Cursor<'t> {
     #[tactic(auto, unfolding(crate::specs::ReadingTypes::outer_type_at))]
     pub fn outer_type(&mut self, alloc: Global) -> Result<TypeText, Refusal>
         ensures gives { Gives result self.new (outer_type_at narrow self.old) }
-        ensures takes { OnOk result (length self.new < length self.old) }
-        ensures keeps { length self.new ≤ length self.old }
+        ensures takes { Shortens result self.old self.new }
     {
         self.type_text(alloc, MOST_LEVELS)
     }

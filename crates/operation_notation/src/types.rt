@@ -1,8 +1,8 @@
 //! Parsing types.
 
-ghost use Rattle.std.specs.Prelude.{◌≡◌, ◌≤◌, ◌<◌, codes, length, IfOk, OnOk};
+ghost use Rattle.std.specs.Prelude.{◌≡◌, ◌≤◌, codes, length, IfOk};
 ghost use Rattle.operation_notation.specs.GrammarTypes.{narrow};
-ghost use Rattle.operation_notation.specs.Reading.{Gives, GivesAs, behind, listed_at};
+ghost use Rattle.operation_notation.specs.Reading.{Gives, GivesAs, behind, listed_at, Shortens};
 ghost use Rattle.operation_notation.specs.ReadingTypes.{range_at, size_at, item_at, items_at, class_at, explicit_at, tag_at, text_or_name_at, integer_at, octets_at, leaf_at};
 ghost use Rattle.operation_notation.specs.TreeView.{plain_of};
 
@@ -18,8 +18,7 @@ impl<'t> Cursor<'t> {
     #[tactic(auto, unfolding(crate::specs::ReadingTypes::range_at))]
     fn range(&mut self) -> Result<RangeText, Refusal>
         ensures gives { Gives result self.new (range_at self.old) }
-        ensures takes { OnOk result (length self.new < length self.old) }
-        ensures keeps { length self.new ≤ length self.old }
+        ensures takes { Shortens result self.old self.new }
     {
         self.expect(b"(")?;
         let place = self.place();
@@ -39,8 +38,7 @@ impl<'t> Cursor<'t> {
     #[tactic(auto, unfolding(crate::specs::ReadingTypes::size_at))]
     fn size(&mut self) -> Result<RangeText, Refusal>
         ensures gives { Gives result self.new (size_at self.old) }
-        ensures takes { OnOk result (length self.new < length self.old) }
-        ensures keeps { length self.new ≤ length self.old }
+        ensures takes { Shortens result self.old self.new }
     {
         self.expect(b"(")?;
         self.expect(b"SIZE")?;
@@ -63,8 +61,7 @@ impl<'t> Cursor<'t> {
     #[tactic(auto, unfolding(crate::specs::ReadingTypes::item_at))]
     fn item(&mut self, alloc: Global) -> Result<ItemText, Refusal>
         ensures gives { Gives result self.new (item_at self.old) }
-        ensures takes { OnOk result (length self.new < length self.old) }
-        ensures keeps { length self.new ≤ length self.old }
+        ensures takes { Shortens result self.old self.new }
     {
         let name = self.value_name(alloc)?;
         self.expect(b"(")?;
@@ -76,8 +73,7 @@ impl<'t> Cursor<'t> {
     /// An item behind a comma.
     fn next_item(&mut self, alloc: Global) -> Result<ItemText, Refusal>
         ensures gives { Gives result self.new (behind (codes ",") item_at self.old) }
-        ensures takes { OnOk result (length self.new < length self.old) }
-        ensures keeps { length self.new ≤ length self.old }
+        ensures takes { Shortens result self.old self.new }
     {
         self.expect(b",")?;
         self.item(alloc)
@@ -87,8 +83,7 @@ impl<'t> Cursor<'t> {
     #[tactic(auto, using(crate::proofs::Loops::goes, crate::proofs::Loops::stops, crate::proofs::Loops::fails, crate::proofs::Loops::listed_starts))]
     fn listed_items(&mut self, alloc: Global) -> Result<ListOf<ItemText>, Refusal>
         ensures gives { Gives result self.new (listed_at (codes ",") item_at self.old) }
-        ensures takes { OnOk result (length self.new < length self.old) }
-        ensures keeps { length self.new ≤ length self.old }
+        ensures takes { Shortens result self.old self.new }
     {
         let mut items = ListOf::new(alloc);
         items.push(self.item(alloc)?)?;
@@ -102,8 +97,7 @@ impl<'t> Cursor<'t> {
     #[tactic(auto, unfolding(crate::specs::ReadingTypes::items_at))]
     fn items(&mut self, alloc: Global) -> Result<ListOf<ItemText>, Refusal>
         ensures gives { Gives result self.new (items_at self.old) }
-        ensures takes { OnOk result (length self.new < length self.old) }
-        ensures keeps { length self.new ≤ length self.old }
+        ensures takes { Shortens result self.old self.new }
     {
         self.expect(b"{")?;
         let items = self.listed_items(alloc)?;
@@ -152,8 +146,7 @@ impl<'t> Cursor<'t> {
     #[tactic(auto, unfolding(crate::specs::ReadingTypes::tag_at))]
     pub fn tag(&mut self) -> Result<TagText, Refusal>
         ensures gives { Gives result self.new (tag_at self.old) }
-        ensures takes { OnOk result (length self.new < length self.old) }
-        ensures keeps { length self.new ≤ length self.old }
+        ensures takes { Shortens result self.old self.new }
     {
         self.expect(b"[")?;
         let class = self.class()?;
@@ -171,8 +164,7 @@ impl<'t> Cursor<'t> {
     #[tactic(auto, unfolding(crate::specs::ReadingTypes::text_or_name_at))]
     fn text_or_name(&mut self, alloc: Global) -> Result<PlainText, Refusal>
         ensures gives { GivesAs plain_of result self.new (text_or_name_at narrow self.old) }
-        ensures takes { OnOk result (length self.new < length self.old) }
-        ensures keeps { length self.new ≤ length self.old }
+        ensures takes { Shortens result self.old self.new }
     {
         if self.is_text_kind() {
             return Ok(PlainText::Text(self.text_kind()?));
@@ -188,8 +180,7 @@ impl<'t> Cursor<'t> {
     #[tactic(auto, unfolding(crate::specs::ReadingTypes::integer_at))]
     fn integer_type(&mut self) -> Result<PlainText, Refusal>
         ensures gives { GivesAs plain_of result self.new (integer_at self.old) }
-        ensures takes { OnOk result (length self.new < length self.old) }
-        ensures keeps { length self.new ≤ length self.old }
+        ensures takes { Shortens result self.old self.new }
     {
         self.expect(b"INTEGER")?;
         let range = if self.is(b"(") {
@@ -204,8 +195,7 @@ impl<'t> Cursor<'t> {
     #[tactic(auto, unfolding(crate::specs::ReadingTypes::octets_at))]
     fn octets_type(&mut self) -> Result<PlainText, Refusal>
         ensures gives { GivesAs plain_of result self.new (octets_at self.old) }
-        ensures takes { OnOk result (length self.new < length self.old) }
-        ensures keeps { length self.new ≤ length self.old }
+        ensures takes { Shortens result self.old self.new }
     {
         self.expect(b"OCTET")?;
         self.expect(b"STRING")?;
@@ -221,8 +211,7 @@ impl<'t> Cursor<'t> {
     #[tactic(auto, unfolding(crate::specs::ReadingTypes::leaf_at))]
     pub fn leaf(&mut self, alloc: Global) -> Result<PlainText, Refusal>
         ensures gives { GivesAs plain_of result self.new (leaf_at narrow self.old) }
-        ensures takes { OnOk result (length self.new < length self.old) }
-        ensures keeps { length self.new ≤ length self.old }
+        ensures takes { Shortens result self.old self.new }
     {
         if self.is(b"BOOLEAN") {
             self.expect(b"BOOLEAN")?;

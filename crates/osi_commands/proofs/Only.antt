@@ -13,7 +13,7 @@ use Rattle.module_check.specs.declared.checking.Checked.{Checked}
 use Rattle.module_check.specs.declared.checking.Checked.TheVariants.{Shown, Refused}
 use Rattle.script_lines.specs.declared.fault.ScriptFault.{ScriptFault}
 use Rattle.script_lines.specs.declared.fault.ScriptFault.TheVariants.{At, NoMemory}
-use Rattle.schedule_text.specs.Schedules.{Said, schedule_of}
+use Rattle.replays.specs.schedule_text.Schedules.{Said, schedule_of}
 use Rattle.trace_file.specs.declared.fault.RecordingFault.{RecordingFault}
 use Rattle.trace_file.specs.declared.fault.RecordingFault.TheVariants as recording_faults
 use Rattle.trace_file.specs.declared.reading.Recorded.{Recorded}

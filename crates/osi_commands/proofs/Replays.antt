@@ -2,7 +2,7 @@
 use Rattle.std.proofs.Common.{◌≡◌, ℕ, Bool, List}
 use Rattle.stub_tables.specs.declared.tables.Tables.{Tables}
 use Rattle.dialogue.specs.declared.event.Transcript.{Transcript}
-use Rattle.schedule_text.specs.Schedules.{Said}
+use Rattle.replays.specs.schedule_text.Schedules.{Said}
 use Rattle.replays.specs.Runs.{RanSchedule, OneTranscript}
 use Rattle.osi_commands.specs.Replaying.{written_of, Replayed}
 

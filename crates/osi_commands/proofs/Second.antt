@@ -5,11 +5,11 @@ use Rattle.stub_tables.specs.declared.tables.Tables.{Tables}
 use Rattle.script_lines.specs.declared.fault.ScriptFault.{ScriptFault}
 use Rattle.script_lines.specs.declared.fault.ScriptFault.TheVariants.{At, NoMemory}
 use Rattle.script_lines.specs.declared.fault.ScriptKind.{ScriptKind}
-use Rattle.schedule_text.specs.declared.setting.Modes.{Modes}
-use Rattle.schedule_text.specs.Laws.{SchedulesAreRun}
+use Rattle.replays.specs.schedule_text.declared.setting.Modes.{Modes}
+use Rattle.replays.specs.schedule_text.Laws.{SchedulesAreRun}
 use Rattle.schedule_ends.specs.Ends.{HasEnds}
 use Rattle.replays.specs.Runs.{IsSetUp}
-use Rattle.schedule_text.specs.Schedules.{Said, schedule_of}
+use Rattle.replays.specs.schedule_text.Schedules.{Said, schedule_of}
 use Rattle.trace_file.specs.declared.fault.RecordingKind.{RecordingKind}
 use Rattle.trace_file.specs.declared.fault.RecordingFault.{RecordingFault}
 use Rattle.trace_file.specs.declared.fault.RecordingFault.TheVariants as recording_faults

@@ -11,7 +11,7 @@ use Rattle.module_reading.specs.Modules.{HasTables, IsRefused}
 use Rattle.script_lines.specs.declared.fault.ScriptFault.{ScriptFault}
 use Rattle.script_lines.specs.declared.fault.ScriptFault.TheVariants.{At}
 use Rattle.script_lines.specs.declared.fault.ScriptKind.{ScriptKind}
-use Rattle.schedule_text.specs.Schedules.{Said, schedule_of}
+use Rattle.replays.specs.schedule_text.Schedules.{Said, schedule_of}
 use Rattle.replays.specs.Runs.{RanSchedule}
 use Rattle.trace_file.specs.declared.fault.RecordingKind.{RecordingKind}
 use Rattle.trace_file.specs.declared.fault.RecordingFault.{RecordingFault}

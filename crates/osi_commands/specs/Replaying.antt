@@ -4,8 +4,8 @@ use Rattle.stub_tables.specs.declared.tables.Tables.{Tables}
 use Rattle.dialogue.specs.declared.event.Transcript.{Transcript}
 use Rattle.script_lines.specs.declared.fault.ScriptFault.{ScriptFault}
 use Rattle.script_lines.specs.declared.fault.ScriptFault.TheVariants.{At, NoMemory}
-use Rattle.schedule_text.specs.declared.setting.Modes.{Modes}
-use Rattle.schedule_text.specs.Schedules.{Said, schedule_of}
+use Rattle.replays.specs.schedule_text.declared.setting.Modes.{Modes}
+use Rattle.replays.specs.schedule_text.Schedules.{Said, schedule_of}
 use Rattle.transcript_text.specs.Texts.{text_of}
 use Rattle.transcript_text.specs.Counts.{summary_of}
 use Rattle.replays.specs.Runs.{RanSchedule}

@@ -2,16 +2,16 @@
 
 ghost use Rattle.std.specs.Prelude.{◌≡◌, IfOk};
 ghost use Rattle.packed_codec.specs.Laws.{HasNoAny};
-ghost use Rattle.schedule_text.specs.Schedules.{said};
+ghost use Rattle.replays.specs.schedule_text.Schedules.{said};
 ghost use Rattle.replays.specs.Runs.{IsSetUp};
 ghost use Rattle.osi_commands.specs.Replaying.{written_of, Replayed, ReplayedBy};
 
 use crate::answers::{Answer, done, script_refused};
 use dialogue::Transcript;
 use osi_base::{NoMemory, Octets};
+use replays::schedule_text_layer::{Modes, Schedule, read_schedule, schedules_are_run};
 use replays::{one_transcript, run_schedule};
 use schedule_ends::schedule_has_ends;
-use schedule_text::{Modes, Schedule, read_schedule, schedules_are_run};
 use script_lines::ScriptFault;
 use std::alloc::Global;
 use stub_tables::Tables;

@@ -1,10 +1,10 @@
 //! How many octets values have in the packed syntax. Counts stand still at their type's end.
 
-ghost use Rattle.std.specs.Prelude.{◌≡◌, ◌≤◌, ◌<◌, ◌+◌, min, Some, length, slice_get};
+ghost use Rattle.std.specs.Prelude.{◌≡◌, ◌≤◌, ◌<◌, ◌+◌, min, length};
 ghost use Rattle.std.specs.List.{AllByRecursion, flat_map};
 ghost use Rattle.osi_base.specs.Limits.{last_count};
 ghost use Rattle.asn1_types.specs.Rows.{rows_of_parts};
-ghost use Rattle.asn1_types.specs.Table.{AreSoundRows};
+ghost use Rattle.asn1_types.specs.Table.{IsRowOf};
 ghost use Rattle.asn1_types.specs.ValueView.{parts_of, values_of};
 ghost use Rattle.packed_codec.specs.Numbers.{integer_octets};
 ghost use Rattle.packed_codec.specs.ObjectIds.{base_128, arcs_octets};
@@ -125,8 +125,7 @@ pub fn packed_len(table: &TypeTable, of: TypeId, value: &Val) -> u64
 
 #[cycle(measuring)]
 fn of_row(table: &TypeTable, of: TypeId, row: &TypeRow, value: &Val) -> u64
-    requires row { slice_get table.now of.0 ≡ Some row.now }
-    requires sound { AreSoundRows table.now }
+    requires row { IsRowOf table.now of.0 row.now }
     ensures { result ≡ min (length (write_by (packed table.now) row.now value.now)) last_count }
 {
     match row {

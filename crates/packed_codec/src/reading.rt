@@ -1,8 +1,8 @@
 //! Reading values, row by row.
 
-ghost use Rattle.std.specs.Prelude.{◌≡◌, [], ◌≤◌, ◌<◌, length, Some, None, slice_get, IfOk};
+ghost use Rattle.std.specs.Prelude.{◌≡◌, [], ◌<◌, length, None, IfOk};
 ghost use Rattle.osi_base.specs.OctetPlaces.{HasPlaces};
-ghost use Rattle.asn1_types.specs.Table.{AreSoundRows};
+ghost use Rattle.asn1_types.specs.Table.{IsRowOf};
 ghost use Rattle.asn1_types.specs.Writing.{written};
 ghost use Rattle.ber_spelling.specs.Below.{ReadsBelow, ReadsPartsBelow};
 ghost use Rattle.packed_codec.specs.Reading.{Gives, spot_of, GoesOn};
@@ -49,8 +49,7 @@ fn value_as<'a>(
     limit: u32,
     spot: Spot<'a>,
 ) -> Result<(Val, Spot<'a>), PackedFault>
-    requires row { slice_get table.now of.0 ≡ Some row.now }
-    requires sound { AreSoundRows table.now }
+    requires row { IsRowOf table.now of.0 row.now }
     requires whole { HasPlaces spot.place spot.rest.now }
     ensures gives { Gives (λ x. (x.0, spot_of x.1)) result
         (read_by (written table.now) (reads table.now) row.now limit (spot_of spot.entry)) }

@@ -1,10 +1,10 @@
 //! Writing values, row by row, into the front of a room.
 
-ghost use Rattle.std.specs.Prelude.{◌≡◌, ◌∷◌, ◌++◌, ◌+◌, ◌≤◌, ◌<◌, Some, length, drop, slice_get};
+ghost use Rattle.std.specs.Prelude.{◌≡◌, ◌∷◌, ◌++◌, ◌+◌, ◌≤◌, ◌<◌, length, drop};
 ghost use Rattle.std.specs.List.{AllByRecursion};
 ghost use Rattle.osi_base.specs.Limits.{most_alternatives};
 ghost use Rattle.asn1_types.specs.Rows.{rows_of_parts};
-ghost use Rattle.asn1_types.specs.Table.{AreSoundRows};
+ghost use Rattle.asn1_types.specs.Table.{IsRowOf};
 ghost use Rattle.asn1_types.specs.ValueView.{parts_of, values_of};
 ghost use Rattle.packed_codec.specs.Writing.{part_written, parts_written, sequence_written, values_written, list_written, choice_written, write_by, packed, IsPut};
 
@@ -43,8 +43,7 @@ fn put_row(
     out: &mut [u8],
     at: usize,
 ) -> usize
-    requires row { slice_get table.now of.0 ≡ Some row.now }
-    requires sound { AreSoundRows table.now }
+    requires row { IsRowOf table.now of.0 row.now }
     requires room { at + length (write_by (packed table.now) row.now value.now) ≤ length out.old }
     ensures { IsPut (write_by (packed table.now) row.now value.now) at out.old out.new result }
 {

@@ -4,7 +4,7 @@ ghost use Rattle.std.specs.Prelude.{◌≡◌, ◌++◌, ◌<◌, length, Some, 
 ghost use Rattle.osi_base.specs.OctetPlaces.{HasPlaces};
 ghost use Rattle.asn1_types.specs.Value as tree;
 ghost use Rattle.asn1_types.specs.ValueView.{values_of, parts_of};
-ghost use Rattle.ber_spelling.specs.Reading.{Gives, GoesOn, opened_of, spot_of};
+ghost use Rattle.ber_spelling.specs.Reading.{Gives, GoesOn, IsBehind, opened_of, spot_of};
 ghost use Rattle.ber_spelling.specs.Rules.{all_items_at, list_item_at, reads};
 ghost use Rattle.passed_fields.specs.Known.{HasRow, HaveRows};
 ghost use Rattle.passed_fields.specs.Passing.{is_of, are_optional, nones, told_behind, told_by, passes};
@@ -99,8 +99,7 @@ fn held<'a>(
     spot: Spot<'a>,
 ) -> Result<(Val, Spot<'a>), ReadFault>
     requires row { HasRow table.now holds }
-    requires whole { HasPlaces spot.place spot.rest.now }
-    requires start { GoesOn opened.now.start.place (length opened.now.start.rest.now) spot }
+    requires behind { IsBehind opened.now spot }
     ensures gives { Gives (λ x. (x.0, spot_of x.1)) result
         (held_by table.now tag holds scope.now (opened_of opened.now) (spot_of spot.entry)) }
     ensures stops { IfOk result (λ x. GoesOn spot.entry.place (length spot.entry.rest.now) x.1) }
@@ -131,8 +130,7 @@ fn known<'a>(
     spot: Spot<'a>,
 ) -> Result<(MaybeVals, Spot<'a>), ReadFault>
     requires rows { HaveRows table.now fields.now }
-    requires whole { HasPlaces spot.place spot.rest.now }
-    requires start { GoesOn opened.now.start.place (length opened.now.start.rest.now) spot }
+    requires behind { IsBehind opened.now spot }
     ensures gives { Gives (λ x. (x.0.items, spot_of x.1)) result
         (known_at table.now fields.now found.items scope.now (opened_of opened.now)
         (spot_of spot.entry)) }
@@ -233,8 +231,7 @@ fn field<'a>(
     spot: Spot<'a>,
 ) -> Result<(MaybeVals, Spot<'a>), ReadFault>
     requires rows { HaveRows table.now fields.now.known.now }
-    requires whole { HasPlaces spot.place spot.rest.now }
-    requires start { GoesOn opened.now.start.place (length opened.now.start.rest.now) spot }
+    requires behind { IsBehind opened.now spot }
     ensures gives { Gives (λ x. (x.0.items, spot_of x.1)) result
         (field_at table.now fields.now.known.now fields.now.passed.now found.items scope.now
         (opened_of opened.now) (spot_of spot.entry)) }

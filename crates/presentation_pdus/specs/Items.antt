@@ -1,10 +1,9 @@
 -- Items of lists in units of the presentation protocol, and the values that they stand for (X.226 8.2 to 8.4).
 use Rattle.std.specs.Prelude.{ℕ, pos, List, [], ◌∷◌, map, Option, Some, None, option_map}
-use Rattle.osi_base.specs.declared.bit_string.BitString as strings
 use Rattle.osi_base.specs.declared.layer_words.Proposal as proposals
 use Rattle.osi_base.specs.declared.layer_words.AddAnswer as answers
 use Rattle.osi_base.specs.declared.layer_words.RestoredItem as restored
-use Rattle.asn1_types.specs.Value.{Value, integer, bits, object_id, parts, list}
+use Rattle.asn1_types.specs.Value.{Value, integer, object_id, parts, list}
 use Rattle.asn1_types.specs.ValueView.{parts_of, values_of}
 use Rattle.fixed_tables.specs.Values.{part_in, small_or, octet_or, arcs_in, maybe_arcs, items_in}
 
@@ -19,9 +18,6 @@ octet_in v = octet_or (pos 0) (Some v)
 
 abbrev pub name_in : Value → List ℕ
 name_in v = arcs_in (Some v)
-
-abbrev pub bits_value : strings.BitString → Value
-bits_value string = bits string.octets string.unused
 
 -- a list, and a list that doesn't stand where it has no items
 abbrev pub list_value : {X : Type 0} → (X → Value) → List X → Value

@@ -1,16 +1,23 @@
 -- The units of the presentation protocol as rows of types (X.226 8.2 to 8.4), without the fields that are passed over
 -- and without default contexts.
-use Rattle.std.specs.Prelude.{ℕ, pos, negsuc, true, false, List, [], ◌∷◌, codes}
+use Rattle.std.specs.Prelude.{◌≡◌, ℕ, pos, negsuc, true, false, List, [], ◌∷◌, length, codes}
 use Rattle.osi_base.specs.Limits.{highest_context, most_spelled, most_signed}
+use Rattle.osi_base.specs.OctetPlaces.{HasPlaces}
 use Rattle.asn1_types.specs.declared.row.Class.TheVariants.{Application}
 use Rattle.asn1_types.specs.declared.row.Part.{Part}
 use Rattle.asn1_types.specs.declared.row.TypeRow.{TypeRow}
 use Rattle.asn1_types.specs.declared.row.TypeRow.TheVariants.{Integer, OctetString, BitString, ObjectId, Sequence, Set, SequenceOf, Choice, Tagged, Any}
+use Rattle.ber_spelling.specs.declared.spot.Spot.{Spot}
 use Rattle.fixed_tables.specs.Rows.{part, implicit, explicit}
 
 -- how many rows the table has
 abbrev pub row_count : ℕ
 row_count = 64
+
+-- A table has all rows, and the octets of a spot all have places.
+pub record HasRowsAndPlaces (table : List TypeRow) (spot : Spot) : Type 0 where
+  pub all : length table ≡ row_count
+  pub whole : HasPlaces spot.place spot.rest.now
 
 abbrev pub connect_row : ℕ
 connect_row = 44

@@ -11,9 +11,9 @@ use Rattle.osi_base.specs.declared.presentation_word.PresentationReject as rejec
 use Rattle.osi_base.specs.declared.presentation_word.PresentationWord as units
 use Rattle.osi_base.specs.declared.presentation_word.PresentationWord.TheVariants as unit
 use Rattle.asn1_types.specs.Value.{Value, integer, octets, parts}
-use Rattle.fixed_tables.specs.Values.{part_in, number_or, maybe_octets, maybe_bits, items_in, alternative, inside}
+use Rattle.fixed_tables.specs.Values.{part_in, number_or, maybe_octets, maybe_bits, items_in, alternative, inside, bits_value}
 use Rattle.fixed_tables.specs.Pdvs.{pdv_in, pdv_value}
-use Rattle.presentation_pdus.specs.Items.{number_in, octet_in, definition_in, answer_in, restored_in, number_value, bits_value, list_value, some_list, definition_value, answer_value, restored_value}
+use Rattle.presentation_pdus.specs.Items.{number_in, octet_in, definition_in, answer_in, restored_in, number_value, list_value, some_list, definition_value, answer_value, restored_value}
 use Rattle.asn1_types.specs.ValueView.{parts_of}
 use Rattle.asn1_types.specs.Writing.{written}
 use Rattle.presentation_pdus.specs.Rows.{connect_row, accept_row, reject_row, alter_row, alter_ack_row, restart_row, user_abort_row, provider_abort_row, data_row, ppdu_rows}

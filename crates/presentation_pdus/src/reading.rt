@@ -3,13 +3,13 @@
 ghost use Rattle.std.specs.Prelude.{◌≡◌, length, IfOk, [], Some, None};
 ghost use Rattle.osi_base.specs.Limits.{most_spelled};
 ghost use Rattle.osi_base.specs.OctetPlaces.{HasPlaces};
-ghost use Rattle.ber_spelling.specs.Reading.{Gives, GoesOn, opened_of, spot_of};
+ghost use Rattle.ber_spelling.specs.Reading.{Gives, GoesOn, IsBehind, opened_of, spot_of};
 ghost use Rattle.ber_spelling.specs.declared.fault.ReadFault.TheVariants.{NotSpelled};
 ghost use Rattle.ber_spelling.specs.Rules.{reads, plain};
 ghost use Rattle.passed_fields.specs.Known.{HaveRows};
 ghost use Rattle.passed_fields.specs.Front.{front_at};
 ghost use Rattle.passed_fields.specs.Reading.{fielded_at};
-ghost use Rattle.presentation_pdus.specs.Rows.{row_count};
+ghost use Rattle.presentation_pdus.specs.Rows.{row_count, HasRowsAndPlaces};
 ghost use Rattle.presentation_pdus.specs.Fields.{context_tag, sequence_tag, user_tag, mode_row, connect_fields, connect_passed, accept_fields, accept_passed, reject_fields, alter_fields, alter_ack_fields, restart_fields, user_abort_fields, provider_abort_fields};
 ghost use Rattle.presentation_pdus.specs.Selected.{again_kind, has_context, half_at, both, halves_done, no_half, halves_at, selected_at};
 ghost use Rattle.presentation_pdus.specs.Units.{unit_at, connect_at, accept_at, alteration_at, abort_at, data_at, ppdu_run};
@@ -82,8 +82,7 @@ fn half<'a>(
 ) -> Result<(Halves, Spot<'a>), ReadFault>
     requires rows { HaveRows table.now shape.now.known.now }
     requires all { length table.now ≡ row_count }
-    requires whole { HasPlaces spot.place spot.rest.now }
-    requires start { GoesOn opened.now.start.place (length opened.now.start.rest.now) spot }
+    requires behind { IsBehind opened.now spot }
     ensures gives { Gives (λ x. (x.0, spot_of x.1)) result
         (half_at (reads table.now mode_row plain)
         (fielded_at table.now shape.now.known.now shape.now.passed.now (context_tag 2)) before
@@ -152,8 +151,7 @@ fn all_halves<'a>(
     spot: Spot<'a>,
 ) -> Result<(Val, Spot<'a>), ReadFault>
     requires rows { HaveRows table.now shape.now.known.now }
-    requires all { length table.now ≡ row_count }
-    requires whole { HasPlaces spot.place spot.rest.now }
+    requires whole { HasRowsAndPlaces table.now spot }
     ensures gives { Gives (λ x. (x.0, spot_of x.1)) result
         (halves_at (reads table.now mode_row plain)
         (fielded_at table.now shape.now.known.now shape.now.passed.now (context_tag 2)) scope.now
@@ -190,8 +188,7 @@ fn selected<'a>(
     spot: Spot<'a>,
 ) -> Result<(Val, Spot<'a>), ReadFault>
     requires rows { HaveRows table.now shape.now.known.now }
-    requires all { length table.now ≡ row_count }
-    requires whole { HasPlaces spot.place spot.rest.now }
+    requires whole { HasRowsAndPlaces table.now spot }
     ensures gives { Gives (λ x. (x.0, spot_of x.1)) result
         (selected_at (reads table.now mode_row plain)
         (fielded_at table.now shape.now.known.now shape.now.passed.now (context_tag 2)) scope.now
@@ -219,8 +216,7 @@ fn with_mode<'a>(
     spot: Spot<'a>,
 ) -> Result<(Val, Spot<'a>), ReadFault>
     requires rows { HaveRows table.now known.now }
-    requires all { length table.now ≡ row_count }
-    requires whole { HasPlaces spot.place spot.rest.now }
+    requires whole { HasRowsAndPlaces table.now spot }
     ensures gives { Gives (λ x. (x.0, spot_of x.1)) result
         (unit_at which (selected_at (reads table.now mode_row plain)
         (fielded_at table.now known.now passed.now (context_tag 2))) scope.now
@@ -263,8 +259,7 @@ fn data<'a>(
     opened: &Opened<'a>,
     spot: Spot<'a>,
 ) -> Result<(Val, Spot<'a>), ReadFault>
-    requires all { length table.now ≡ row_count }
-    requires whole { HasPlaces spot.place spot.rest.now }
+    requires whole { HasRowsAndPlaces table.now spot }
     ensures gives { Gives (λ x. (x.0, spot_of x.1)) result
         (data_at table.now scope.now (opened_of opened.now) (spot_of spot.entry)) }
     ensures stops { IfOk result (λ x. GoesOn spot.entry.place (length spot.entry.rest.now) x.1) }
@@ -286,8 +281,7 @@ fn alteration<'a>(
     opened: &Opened<'a>,
     spot: Spot<'a>,
 ) -> Result<(Val, Spot<'a>), ReadFault>
-    requires all { length table.now ≡ row_count }
-    requires whole { HasPlaces spot.place spot.rest.now }
+    requires whole { HasRowsAndPlaces table.now spot }
     ensures gives { Gives (λ x. (x.0, spot_of x.1)) result
         (alteration_at table.now scope.now (opened_of opened.now) (spot_of spot.entry)) }
     ensures stops { IfOk result (λ x. GoesOn spot.entry.place (length spot.entry.rest.now) x.1) }
@@ -310,8 +304,7 @@ fn abort<'a>(
     opened: &Opened<'a>,
     spot: Spot<'a>,
 ) -> Result<(Val, Spot<'a>), ReadFault>
-    requires all { length table.now ≡ row_count }
-    requires whole { HasPlaces spot.place spot.rest.now }
+    requires whole { HasRowsAndPlaces table.now spot }
     ensures gives { Gives (λ x. (x.0, spot_of x.1)) result
         (abort_at table.now scope.now (opened_of opened.now) (spot_of spot.entry)) }
     ensures stops { IfOk result (λ x. GoesOn spot.entry.place (length spot.entry.rest.now) x.1) }
@@ -334,8 +327,7 @@ fn connect<'a>(
     opened: &Opened<'a>,
     spot: Spot<'a>,
 ) -> Result<(Val, Spot<'a>), ReadFault>
-    requires all { length table.now ≡ row_count }
-    requires whole { HasPlaces spot.place spot.rest.now }
+    requires whole { HasRowsAndPlaces table.now spot }
     ensures gives { Gives (λ x. (x.0, spot_of x.1)) result
         (unit_at 0 (connect_at table.now) scope.now (opened_of opened.now) (spot_of spot.entry)) }
     ensures stops { IfOk result (λ x. GoesOn spot.entry.place (length spot.entry.rest.now) x.1) }
@@ -354,8 +346,7 @@ fn accept<'a>(
     opened: &Opened<'a>,
     spot: Spot<'a>,
 ) -> Result<(Val, Spot<'a>), ReadFault>
-    requires all { length table.now ≡ row_count }
-    requires whole { HasPlaces spot.place spot.rest.now }
+    requires whole { HasRowsAndPlaces table.now spot }
     ensures gives { Gives (λ x. (x.0, spot_of x.1)) result
         (unit_at 1 (accept_at table.now) scope.now (opened_of opened.now) (spot_of spot.entry)) }
     ensures stops { IfOk result (λ x. GoesOn spot.entry.place (length spot.entry.rest.now) x.1) }
@@ -374,8 +365,7 @@ fn reject<'a>(
     opened: &Opened<'a>,
     spot: Spot<'a>,
 ) -> Result<(Val, Spot<'a>), ReadFault>
-    requires all { length table.now ≡ row_count }
-    requires whole { HasPlaces spot.place spot.rest.now }
+    requires whole { HasRowsAndPlaces table.now spot }
     ensures gives { Gives (λ x. (x.0, spot_of x.1)) result
         (unit_at 2 (fielded_at table.now reject_fields [] sequence_tag) scope.now
         (opened_of opened.now) (spot_of spot.entry)) }
@@ -395,8 +385,7 @@ fn restart<'a>(
     opened: &Opened<'a>,
     spot: Spot<'a>,
 ) -> Result<(Val, Spot<'a>), ReadFault>
-    requires all { length table.now ≡ row_count }
-    requires whole { HasPlaces spot.place spot.rest.now }
+    requires whole { HasRowsAndPlaces table.now spot }
     ensures gives { Gives (λ x. (x.0, spot_of x.1)) result
         (unit_at which (fielded_at table.now restart_fields [] sequence_tag) scope.now
         (opened_of opened.now) (spot_of spot.entry)) }
@@ -425,8 +414,7 @@ fn unit<'a>(
     opened: &Opened<'a>,
     spot: Spot<'a>,
 ) -> Result<(Val, Spot<'a>), ReadFault>
-    requires all { length table.now ≡ row_count }
-    requires whole { HasPlaces spot.place spot.rest.now }
+    requires whole { HasRowsAndPlaces table.now spot }
     ensures gives { Gives (λ x. (x.0, spot_of x.1)) result
         (ppdu_run table.now place scope.now (opened_of opened.now) (spot_of spot.entry)) }
     ensures stops { IfOk result (λ x. GoesOn spot.entry.place (length spot.entry.rest.now) x.1) }

@@ -3,7 +3,6 @@
 ghost use Rattle.std.specs.Prelude.{◌≡◌, IfOk, option_map};
 ghost use Rattle.std.specs.Option.{option_copied};
 ghost use Rattle.asn1_types.specs.Value as tree;
-ghost use Rattle.presentation_pdus.specs.Items.{bits_value};
 ghost use Rattle.presentation_pdus.specs.Words.{integer_in, contexts_in, connect_in, accept_in, reject_in, said_by, said, normal_mode, with_mode, connect_value, accept_value, reject_value, row_of, value_of};
 
 use crate::items::{
@@ -12,12 +11,12 @@ use crate::items::{
 };
 use asn1_types::{TypeId, Val};
 use fixed_tables::{
-    alternative, bits, chosen_in, integer, list_in, list_of, maybe_bits, maybe_octets, number_or,
-    number_part, octets, part_in, sequence,
+    alternative, bits_part, chosen_in, integer, list_in, list_of, maybe_bits, maybe_octets,
+    number_or, number_part, octets, part_in, sequence,
 };
 use osi_base::{
-    Answers, BitString, NoMemory, Octets, PresentationAccept, PresentationConnect,
-    PresentationReject, PresentationWord, RestoredList,
+    Answers, NoMemory, Octets, PresentationAccept, PresentationConnect, PresentationReject,
+    PresentationWord, RestoredList,
 };
 use std::alloc::Global;
 
@@ -123,15 +122,6 @@ pub(crate) fn said(alloc: Global, value: &Val) -> Result<PresentationWord, NoMem
     ensures { IfOk result (λ x. x ≡ said value.now) }
 {
     said_by(alloc, alternative(Some(value)), chosen_in(Some(value)))
-}
-
-fn bits_part(alloc: Global, string: &Option<BitString>) -> Result<Option<Val>, NoMemory>
-    ensures { IfOk result (λ part. part ≡ option_map bits_value string.now) }
-{
-    match string {
-        Some(string) => Ok(Some(bits(alloc, string)?)),
-        None => Ok(None),
-    }
 }
 
 fn octets_part(alloc: Global, string: &Option<Octets>) -> Result<Option<Val>, NoMemory>

@@ -1,9 +1,9 @@
 //! Values that are read by their types.
 
-ghost use Rattle.std.specs.Prelude.{◌≡◌, ◌<◌, ◌≤◌, [], zero, length, Some, None, IfOk, IfSome, slice_get, slice_set, option_map};
+ghost use Rattle.std.specs.Prelude.{◌≡◌, ◌<◌, [], zero, length, None, IfOk, IfSome, slice_set, option_map};
 ghost use Rattle.std.specs.List.{AllByRecursion};
 ghost use Rattle.asn1_types.specs.Rows.{rows_of_parts};
-ghost use Rattle.asn1_types.specs.Table.{AreSoundRows};
+ghost use Rattle.asn1_types.specs.Table.{IsRowOf};
 ghost use Rattle.asn1_types.specs.Rising.{sorted};
 ghost use Rattle.asn1_types.specs.Writing.{written};
 ghost use Rattle.value_reading.specs.Found.{found, found_before, listed};
@@ -66,8 +66,7 @@ fn read_row<'a>(
     row: &TypeRow,
     text: &'a [u8],
 ) -> Result<Option<Front<'a>>, NoMemory>
-    requires row { slice_get table.now of.0 ≡ Some row.now }
-    requires sound { AreSoundRows table.now }
+    requires row { IsRowOf table.now of.0 row.now }
     ensures { IfOk result (λ front. found front ≡ read_by (written table.now) (read_as table.now)
         row.now text.now) }
 {

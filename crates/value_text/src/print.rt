@@ -1,9 +1,9 @@
 //! Values as texts, by their types (the notation of X.680 for values).
 
-ghost use Rattle.std.specs.Prelude.{◌≡◌, ◌++◌, ◌<◌, Some, OnOk, IfOk, slice_get, true, codes};
+ghost use Rattle.std.specs.Prelude.{◌≡◌, ◌++◌, ◌<◌, OnOk, IfOk, true, codes};
 ghost use Rattle.std.specs.List.{AllByRecursion};
 ghost use Rattle.asn1_types.specs.Rows.{rows_of_parts};
-ghost use Rattle.asn1_types.specs.Table.{AreSoundRows};
+ghost use Rattle.asn1_types.specs.Table.{IsRowOf};
 ghost use Rattle.asn1_types.specs.ValueView.{parts_of, values_of};
 ghost use Rattle.value_text.specs.Printed.{
   item_text,
@@ -52,8 +52,7 @@ fn put_row(
     row: &TypeRow,
     value: &Val,
 ) -> Result<(), NoMemory>
-    requires row { slice_get table.now of.0 ≡ Some row.now }
-    requires sound { AreSoundRows table.now }
+    requires row { IsRowOf table.now of.0 row.now }
     ensures { OnOk result (text.new ≡ text.old ++ text_by (printed table.now) row.now value.now) }
 {
     match row {

@@ -13,7 +13,7 @@ takes_default-returns t c =
 
 pub row_takes_default-takes_default-requires : goal.row_takes_default-takes_default-requires
 row_takes_default-takes_default-requires t c =
-    let lt = slice_get_within c.args.table.now c.args.of.0 c.args.row.now c.requires.row in
-    let down = down_as c.args.table.now c.args.of.0 c.args.row.now (Tagged c.in-Tagged.class c.in-Tagged.number c.in-Tagged.explicit c.in-Tagged.inner) c.requires.sound c.requires.row c.in-Tagged.is in
+    let lt = slice_get_within c.args.table.now c.args.of.0 c.args.row.now c.requires.row.found in
+    let down = down_as c.args.table.now c.args.of.0 c.args.row.now (Tagged c.in-Tagged.class c.in-Tagged.number c.in-Tagged.explicit c.in-Tagged.inner) c.requires.row.sound c.requires.row.found c.in-Tagged.is in
     let below : c.in-Tagged.inner.0 < c.args.of.0 = down.0 in
     (omega arith, omega arith)

@@ -16,9 +16,9 @@ meet-returns t c =
 
 pub meets_row-any_meets-requires : goal.meets_row-any_meets-requires
 meets_row-any_meets-requires t c =
-    let lt = slice_get_within c.args.table.now c.args.a.0 c.args.row.now c.requires.row in
-    let down = choice_down c.args.table.now c.args.a.0 c.args.row.now c.in-Choice.parts c.requires.sound c.requires.row c.in-Choice.is in
+    let lt = slice_get_within c.args.table.now c.args.a.0 c.args.row.now c.requires.row.found in
+    let down = choice_down c.args.table.now c.args.a.0 c.args.row.now c.in-Choice.parts c.requires.row.sound c.requires.row.found c.in-Choice.is in
     (omega arith, (rw c.as_slice.ensures down, (omega arith, c.requires.b)))
 
 pub meets_row-returns-in-Any : goal.meets_row-returns-in-Any
-meets_row-returns-in-Any t c = rw c.in-Any.is (sym (opens_some c.args.table.now c.requires.sound c.args.b.0 c.requires.b))
+meets_row-returns-in-Any t c = rw c.in-Any.is (sym (opens_some c.args.table.now c.requires.row.sound c.args.b.0 c.requires.b))

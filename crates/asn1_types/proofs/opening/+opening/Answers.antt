@@ -16,6 +16,6 @@ opens-returns t c =
 
 pub opens_row-any_opens-requires : goal.opens_row-any_opens-requires
 opens_row-any_opens-requires t c =
-    let lt = slice_get_within c.args.table.now c.args.of.0 c.args.row.now c.requires.row in
-    let down = choice_down c.args.table.now c.args.of.0 c.args.row.now c.in-Choice.parts c.requires.sound c.requires.row c.in-Choice.is in
+    let lt = slice_get_within c.args.table.now c.args.of.0 c.args.row.now c.requires.row.found in
+    let down = choice_down c.args.table.now c.args.of.0 c.args.row.now c.in-Choice.parts c.requires.row.sound c.requires.row.found c.in-Choice.is in
     (omega arith, (rw c.as_slice.ensures down, omega arith))

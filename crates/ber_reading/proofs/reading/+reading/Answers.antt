@@ -37,7 +37,7 @@ choice-begins-requires t c =
 pub choice-value-requires : goal.choice-value-requires
 choice-value-requires t c =
     let lt : c.index-alternatives-which.result.inner.0 < c.args.of.0 = each_part (λ m. m < c.args.of.0) c.args.alternatives.now c.loop-which.which c.index-alternatives-which.result c.requires.reads.below c.loop-which-test.true c.index-alternatives-which.is in
-    (omega arith, (omega arith, (c.requires.reads.whole, c.requires.start)))
+    (omega arith, (omega arith, record { whole = c.requires.reads.whole; start = c.requires.start }))
 
 pub sequence-returns-in_err-found-clause-gives : goal.sequence-returns-in_err-found-clause-gives
 sequence-returns-in_err-found-clause-gives t c =
@@ -58,44 +58,44 @@ value-returns-clause-gives t c =
 
 pub value_as-sequence-requires : goal.value_as-sequence-requires
 value_as-sequence-requires t c =
-    let lt = slice_get_within c.args.table.now c.args.of.0 c.args.row.now c.requires.row in
-    let down = down_as c.args.table.now c.args.of.0 c.args.row.now (Sequence c.in-Sequence.parts) c.requires.sound c.requires.row c.in-Sequence.is in
-    (omega arith, record { below = down; row = omega arith; whole = c.requires.whole })
+    let lt = slice_get_within c.args.table.now c.args.of.0 c.args.row.now c.requires.row.found in
+    let down = down_as c.args.table.now c.args.of.0 c.args.row.now (Sequence c.in-Sequence.parts) c.requires.row.sound c.requires.row.found c.in-Sequence.is in
+    (omega arith, record { below = down; row = omega arith; whole = c.requires.behind.whole })
 
 pub value_as-choice-requires : goal.value_as-choice-requires
 value_as-choice-requires t c =
-    let lt = slice_get_within c.args.table.now c.args.of.0 c.args.row.now c.requires.row in
-    let down = down_as c.args.table.now c.args.of.0 c.args.row.now (Choice c.in-Choice.alternatives) c.requires.sound c.requires.row c.in-Choice.is in
-    let few = choice_few c.args.table.now c.args.of.0 c.args.row.now c.in-Choice.alternatives c.requires.sound c.requires.row c.in-Choice.is in
-    (omega arith, (record { below = rw c.as_slice-in-None.ensures down; row = omega arith; whole = c.requires.whole }, (rw c.as_slice-in-None.ensures (omega arith), c.requires.start)))
+    let lt = slice_get_within c.args.table.now c.args.of.0 c.args.row.now c.requires.row.found in
+    let down = down_as c.args.table.now c.args.of.0 c.args.row.now (Choice c.in-Choice.alternatives) c.requires.row.sound c.requires.row.found c.in-Choice.is in
+    let few = choice_few c.args.table.now c.args.of.0 c.args.row.now c.in-Choice.alternatives c.requires.row.sound c.requires.row.found c.in-Choice.is in
+    (omega arith, (record { below = rw c.as_slice-in-None.ensures down; row = omega arith; whole = c.requires.behind.whole }, (rw c.as_slice-in-None.ensures (omega arith), c.requires.behind.start)))
 
 pub value_as-tagged_choice-requires : goal.value_as-tagged_choice-requires
 value_as-tagged_choice-requires t c =
-    let lt = slice_get_within c.args.table.now c.args.of.0 c.args.row.now c.requires.row in
-    let down = down_as c.args.table.now c.args.of.0 c.args.row.now (Choice c.in-Choice.alternatives) c.requires.sound c.requires.row c.in-Choice.is in
-    let few = choice_few c.args.table.now c.args.of.0 c.args.row.now c.in-Choice.alternatives c.requires.sound c.requires.row c.in-Choice.is in
-    (omega arith, (record { below = down; row = omega arith; whole = c.requires.whole }, omega arith))
+    let lt = slice_get_within c.args.table.now c.args.of.0 c.args.row.now c.requires.row.found in
+    let down = down_as c.args.table.now c.args.of.0 c.args.row.now (Choice c.in-Choice.alternatives) c.requires.row.sound c.requires.row.found c.in-Choice.is in
+    let few = choice_few c.args.table.now c.args.of.0 c.args.row.now c.in-Choice.alternatives c.requires.row.sound c.requires.row.found c.in-Choice.is in
+    (omega arith, (record { below = down; row = omega arith; whole = c.requires.behind.whole }, omega arith))
 
 pub value_as-tagged-requires : goal.value_as-tagged-requires
 value_as-tagged-requires t c =
-    let lt = slice_get_within c.args.table.now c.args.of.0 c.args.row.now c.requires.row in
-    let down = down_as c.args.table.now c.args.of.0 c.args.row.now (Tagged c.in-Tagged.class c.in-Tagged.number c.in-Tagged.explicit c.in-Tagged.inner) c.requires.sound c.requires.row c.in-Tagged.is in
+    let lt = slice_get_within c.args.table.now c.args.of.0 c.args.row.now c.requires.row.found in
+    let down = down_as c.args.table.now c.args.of.0 c.args.row.now (Tagged c.in-Tagged.class c.in-Tagged.number c.in-Tagged.explicit c.in-Tagged.inner) c.requires.row.sound c.requires.row.found c.in-Tagged.is in
     let below : c.in-Tagged.inner.0 < c.args.of.0 = down.0 in
-    (omega arith, record { below = below; row = omega arith; whole = c.requires.whole })
+    (omega arith, record { below = below; row = omega arith; whole = c.requires.behind.whole })
 
 pub value_as-value-requires : goal.value_as-value-requires
 value_as-value-requires t c =
-    let lt = slice_get_within c.args.table.now c.args.of.0 c.args.row.now c.requires.row in
-    let down = down_as c.args.table.now c.args.of.0 c.args.row.now (Tagged c.in-Tagged.class c.in-Tagged.number c.in-Tagged.explicit c.in-Tagged.inner) c.requires.sound c.requires.row c.in-Tagged.is in
+    let lt = slice_get_within c.args.table.now c.args.of.0 c.args.row.now c.requires.row.found in
+    let down = down_as c.args.table.now c.args.of.0 c.args.row.now (Tagged c.in-Tagged.class c.in-Tagged.number c.in-Tagged.explicit c.in-Tagged.inner) c.requires.row.sound c.requires.row.found c.in-Tagged.is in
     let below : c.in-Tagged.inner.0 < c.args.of.0 = down.0 in
-    (omega arith, (omega arith, (c.requires.whole, c.requires.start)))
+    (omega arith, (omega arith, c.requires.behind))
 
 pub value_as-list-requires : goal.value_as-list-requires
 value_as-list-requires t c =
-    let lt = slice_get_within c.args.table.now c.args.of.0 c.args.row.now c.requires.row in
-    let down = down_as c.args.table.now c.args.of.0 c.args.row.now (SequenceOf c.in-SequenceOf.inner) c.requires.sound c.requires.row c.in-SequenceOf.is in
+    let lt = slice_get_within c.args.table.now c.args.of.0 c.args.row.now c.requires.row.found in
+    let down = down_as c.args.table.now c.args.of.0 c.args.row.now (SequenceOf c.in-SequenceOf.inner) c.requires.row.sound c.requires.row.found c.in-SequenceOf.is in
     let below : c.in-SequenceOf.inner.0 < c.args.of.0 = down.0 in
-    (omega arith, record { below = below; row = omega arith; whole = c.requires.whole })
+    (omega arith, record { below = below; row = omega arith; whole = c.requires.behind.whole })
 
 pub items-returns-in_err-after-clause-gives : goal.items-returns-in_err-after-clause-gives
 items-returns-in_err-after-clause-gives t c =
@@ -135,10 +135,10 @@ items-returns-clause-gives t c =
 
 pub value_as-set_of-requires : goal.value_as-set_of-requires
 value_as-set_of-requires t c =
-    let lt = slice_get_within c.args.table.now c.args.of.0 c.args.row.now c.requires.row in
-    let down = down_as c.args.table.now c.args.of.0 c.args.row.now (SetOf c.in-SetOf.inner) c.requires.sound c.requires.row c.in-SetOf.is in
+    let lt = slice_get_within c.args.table.now c.args.of.0 c.args.row.now c.requires.row.found in
+    let down = down_as c.args.table.now c.args.of.0 c.args.row.now (SetOf c.in-SetOf.inner) c.requires.row.sound c.requires.row.found c.in-SetOf.is in
     let below : c.in-SetOf.inner.0 < c.args.of.0 = down.0 in
-    (omega arith, record { below = below; row = omega arith; whole = c.requires.whole })
+    (omega arith, record { below = below; row = omega arith; whole = c.requires.behind.whole })
 
 pub set_items-returns-in_err-after-clause-gives : goal.set_items-returns-in_err-after-clause-gives
 set_items-returns-in_err-after-clause-gives t c =
@@ -178,9 +178,9 @@ set_items-returns-clause-gives t c =
 
 pub value_as-set-requires : goal.value_as-set-requires
 value_as-set-requires t c =
-    let lt = slice_get_within c.args.table.now c.args.of.0 c.args.row.now c.requires.row in
-    let down = down_as c.args.table.now c.args.of.0 c.args.row.now (Set c.in-Set.parts) c.requires.sound c.requires.row c.in-Set.is in
-    (omega arith, record { below = down; row = omega arith; whole = c.requires.whole })
+    let lt = slice_get_within c.args.table.now c.args.of.0 c.args.row.now c.requires.row.found in
+    let down = down_as c.args.table.now c.args.of.0 c.args.row.now (Set c.in-Set.parts) c.requires.row.sound c.requires.row.found c.in-Set.is in
+    (omega arith, record { below = down; row = omega arith; whole = c.requires.behind.whole })
 
 pub slot-begins-requires : goal.slot-begins-requires
 slot-begins-requires t c =

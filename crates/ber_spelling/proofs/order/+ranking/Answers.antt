@@ -20,13 +20,13 @@ rank_of-returns t c =
 
 pub rank_by-rank_of_chosen-requires : goal.rank_by-rank_of_chosen-requires
 rank_by-rank_of_chosen-requires t c =
-    let lt = slice_get_within c.args.table.now c.args.of.0 c.args.row.now c.requires.row in
-    let down = down_as c.args.table.now c.args.of.0 c.args.row.now (Choice c.in-Choice.alternatives) c.requires.sound c.requires.row c.in-Choice.is in
+    let lt = slice_get_within c.args.table.now c.args.of.0 c.args.row.now c.requires.row.found in
+    let down = down_as c.args.table.now c.args.of.0 c.args.row.now (Choice c.in-Choice.alternatives) c.requires.row.sound c.requires.row.found c.in-Choice.is in
     (omega arith, (down, omega arith))
 
 pub rank_by-returns-in-Tagged : goal.rank_by-returns-in-Tagged
 rank_by-returns-in-Tagged t c =
-    c.tag_rank-in-Tagged.ensures.value ∙ sym (tagged_rank c.args.table.now c.requires.sound c.args.of.0 c.args.row.now _ _ _ _ c.args.value.now c.requires.row c.in-Tagged.is)
+    c.tag_rank-in-Tagged.ensures.value ∙ sym (tagged_rank c.args.table.now c.requires.row.sound c.args.of.0 c.args.row.now _ _ _ _ c.args.value.now c.requires.row.found c.in-Tagged.is)
 
 pub rank_of_chosen-rank_of-requires : goal.rank_of_chosen-rank_of-requires
 rank_of_chosen-rank_of-requires t c =

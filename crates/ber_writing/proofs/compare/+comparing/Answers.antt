@@ -21,41 +21,41 @@ values_compared-returns-then-has t c =
 
 pub row_compared-lists_compared-requires : goal.row_compared-lists_compared-requires
 row_compared-lists_compared-requires t c =
-    let down = down_as c.args.table.now c.args.of.0 c.args.row.now (SequenceOf c.in-SequenceOf.inner) c.requires.sound c.requires.row c.in-SequenceOf.is in
+    let down = down_as c.args.table.now c.args.of.0 c.args.row.now (SequenceOf c.in-SequenceOf.inner) c.requires.row.sound c.requires.row.found c.in-SequenceOf.is in
     let below : c.in-SequenceOf.inner.0 < c.args.of.0 = down.0 in
     (omega arith, below)
 
 pub row_compared-lists_compared-requires-in-SetOf : goal.row_compared-lists_compared-requires-in-SetOf
 row_compared-lists_compared-requires-in-SetOf t c =
-    let down = down_as c.args.table.now c.args.of.0 c.args.row.now (SetOf c.in-SetOf.inner) c.requires.sound c.requires.row c.in-SetOf.is in
+    let down = down_as c.args.table.now c.args.of.0 c.args.row.now (SetOf c.in-SetOf.inner) c.requires.row.sound c.requires.row.found c.in-SetOf.is in
     let below : c.in-SetOf.inner.0 < c.args.of.0 = down.0 in
     (omega arith, below)
 
 pub row_compared-sequences_compared-requires : goal.row_compared-sequences_compared-requires
 row_compared-sequences_compared-requires t c =
-    let down = down_as c.args.table.now c.args.of.0 c.args.row.now (Sequence c.in-Sequence.parts) c.requires.sound c.requires.row c.in-Sequence.is in
+    let down = down_as c.args.table.now c.args.of.0 c.args.row.now (Sequence c.in-Sequence.parts) c.requires.row.sound c.requires.row.found c.in-Sequence.is in
     (omega arith, rw c.as_slice.ensures down)
 
 pub row_compared-sets_compared-requires : goal.row_compared-sets_compared-requires
 row_compared-sets_compared-requires t c =
-    let lt = slice_get_within c.args.table.now c.args.of.0 c.args.row.now c.requires.row in
-    let down = down_as c.args.table.now c.args.of.0 c.args.row.now (Set c.in-Set.parts) c.requires.sound c.requires.row c.in-Set.is in
-    (omega arith, (rw c.as_slice-in-Set.ensures down, omega arith))
+    let lt = slice_get_within c.args.table.now c.args.of.0 c.args.row.now c.requires.row.found in
+    let down = down_as c.args.table.now c.args.of.0 c.args.row.now (Set c.in-Set.parts) c.requires.row.sound c.requires.row.found c.in-Set.is in
+    (omega arith, record { below = rw c.as_slice-in-Set.ensures down; within = omega arith })
 
 pub row_compared-choices_compared-requires : goal.row_compared-choices_compared-requires
 row_compared-choices_compared-requires t c =
-    let down = down_as c.args.table.now c.args.of.0 c.args.row.now (Choice c.in-Choice.alternatives) c.requires.sound c.requires.row c.in-Choice.is in
+    let down = down_as c.args.table.now c.args.of.0 c.args.row.now (Choice c.in-Choice.alternatives) c.requires.row.sound c.requires.row.found c.in-Choice.is in
     (omega arith, down)
 
 pub row_compared-explicit_compared-requires : goal.row_compared-explicit_compared-requires
 row_compared-explicit_compared-requires t c =
-    let down = down_as c.args.table.now c.args.of.0 c.args.row.now (Tagged c.in-Tagged.class c.in-Tagged.number c.in-Tagged.explicit c.in-Tagged.inner) c.requires.sound c.requires.row c.in-Tagged.is in
+    let down = down_as c.args.table.now c.args.of.0 c.args.row.now (Tagged c.in-Tagged.class c.in-Tagged.number c.in-Tagged.explicit c.in-Tagged.inner) c.requires.row.sound c.requires.row.found c.in-Tagged.is in
     let below : c.in-Tagged.inner.0 < c.args.of.0 = down.0 in
     (omega arith, below)
 
 pub row_compared-values_compared-requires : goal.row_compared-values_compared-requires
 row_compared-values_compared-requires t c =
-    let down = down_as c.args.table.now c.args.of.0 c.args.row.now (Tagged c.in-Tagged.class c.in-Tagged.number c.in-Tagged.explicit c.in-Tagged.inner) c.requires.sound c.requires.row c.in-Tagged.is in
+    let down = down_as c.args.table.now c.args.of.0 c.args.row.now (Tagged c.in-Tagged.class c.in-Tagged.number c.in-Tagged.explicit c.in-Tagged.inner) c.requires.row.sound c.requires.row.found c.in-Tagged.is in
     let below : c.in-Tagged.inner.0 < c.args.of.0 = down.0 in
     (omega arith, tt)
 
@@ -148,8 +148,8 @@ rank_before-loop-index-init t c =
 pub rank_before-ranked_before-requires : goal.rank_before-ranked_before-requires
 rank_before-ranked_before-requires t c =
     let within : c.loop-index.index - 1 < length c.args.parts.now = omega (arith, c.loop-index.invariant.parts, c.loop-index-test.true) in
-    let lt : c.index-parts-index.result.inner.0 < c.args.of.0 = each_part (λ m. m < c.args.of.0) c.args.parts.now (c.loop-index.index - 1) c.index-parts-index.result c.requires.below within c.index-parts-index.is in
-    (omega arith, (lt, c.requires.row))
+    let lt : c.index-parts-index.result.inner.0 < c.args.of.0 = each_part (λ m. m < c.args.of.0) c.args.parts.now (c.loop-index.index - 1) c.index-parts-index.result c.requires.parts.below within c.index-parts-index.is in
+    (omega arith, record { below = lt; within = c.requires.parts.within })
 
 pub rank_before-loop-index-preserved : goal.rank_before-loop-index-preserved
 rank_before-loop-index-preserved t c =

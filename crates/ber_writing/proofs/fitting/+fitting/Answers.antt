@@ -18,39 +18,39 @@ has_form-returns-then-has t c =
 
 pub fits_row-sequence_fits-requires : goal.fits_row-sequence_fits-requires
 fits_row-sequence_fits-requires t c =
-    let lt = slice_get_within c.args.table.now c.args.of.0 c.args.row.now c.requires.row in
-    let down = down_as c.args.table.now c.args.of.0 c.args.row.now (Sequence c.in-Sequence.parts) c.requires.sound c.requires.row c.in-Sequence.is in
-    (omega arith, (rw c.as_slice-in-Sequence.ensures down, omega arith))
+    let lt = slice_get_within c.args.table.now c.args.of.0 c.args.row.now c.requires.row.found in
+    let down = down_as c.args.table.now c.args.of.0 c.args.row.now (Sequence c.in-Sequence.parts) c.requires.row.sound c.requires.row.found c.in-Sequence.is in
+    (omega arith, record { below = rw c.as_slice-in-Sequence.ensures down; within = omega arith })
 
 pub fits_row-sequence_fits-requires-in-Set : goal.fits_row-sequence_fits-requires-in-Set
 fits_row-sequence_fits-requires-in-Set t c =
-    let lt = slice_get_within c.args.table.now c.args.of.0 c.args.row.now c.requires.row in
-    let down = down_as c.args.table.now c.args.of.0 c.args.row.now (Set c.in-Set.parts) c.requires.sound c.requires.row c.in-Set.is in
-    (omega arith, (rw c.as_slice-in-Set.ensures down, omega arith))
+    let lt = slice_get_within c.args.table.now c.args.of.0 c.args.row.now c.requires.row.found in
+    let down = down_as c.args.table.now c.args.of.0 c.args.row.now (Set c.in-Set.parts) c.requires.row.sound c.requires.row.found c.in-Set.is in
+    (omega arith, record { below = rw c.as_slice-in-Set.ensures down; within = omega arith })
 
 pub fits_row-list_fits-requires : goal.fits_row-list_fits-requires
 fits_row-list_fits-requires t c =
-    let lt = slice_get_within c.args.table.now c.args.of.0 c.args.row.now c.requires.row in
-    let down = down_as c.args.table.now c.args.of.0 c.args.row.now (SequenceOf c.in-SequenceOf.inner) c.requires.sound c.requires.row c.in-SequenceOf.is in
+    let lt = slice_get_within c.args.table.now c.args.of.0 c.args.row.now c.requires.row.found in
+    let down = down_as c.args.table.now c.args.of.0 c.args.row.now (SequenceOf c.in-SequenceOf.inner) c.requires.row.sound c.requires.row.found c.in-SequenceOf.is in
     let below : c.in-SequenceOf.inner.0 < c.args.of.0 = down.0 in
-    (omega arith, (below, omega arith))
+    (omega arith, record { below = below; within = omega arith })
 
 pub fits_row-list_fits-requires-in-SetOf : goal.fits_row-list_fits-requires-in-SetOf
 fits_row-list_fits-requires-in-SetOf t c =
-    let lt = slice_get_within c.args.table.now c.args.of.0 c.args.row.now c.requires.row in
-    let down = down_as c.args.table.now c.args.of.0 c.args.row.now (SetOf c.in-SetOf.inner) c.requires.sound c.requires.row c.in-SetOf.is in
+    let lt = slice_get_within c.args.table.now c.args.of.0 c.args.row.now c.requires.row.found in
+    let down = down_as c.args.table.now c.args.of.0 c.args.row.now (SetOf c.in-SetOf.inner) c.requires.row.sound c.requires.row.found c.in-SetOf.is in
     let below : c.in-SetOf.inner.0 < c.args.of.0 = down.0 in
-    (omega arith, (below, omega arith))
+    (omega arith, record { below = below; within = omega arith })
 
 pub fits_row-choice_fits-requires : goal.fits_row-choice_fits-requires
 fits_row-choice_fits-requires t c =
-    let lt = slice_get_within c.args.table.now c.args.of.0 c.args.row.now c.requires.row in
-    let down = down_as c.args.table.now c.args.of.0 c.args.row.now (Choice c.in-Choice.alternatives) c.requires.sound c.requires.row c.in-Choice.is in
-    (omega arith, (down, omega arith))
+    let lt = slice_get_within c.args.table.now c.args.of.0 c.args.row.now c.requires.row.found in
+    let down = down_as c.args.table.now c.args.of.0 c.args.row.now (Choice c.in-Choice.alternatives) c.requires.row.sound c.requires.row.found c.in-Choice.is in
+    (omega arith, record { below = down; within = omega arith })
 
 pub fits_row-has_form-requires : goal.fits_row-has_form-requires
 fits_row-has_form-requires t c =
-    let down = down_as c.args.table.now c.args.of.0 c.args.row.now (Tagged c.in-Tagged.class c.in-Tagged.number c.in-Tagged.explicit c.in-Tagged.inner) c.requires.sound c.requires.row c.in-Tagged.is in
+    let down = down_as c.args.table.now c.args.of.0 c.args.row.now (Tagged c.in-Tagged.class c.in-Tagged.number c.in-Tagged.explicit c.in-Tagged.inner) c.requires.row.sound c.requires.row.found c.in-Tagged.is in
     let below : c.in-Tagged.inner.0 < c.args.of.0 = down.0 in
     (omega arith, tt)
 
@@ -60,7 +60,7 @@ has_form-returns-else-has t c = c.if-has.false ∙ short_past c.args.table.now c
 pub choice_fits-has_form-requires : goal.choice_fits-has_form-requires
 choice_fits-has_form-requires t c =
     let slot : slice_get c.args.alternatives.now c.in-Chosen.which ≡ Some c.in-Some.part.now = sym c.get.ensures ∙ ap option_copied c.in-Some.is in
-    let lt : c.in-Some.part.now.inner.0 < c.args.of.0 = each_slot (λ m. m < c.args.of.0) c.args.alternatives.now c.in-Chosen.which c.in-Some.part.now c.requires.below slot in
+    let lt : c.in-Some.part.now.inner.0 < c.args.of.0 = each_slot (λ m. m < c.args.of.0) c.args.alternatives.now c.in-Chosen.which c.in-Some.part.now c.requires.parts.below slot in
     (omega arith, tt)
 
 pub choice_fits-returns-in-Some : goal.choice_fits-returns-in-Some
@@ -80,8 +80,8 @@ choice_fits-returns-in-None t c =
 
 pub parts_fit-part_fits-requires : goal.parts_fit-part_fits-requires
 parts_fit-part_fits-requires t c =
-    let lt : c.index-parts-index.result.inner.0 < c.args.of.0 = each_part (λ m. m < c.args.of.0) c.args.parts.now c.loop-index.index c.index-parts-index.result c.requires.below c.loop-index-test.true c.index-parts-index.is in
-    (omega arith, (lt, c.requires.within))
+    let lt : c.index-parts-index.result.inner.0 < c.args.of.0 = each_part (λ m. m < c.args.of.0) c.args.parts.now c.loop-index.index c.index-parts-index.result c.requires.parts.below c.loop-index-test.true c.index-parts-index.is in
+    (omega arith, record { below = lt; within = c.requires.parts.within })
 
 pub parts_fit-returns-then-parts-values : goal.parts_fit-returns-then-parts-values
 parts_fit-returns-then-parts-values t c = parts_short (has_short_form c.args.table.now) c.args.parts.now c.args.values.now c.if-parts-values.true

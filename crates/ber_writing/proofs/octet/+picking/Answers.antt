@@ -18,7 +18,7 @@ use Rattle.ber_writing.proofs.octet.+picking.Goals as goal
 pub octet_at-row_octet-requires : goal.octet_at-row_octet-requires
 octet_at-row_octet-requires t c =
     let is = writes_at c.args.table.now c.row.ensures.sound c.args.of.0 c.row.result.now c.row.ensures.value in
-    (omega arith, (c.row.ensures.value, (c.row.ensures.sound, subst (λ (w : Writer). length (w c.args.tag c.args.value.now) ≤ most_spelled) is c.requires)))
+    (omega arith, (record { found = c.row.ensures.value; sound = c.row.ensures.sound }, subst (λ (w : Writer). length (w c.args.tag c.args.value.now) ≤ most_spelled) is c.requires))
 
 pub octet_at-returns-then-has : goal.octet_at-returns-then-has
 octet_at-returns-then-has t c =
@@ -30,43 +30,43 @@ octet_at-returns-else-has t c =
 
 pub row_octet-list_octet-requires : goal.row_octet-list_octet-requires
 row_octet-list_octet-requires t c =
-    let down = down_as c.args.table.now c.args.of.0 c.args.row.now (SequenceOf c.in-SequenceOf.inner) c.requires.sound c.requires.row c.in-SequenceOf.is in
+    let down = down_as c.args.table.now c.args.of.0 c.args.row.now (SequenceOf c.in-SequenceOf.inner) c.requires.row.sound c.requires.row.found c.in-SequenceOf.is in
     let below : c.in-SequenceOf.inner.0 < c.args.of.0 = down.0 in
     (omega arith, (below, rw c.tag_or-tag-in-SequenceOf.ensures (rw c.in-SequenceOf.is at c.requires.short)))
 
 pub row_octet-list_octet-requires-in-SetOf : goal.row_octet-list_octet-requires-in-SetOf
 row_octet-list_octet-requires-in-SetOf t c =
-    let down = down_as c.args.table.now c.args.of.0 c.args.row.now (SetOf c.in-SetOf.inner) c.requires.sound c.requires.row c.in-SetOf.is in
+    let down = down_as c.args.table.now c.args.of.0 c.args.row.now (SetOf c.in-SetOf.inner) c.requires.row.sound c.requires.row.found c.in-SetOf.is in
     let below : c.in-SetOf.inner.0 < c.args.of.0 = down.0 in
     (omega arith, (below, rw c.tag_or-tag-in-SetOf.ensures (rw c.in-SetOf.is at c.requires.short)))
 
 pub row_octet-sequence_octet-requires : goal.row_octet-sequence_octet-requires
 row_octet-sequence_octet-requires t c =
-    let down = down_as c.args.table.now c.args.of.0 c.args.row.now (Sequence c.in-Sequence.parts) c.requires.sound c.requires.row c.in-Sequence.is in
+    let down = down_as c.args.table.now c.args.of.0 c.args.row.now (Sequence c.in-Sequence.parts) c.requires.row.sound c.requires.row.found c.in-Sequence.is in
     (omega arith, (rw c.as_slice.ensures down, rw (c.as_slice.ensures, c.tag_or-tag-in-Sequence.ensures) (rw c.in-Sequence.is at c.requires.short)))
 
 pub row_octet-choice_octet-requires : goal.row_octet-choice_octet-requires
 row_octet-choice_octet-requires t c =
-    let down = down_as c.args.table.now c.args.of.0 c.args.row.now (Choice c.in-Choice.alternatives) c.requires.sound c.requires.row c.in-Choice.is in
+    let down = down_as c.args.table.now c.args.of.0 c.args.row.now (Choice c.in-Choice.alternatives) c.requires.row.sound c.requires.row.found c.in-Choice.is in
     (omega arith, (down, rw c.in-Choice.is at c.requires.short))
 
 pub row_octet-explicit_octet-requires : goal.row_octet-explicit_octet-requires
 row_octet-explicit_octet-requires t c =
-    let down = down_as c.args.table.now c.args.of.0 c.args.row.now (Tagged c.in-Tagged.class c.in-Tagged.number c.in-Tagged.explicit c.in-Tagged.inner) c.requires.sound c.requires.row c.in-Tagged.is in
+    let down = down_as c.args.table.now c.args.of.0 c.args.row.now (Tagged c.in-Tagged.class c.in-Tagged.number c.in-Tagged.explicit c.in-Tagged.inner) c.requires.row.sound c.requires.row.found c.in-Tagged.is in
     let below : c.in-Tagged.inner.0 < c.args.of.0 = down.0 in
     (omega arith, (below, rw c.tag_or-tag-in-Tagged.ensures (rw c.if-explicit.true at (rw c.in-Tagged.is at c.requires.short))))
 
 pub row_octet-octet_at-requires : goal.row_octet-octet_at-requires
 row_octet-octet_at-requires t c =
-    let down = down_as c.args.table.now c.args.of.0 c.args.row.now (Tagged c.in-Tagged.class c.in-Tagged.number c.in-Tagged.explicit c.in-Tagged.inner) c.requires.sound c.requires.row c.in-Tagged.is in
+    let down = down_as c.args.table.now c.args.of.0 c.args.row.now (Tagged c.in-Tagged.class c.in-Tagged.number c.in-Tagged.explicit c.in-Tagged.inner) c.requires.row.sound c.requires.row.found c.in-Tagged.is in
     let below : c.in-Tagged.inner.0 < c.args.of.0 = down.0 in
     (omega arith, rw c.tag_or-tag-in-Tagged.ensures (rw c.if-explicit.false at (rw c.in-Tagged.is at c.requires.short)))
 
 pub row_octet-set_octet-requires : goal.row_octet-set_octet-requires
 row_octet-set_octet-requires t c =
-    let lt = slice_get_within c.args.table.now c.args.of.0 c.args.row.now c.requires.row in
-    let down = down_as c.args.table.now c.args.of.0 c.args.row.now (Set c.in-Set.parts) c.requires.sound c.requires.row c.in-Set.is in
-    (omega arith, (rw c.as_slice-in-Set.ensures down, (omega arith, rw (c.as_slice-in-Set.ensures, c.tag_or-tag-in-Set.ensures) (rw c.in-Set.is at c.requires.short))))
+    let lt = slice_get_within c.args.table.now c.args.of.0 c.args.row.now c.requires.row.found in
+    let down = down_as c.args.table.now c.args.of.0 c.args.row.now (Set c.in-Set.parts) c.requires.row.sound c.requires.row.found c.in-Set.is in
+    (omega arith, (record { below = rw c.as_slice-in-Set.ensures down; within = omega arith }, rw (c.as_slice-in-Set.ensures, c.tag_or-tag-in-Set.ensures) (rw c.in-Set.is at c.requires.short)))
 
 pub alternative_octet-octet_at-requires : goal.alternative_octet-octet_at-requires
 alternative_octet-octet_at-requires t c =
@@ -92,16 +92,16 @@ parts_octet-returns t c =
     let none = parts_past (writes c.args.table.now) c.args.parts.now c.args.values.now c.loop-index.index (end ∙ c.min-index-end.ensures) in
     sym (no_octet c.loop-index.place) ∙ ap (λ (l : List ℕ). get_or l c.loop-index.place 0) (sym none) ∙ c.loop-index.invariant.octet
 
-pub ranked_octet-if_ranked_len-len-requires-clause-below : goal.ranked_octet-if_ranked_len-len-requires-clause-below
-ranked_octet-if_ranked_len-len-requires-clause-below t c =
+pub ranked_octet-if_ranked_len-len-requires-clause-part : goal.ranked_octet-if_ranked_len-len-requires-clause-part
+ranked_octet-if_ranked_len-len-requires-clause-part t c =
     let within : c.loop-index.index < length c.args.parts.now = omega (arith, c.min-index-end.ensures, c.loop-index-test.true) in
-    each_part (λ m. m < c.args.of.0) c.args.parts.now c.loop-index.index c.index-parts-index.result c.requires.below within c.index-parts-index.is
+    record { below = each_part (λ m. m < c.args.of.0) c.args.parts.now c.loop-index.index c.index-parts-index.result c.requires.parts.below within c.index-parts-index.is; within = c.requires.parts.within }
 
 pub ranked_octet-part_octet-requires : goal.ranked_octet-part_octet-requires
 ranked_octet-part_octet-requires t c =
     let within : c.loop-index.index < length c.args.parts.now = omega (arith, c.min-index-end.ensures, c.loop-index-test.true) in
     let other : c.loop-index.index < length c.args.values.now = omega (arith, c.min-index-end.ensures, c.loop-index-test.true) in
-    let lt : c.index-parts-index.result.inner.0 < c.args.of.0 = each_part (λ m. m < c.args.of.0) c.args.parts.now c.loop-index.index c.index-parts-index.result c.requires.below within c.index-parts-index.is in
+    let lt : c.index-parts-index.result.inner.0 < c.args.of.0 = each_part (λ m. m < c.args.of.0) c.args.parts.now c.loop-index.index c.index-parts-index.result c.requires.parts.below within c.index-parts-index.is in
     let short = part_short (of_rank c.args.rank (writes c.args.table.now)) c.args.parts.now c.args.values.now c.loop-index.index most_spelled c.index-parts-index.result c.index-values-index.result within other c.index-parts-index.is c.index-values-index.is c.loop-index.invariant.short in
     let same = ranked_same (writes c.args.table.now) c.args.rank c.index-parts-index.result c.index-values-index.result (omega (arith, c.if-place-len.true, c.if_ranked_len-len.ensures)) in
     (omega arith, (lt, subst (λ (l : List ℕ). length l ≤ most_spelled) same short))
@@ -140,7 +140,7 @@ risen_octet-ranked_octet-requires t c =
     let some : 0 < c.next_rank-next.result = omega arith in
     let low : c.next_rank-next.result - 1 < c.loop-bound.bound = omega (arith, c.next_rank-next.ensures.within) in
     let room = risen_room (writes c.args.table.now) c.args.parts.now (parts_of c.args.values.now) c.loop-bound.bound (c.next_rank-next.result - 1) low c.loop-bound.invariant.within (λ k ge lt. c.next_rank-next.ensures.none k (omega arith) lt) in
-    (omega arith, (c.requires.below, (c.requires.row, omega (arith, room, c.requires.count, c.requires.short))))
+    (omega arith, (c.requires.parts, omega (arith, room, c.requires.count, c.requires.short)))
 
 pub risen_octet-returns-then-start-at : goal.risen_octet-returns-then-start-at
 risen_octet-returns-then-start-at t c =

@@ -14,10 +14,10 @@ loop-index-init c =
       so_far = rw none refl;
     }
 
-pub if_ranked_len-count-requires-clause-below : goal.if_ranked_len-count-requires-clause-below
-if_ranked_len-count-requires-clause-below c =
+pub if_ranked_len-count-requires-clause-part : goal.if_ranked_len-count-requires-clause-part
+if_ranked_len-count-requires-clause-part c =
     let within : c.loop-index.index - 1 < length c.args.parts.now = omega (arith, c.loop-index.invariant.parts, c.loop-index-test.true) in
-    each_part (λ m. m < c.args.of.0) c.args.parts.now (c.loop-index.index - 1) c.index-parts-index.result c.requires.below within c.index-parts-index.is
+    record { below = each_part (λ m. m < c.args.of.0) c.args.parts.now (c.loop-index.index - 1) c.index-parts-index.result c.requires.parts.below within c.index-parts-index.is; within = c.requires.parts.within }
 
 pub if_ranked_len-count-requires-clause-short : goal.if_ranked_len-count-requires-clause-short
 if_ranked_len-count-requires-clause-short c =

@@ -19,34 +19,34 @@ packed_size-returns-else-has t c =
 
 pub row_size-sequence_size-requires : goal.row_size-sequence_size-requires
 row_size-sequence_size-requires t c =
-    let down = down_as c.args.table.now c.args.of.0 c.args.row.now (Sequence c.in-Sequence.parts) c.requires.sound c.requires.row c.in-Sequence.is in
+    let down = down_as c.args.table.now c.args.of.0 c.args.row.now (Sequence c.in-Sequence.parts) c.requires.row.sound c.requires.row.found c.in-Sequence.is in
     (omega arith, down)
 
 pub row_size-sequence_size-requires-in-Set : goal.row_size-sequence_size-requires-in-Set
 row_size-sequence_size-requires-in-Set t c =
-    let down = down_as c.args.table.now c.args.of.0 c.args.row.now (Set c.in-Set.parts) c.requires.sound c.requires.row c.in-Set.is in
+    let down = down_as c.args.table.now c.args.of.0 c.args.row.now (Set c.in-Set.parts) c.requires.row.sound c.requires.row.found c.in-Set.is in
     (omega arith, down)
 
 pub row_size-list_size-requires : goal.row_size-list_size-requires
 row_size-list_size-requires t c =
-    let down = down_as c.args.table.now c.args.of.0 c.args.row.now (SequenceOf c.in-SequenceOf.inner) c.requires.sound c.requires.row c.in-SequenceOf.is in
+    let down = down_as c.args.table.now c.args.of.0 c.args.row.now (SequenceOf c.in-SequenceOf.inner) c.requires.row.sound c.requires.row.found c.in-SequenceOf.is in
     let below : c.in-SequenceOf.inner.0 < c.args.of.0 = down.0 in
     (omega arith, below)
 
 pub row_size-list_size-requires-in-SetOf : goal.row_size-list_size-requires-in-SetOf
 row_size-list_size-requires-in-SetOf t c =
-    let down = down_as c.args.table.now c.args.of.0 c.args.row.now (SetOf c.in-SetOf.inner) c.requires.sound c.requires.row c.in-SetOf.is in
+    let down = down_as c.args.table.now c.args.of.0 c.args.row.now (SetOf c.in-SetOf.inner) c.requires.row.sound c.requires.row.found c.in-SetOf.is in
     let below : c.in-SetOf.inner.0 < c.args.of.0 = down.0 in
     (omega arith, below)
 
 pub row_size-choice_size-requires : goal.row_size-choice_size-requires
 row_size-choice_size-requires t c =
-    let down = down_as c.args.table.now c.args.of.0 c.args.row.now (Choice c.in-Choice.alternatives) c.requires.sound c.requires.row c.in-Choice.is in
+    let down = down_as c.args.table.now c.args.of.0 c.args.row.now (Choice c.in-Choice.alternatives) c.requires.row.sound c.requires.row.found c.in-Choice.is in
     (omega arith, down)
 
 pub row_size-packed_size-requires : goal.row_size-packed_size-requires
 row_size-packed_size-requires t c =
-    let down = down_as c.args.table.now c.args.of.0 c.args.row.now (Tagged c.in-Tagged.class c.in-Tagged.number c.in-Tagged.explicit c.in-Tagged.inner) c.requires.sound c.requires.row c.in-Tagged.is in
+    let down = down_as c.args.table.now c.args.of.0 c.args.row.now (Tagged c.in-Tagged.class c.in-Tagged.number c.in-Tagged.explicit c.in-Tagged.inner) c.requires.row.sound c.requires.row.found c.in-Tagged.is in
     let below : c.in-Tagged.inner.0 < c.args.of.0 = down.0 in
     (omega arith, tt)
 

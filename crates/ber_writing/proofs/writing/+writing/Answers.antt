@@ -17,7 +17,7 @@ use Rattle.ber_writing.proofs.writing.+writing.Goals as goal
 pub put_value-put_row-requires : goal.put_value-put_row-requires
 put_value-put_row-requires t c =
     let is = writes_at c.args.table.now c.row.ensures.sound c.args.of.0 c.row.result.now c.row.ensures.value in
-    (omega arith, (c.row.ensures.value, (c.row.ensures.sound, (subst (λ (w : Writer). length (w c.args.tag c.args.value.now) ≤ c.args.end) is c.requires.room, c.requires.end))))
+    (omega arith, (record { found = c.row.ensures.value; sound = c.row.ensures.sound }, (subst (λ (w : Writer). length (w c.args.tag c.args.value.now) ≤ c.args.end) is c.requires.room, c.requires.end)))
 
 pub put_value-returns-then-has-clause-start : goal.put_value-returns-then-has-clause-start
 put_value-returns-then-has-clause-start t c =
@@ -37,35 +37,35 @@ put_value-returns-else-has-clause-put t c =
 
 pub put_row-put_list-requires : goal.put_row-put_list-requires
 put_row-put_list-requires t c =
-    let down = down_as c.args.table.now c.args.of.0 c.args.row.now (SequenceOf c.in-SequenceOf.inner) c.requires.sound c.requires.row c.in-SequenceOf.is in
+    let down = down_as c.args.table.now c.args.of.0 c.args.row.now (SequenceOf c.in-SequenceOf.inner) c.requires.row.sound c.requires.row.found c.in-SequenceOf.is in
     let below : c.in-SequenceOf.inner.0 < c.args.of.0 = down.0 in
     (omega arith, (below, (rw c.tag_or-tag-in-SequenceOf.ensures (rw c.in-SequenceOf.is at c.requires.room), c.requires.end)))
 
 pub put_row-put_list-requires-in-SetOf : goal.put_row-put_list-requires-in-SetOf
 put_row-put_list-requires-in-SetOf t c =
-    let down = down_as c.args.table.now c.args.of.0 c.args.row.now (SetOf c.in-SetOf.inner) c.requires.sound c.requires.row c.in-SetOf.is in
+    let down = down_as c.args.table.now c.args.of.0 c.args.row.now (SetOf c.in-SetOf.inner) c.requires.row.sound c.requires.row.found c.in-SetOf.is in
     let below : c.in-SetOf.inner.0 < c.args.of.0 = down.0 in
     (omega arith, (below, (rw c.tag_or-tag-in-SetOf.ensures (rw c.in-SetOf.is at c.requires.room), c.requires.end)))
 
 pub put_row-put_sequence-requires : goal.put_row-put_sequence-requires
 put_row-put_sequence-requires t c =
-    let down = down_as c.args.table.now c.args.of.0 c.args.row.now (Sequence c.in-Sequence.parts) c.requires.sound c.requires.row c.in-Sequence.is in
+    let down = down_as c.args.table.now c.args.of.0 c.args.row.now (Sequence c.in-Sequence.parts) c.requires.row.sound c.requires.row.found c.in-Sequence.is in
     (omega arith, (rw c.as_slice.ensures down, (rw (c.as_slice.ensures, c.tag_or-tag-in-Sequence.ensures) (rw c.in-Sequence.is at c.requires.room), c.requires.end)))
 
 pub put_row-put_choice-requires : goal.put_row-put_choice-requires
 put_row-put_choice-requires t c =
-    let down = down_as c.args.table.now c.args.of.0 c.args.row.now (Choice c.in-Choice.alternatives) c.requires.sound c.requires.row c.in-Choice.is in
+    let down = down_as c.args.table.now c.args.of.0 c.args.row.now (Choice c.in-Choice.alternatives) c.requires.row.sound c.requires.row.found c.in-Choice.is in
     (omega arith, (down, (rw c.in-Choice.is at c.requires.room, c.requires.end)))
 
 pub put_row-put_explicit-requires : goal.put_row-put_explicit-requires
 put_row-put_explicit-requires t c =
-    let down = down_as c.args.table.now c.args.of.0 c.args.row.now (Tagged c.in-Tagged.class c.in-Tagged.number c.in-Tagged.explicit c.in-Tagged.inner) c.requires.sound c.requires.row c.in-Tagged.is in
+    let down = down_as c.args.table.now c.args.of.0 c.args.row.now (Tagged c.in-Tagged.class c.in-Tagged.number c.in-Tagged.explicit c.in-Tagged.inner) c.requires.row.sound c.requires.row.found c.in-Tagged.is in
     let below : c.in-Tagged.inner.0 < c.args.of.0 = down.0 in
     (omega arith, (below, (rw c.tag_or-tag-in-Tagged.ensures (rw c.if-explicit.true at (rw c.in-Tagged.is at c.requires.room)), c.requires.end)))
 
 pub put_row-put_value-requires : goal.put_row-put_value-requires
 put_row-put_value-requires t c =
-    let down = down_as c.args.table.now c.args.of.0 c.args.row.now (Tagged c.in-Tagged.class c.in-Tagged.number c.in-Tagged.explicit c.in-Tagged.inner) c.requires.sound c.requires.row c.in-Tagged.is in
+    let down = down_as c.args.table.now c.args.of.0 c.args.row.now (Tagged c.in-Tagged.class c.in-Tagged.number c.in-Tagged.explicit c.in-Tagged.inner) c.requires.row.sound c.requires.row.found c.in-Tagged.is in
     let below : c.in-Tagged.inner.0 < c.args.of.0 = down.0 in
     (omega arith, (rw c.tag_or-tag-in-Tagged.ensures (rw c.if-explicit.false at (rw c.in-Tagged.is at c.requires.room)), c.requires.end))
 
@@ -99,9 +99,9 @@ put_values-put_value-start-requires t c =
 
 pub put_row-put_set-requires : goal.put_row-put_set-requires
 put_row-put_set-requires t c =
-    let lt = slice_get_within c.args.table.now c.args.of.0 c.args.row.now c.requires.row in
-    let down = down_as c.args.table.now c.args.of.0 c.args.row.now (Set c.in-Set.parts) c.requires.sound c.requires.row c.in-Set.is in
-    (omega arith, (rw c.as_slice-in-Set.ensures down, (omega arith, (rw (c.as_slice-in-Set.ensures, c.tag_or-tag-in-Set.ensures) (rw c.in-Set.is at c.requires.room), c.requires.end))))
+    let lt = slice_get_within c.args.table.now c.args.of.0 c.args.row.now c.requires.row.found in
+    let down = down_as c.args.table.now c.args.of.0 c.args.row.now (Set c.in-Set.parts) c.requires.row.sound c.requires.row.found c.in-Set.is in
+    (omega arith, (record { below = rw c.as_slice-in-Set.ensures down; within = omega arith }, (rw (c.as_slice-in-Set.ensures, c.tag_or-tag-in-Set.ensures) (rw c.in-Set.is at c.requires.room), c.requires.end)))
 
 pub put_of_rank-loop-index-init : goal.put_of_rank-loop-index-init
 put_of_rank-loop-index-init t c =
@@ -116,9 +116,9 @@ put_of_rank-loop-index-init t c =
 pub put_of_rank-put_if_of_rank-start-requires : goal.put_of_rank-put_if_of_rank-start-requires
 put_of_rank-put_if_of_rank-start-requires t c =
     let within : c.loop-index.index - 1 < length c.args.parts.now = omega (arith, c.loop-index.invariant.parts, c.loop-index-test.true) in
-    let lt : c.index-parts-index.result.inner.0 < c.args.of.0 = each_part (λ m. m < c.args.of.0) c.args.parts.now (c.loop-index.index - 1) c.index-parts-index.result c.requires.below within c.index-parts-index.is in
+    let lt : c.index-parts-index.result.inner.0 < c.args.of.0 = each_part (λ m. m < c.args.of.0) c.args.parts.now (c.loop-index.index - 1) c.index-parts-index.result c.requires.parts.below within c.index-parts-index.is in
     let room = parts_room (of_rank c.args.rank (writes c.args.table.now)) c.args.parts.now c.args.values.now (c.loop-index.index - 1) c.loop-index.index c.index-parts-index.result c.index-values-index.result (omega arith) within (omega arith) c.index-parts-index.is c.index-values-index.is in
-    (omega arith, (lt, (c.requires.row, (omega (arith, room), omega arith))))
+    (omega arith, (record { below = lt; within = c.requires.parts.within }, (omega (arith, room), omega arith)))
 
 pub put_risen-loop-bound-init : goal.put_risen-loop-bound-init
 put_risen-loop-bound-init t c =
@@ -134,7 +134,7 @@ put_risen-put_of_rank-start-requires t c =
     let some : 0 < c.next_rank-next.result = omega arith in
     let low : c.next_rank-next.result - 1 < c.loop-bound.bound = omega (arith, c.next_rank-next.ensures.within) in
     let room = risen_room (writes c.args.table.now) c.args.parts.now (parts_of c.args.values.now) c.loop-bound.bound (c.next_rank-next.result - 1) low c.loop-bound.invariant.within (λ k ge lt. c.next_rank-next.ensures.none k (omega arith) lt) in
-    (omega arith, (c.requires.below, (c.requires.row, (omega (arith, room), omega arith))))
+    (omega arith, (c.requires.parts, (omega (arith, room), omega arith)))
 
 pub put_risen-loop-bound-preserved : goal.put_risen-loop-bound-preserved
 put_risen-loop-bound-preserved t c =

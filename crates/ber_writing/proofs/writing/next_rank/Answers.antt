@@ -12,10 +12,10 @@ loop-index-init c = record {
   none = λ k ge lt. parts_past (of_rank k (writes c.args.table.now)) c.args.parts.now c.args.values.now c.min-index.result c.min-index.ensures;
 }
 
-pub raised-next-requires-clause-below : goal.raised-next-requires-clause-below
-raised-next-requires-clause-below c =
+pub raised-next-requires-clause-part : goal.raised-next-requires-clause-part
+raised-next-requires-clause-part c =
     let within : c.loop-index.index - 1 < length c.args.parts.now = omega (arith, c.loop-index.invariant.parts, c.loop-index-test.true) in
-    each_part (λ m. m < c.args.of.0) c.args.parts.now (c.loop-index.index - 1) c.index-parts-index.result c.requires.below within c.index-parts-index.is
+    record { below = each_part (λ m. m < c.args.of.0) c.args.parts.now (c.loop-index.index - 1) c.index-parts-index.result c.requires.parts.below within c.index-parts-index.is; within = c.requires.parts.within }
 
 pub loop-index-preserved : goal.loop-index-preserved
 loop-index-preserved c = record {

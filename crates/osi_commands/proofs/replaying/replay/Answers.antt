@@ -1,5 +1,5 @@
 use Rattle.std.proofs.lemmas.Result.{IfOk-weaker}
-use Rattle.schedule_text.specs.Schedules.{said}
+use Rattle.replays.specs.schedule_text.Schedules.{said}
 use Rattle.osi_commands.proofs.Replays.{told}
 use Rattle.osi_commands.proofs.replaying.replay.Goals as goal
 

@@ -15,7 +15,7 @@ use Rattle.packed_codec.proofs.writing.+writing.Goals as goal
 
 pub put_value-put_row-requires : goal.put_value-put_row-requires
 put_value-put_row-requires t c =
-    (omega arith, (c.row.ensures.value, (c.row.ensures.sound, rw (← packed_at c.args.table.now c.row.ensures.sound c.args.of.0 c.row.result.now c.row.ensures.value) c.requires)))
+    (omega arith, (record { found = c.row.ensures.value; sound = c.row.ensures.sound }, rw (← packed_at c.args.table.now c.row.ensures.sound c.args.of.0 c.row.result.now c.row.ensures.value) c.requires))
 
 pub put_value-returns-then-has : goal.put_value-returns-then-has
 put_value-returns-then-has t c =
@@ -29,35 +29,35 @@ put_value-returns-else-has t c =
 
 pub put_row-put_sequence-requires : goal.put_row-put_sequence-requires
 put_row-put_sequence-requires t c =
-    let down = down_as c.args.table.now c.args.of.0 c.args.row.now (Sequence c.in-Sequence.parts) c.requires.sound c.requires.row c.in-Sequence.is in
+    let down = down_as c.args.table.now c.args.of.0 c.args.row.now (Sequence c.in-Sequence.parts) c.requires.row.sound c.requires.row.found c.in-Sequence.is in
     (omega arith, (down, room_as c.args.table.now c.args.at (length c.args.out.now) c.args.value.now c.args.row.now (Sequence c.in-Sequence.parts) c.in-Sequence.is c.requires.room))
 
 pub put_row-put_sequence-requires-in-Set : goal.put_row-put_sequence-requires-in-Set
 put_row-put_sequence-requires-in-Set t c =
-    let down = down_as c.args.table.now c.args.of.0 c.args.row.now (Set c.in-Set.parts) c.requires.sound c.requires.row c.in-Set.is in
+    let down = down_as c.args.table.now c.args.of.0 c.args.row.now (Set c.in-Set.parts) c.requires.row.sound c.requires.row.found c.in-Set.is in
     (omega arith, (down, room_as c.args.table.now c.args.at (length c.args.out.now) c.args.value.now c.args.row.now (Set c.in-Set.parts) c.in-Set.is c.requires.room))
 
 pub put_row-put_list-requires : goal.put_row-put_list-requires
 put_row-put_list-requires t c =
-    let down = down_as c.args.table.now c.args.of.0 c.args.row.now (SequenceOf c.in-SequenceOf.inner) c.requires.sound c.requires.row c.in-SequenceOf.is in
+    let down = down_as c.args.table.now c.args.of.0 c.args.row.now (SequenceOf c.in-SequenceOf.inner) c.requires.row.sound c.requires.row.found c.in-SequenceOf.is in
     let below : c.in-SequenceOf.inner.0 < c.args.of.0 = down.0 in
     (omega arith, (below, room_as c.args.table.now c.args.at (length c.args.out.now) c.args.value.now c.args.row.now (SequenceOf c.in-SequenceOf.inner) c.in-SequenceOf.is c.requires.room))
 
 pub put_row-put_list-requires-in-SetOf : goal.put_row-put_list-requires-in-SetOf
 put_row-put_list-requires-in-SetOf t c =
-    let down = down_as c.args.table.now c.args.of.0 c.args.row.now (SetOf c.in-SetOf.inner) c.requires.sound c.requires.row c.in-SetOf.is in
+    let down = down_as c.args.table.now c.args.of.0 c.args.row.now (SetOf c.in-SetOf.inner) c.requires.row.sound c.requires.row.found c.in-SetOf.is in
     let below : c.in-SetOf.inner.0 < c.args.of.0 = down.0 in
     (omega arith, (below, room_as c.args.table.now c.args.at (length c.args.out.now) c.args.value.now c.args.row.now (SetOf c.in-SetOf.inner) c.in-SetOf.is c.requires.room))
 
 pub put_row-put_choice-requires : goal.put_row-put_choice-requires
 put_row-put_choice-requires t c =
-    let down = down_as c.args.table.now c.args.of.0 c.args.row.now (Choice c.in-Choice.alternatives) c.requires.sound c.requires.row c.in-Choice.is in
-    let few = choice_few c.args.table.now c.args.of.0 c.args.row.now c.in-Choice.alternatives c.requires.sound c.requires.row c.in-Choice.is in
+    let down = down_as c.args.table.now c.args.of.0 c.args.row.now (Choice c.in-Choice.alternatives) c.requires.row.sound c.requires.row.found c.in-Choice.is in
+    let few = choice_few c.args.table.now c.args.of.0 c.args.row.now c.in-Choice.alternatives c.requires.row.sound c.requires.row.found c.in-Choice.is in
     (omega arith, (down, (few, room_as c.args.table.now c.args.at (length c.args.out.now) c.args.value.now c.args.row.now (Choice c.in-Choice.alternatives) c.in-Choice.is c.requires.room)))
 
 pub put_row-put_value-requires : goal.put_row-put_value-requires
 put_row-put_value-requires t c =
-    let down = down_as c.args.table.now c.args.of.0 c.args.row.now (Tagged c.in-Tagged.class c.in-Tagged.number c.in-Tagged.explicit c.in-Tagged.inner) c.requires.sound c.requires.row c.in-Tagged.is in
+    let down = down_as c.args.table.now c.args.of.0 c.args.row.now (Tagged c.in-Tagged.class c.in-Tagged.number c.in-Tagged.explicit c.in-Tagged.inner) c.requires.row.sound c.requires.row.found c.in-Tagged.is in
     let below : c.in-Tagged.inner.0 < c.args.of.0 = down.0 in
     (omega arith, room_as c.args.table.now c.args.at (length c.args.out.now) c.args.value.now c.args.row.now (Tagged c.in-Tagged.class c.in-Tagged.number c.in-Tagged.explicit c.in-Tagged.inner) c.in-Tagged.is c.requires.room)
 

@@ -24,29 +24,29 @@ read_as-returns-else-has t c =
 
 pub read_row-read_sequence-requires : goal.read_row-read_sequence-requires
 read_row-read_sequence-requires t c =
-    (omega arith, down_as c.args.table.now c.args.of.0 c.args.row.now (Sequence c.in-Sequence.parts) c.requires.sound c.requires.row c.in-Sequence.is)
+    (omega arith, down_as c.args.table.now c.args.of.0 c.args.row.now (Sequence c.in-Sequence.parts) c.requires.row.sound c.requires.row.found c.in-Sequence.is)
 
 pub read_row-read_sequence-requires-in-Set : goal.read_row-read_sequence-requires-in-Set
 read_row-read_sequence-requires-in-Set t c =
-    (omega arith, down_as c.args.table.now c.args.of.0 c.args.row.now (Set c.in-Set.parts) c.requires.sound c.requires.row c.in-Set.is)
+    (omega arith, down_as c.args.table.now c.args.of.0 c.args.row.now (Set c.in-Set.parts) c.requires.row.sound c.requires.row.found c.in-Set.is)
 
 pub read_row-read_list-requires : goal.read_row-read_list-requires
 read_row-read_list-requires t c =
-    let down = down_as c.args.table.now c.args.of.0 c.args.row.now (SequenceOf c.in-SequenceOf.inner) c.requires.sound c.requires.row c.in-SequenceOf.is in
+    let down = down_as c.args.table.now c.args.of.0 c.args.row.now (SequenceOf c.in-SequenceOf.inner) c.requires.row.sound c.requires.row.found c.in-SequenceOf.is in
     (omega arith, down.0)
 
 pub read_row-read_set_of-requires : goal.read_row-read_set_of-requires
 read_row-read_set_of-requires t c =
-    let down = down_as c.args.table.now c.args.of.0 c.args.row.now (SetOf c.in-SetOf.inner) c.requires.sound c.requires.row c.in-SetOf.is in
+    let down = down_as c.args.table.now c.args.of.0 c.args.row.now (SetOf c.in-SetOf.inner) c.requires.row.sound c.requires.row.found c.in-SetOf.is in
     (omega arith, down.0)
 
 pub read_row-read_choice-requires : goal.read_row-read_choice-requires
 read_row-read_choice-requires t c =
-    (omega arith, down_as c.args.table.now c.args.of.0 c.args.row.now (Choice c.in-Choice.alternatives) c.requires.sound c.requires.row c.in-Choice.is)
+    (omega arith, down_as c.args.table.now c.args.of.0 c.args.row.now (Choice c.in-Choice.alternatives) c.requires.row.sound c.requires.row.found c.in-Choice.is)
 
 pub read_row-read_tagged-requires : goal.read_row-read_tagged-requires
 read_row-read_tagged-requires t c =
-    let down = down_as c.args.table.now c.args.of.0 c.args.row.now (Tagged c.in-Tagged.class c.in-Tagged.number c.in-Tagged.explicit c.in-Tagged.inner) c.requires.sound c.requires.row c.in-Tagged.is in
+    let down = down_as c.args.table.now c.args.of.0 c.args.row.now (Tagged c.in-Tagged.class c.in-Tagged.number c.in-Tagged.explicit c.in-Tagged.inner) c.requires.row.sound c.requires.row.found c.in-Tagged.is in
     (omega arith, down.0)
 
 pub read_choice-read_as-requires : goal.read_choice-read_as-requires

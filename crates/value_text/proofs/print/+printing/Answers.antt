@@ -19,29 +19,29 @@ put_typed-returns-else-has t c =
 
 pub put_row-put_sequence-requires : goal.put_row-put_sequence-requires
 put_row-put_sequence-requires t c =
-    (omega arith, down_as c.args.table.now c.args.of.0 c.args.row.now (Sequence c.in-Sequence.parts) c.requires.sound c.requires.row c.in-Sequence.is)
+    (omega arith, down_as c.args.table.now c.args.of.0 c.args.row.now (Sequence c.in-Sequence.parts) c.requires.row.sound c.requires.row.found c.in-Sequence.is)
 
 pub put_row-put_sequence-requires-in-Set : goal.put_row-put_sequence-requires-in-Set
 put_row-put_sequence-requires-in-Set t c =
-    (omega arith, down_as c.args.table.now c.args.of.0 c.args.row.now (Set c.in-Set.parts) c.requires.sound c.requires.row c.in-Set.is)
+    (omega arith, down_as c.args.table.now c.args.of.0 c.args.row.now (Set c.in-Set.parts) c.requires.row.sound c.requires.row.found c.in-Set.is)
 
 pub put_row-put_list-requires : goal.put_row-put_list-requires
 put_row-put_list-requires t c =
-    let down = down_as c.args.table.now c.args.of.0 c.args.row.now (SequenceOf c.in-SequenceOf.inner) c.requires.sound c.requires.row c.in-SequenceOf.is in
+    let down = down_as c.args.table.now c.args.of.0 c.args.row.now (SequenceOf c.in-SequenceOf.inner) c.requires.row.sound c.requires.row.found c.in-SequenceOf.is in
     (omega arith, down.0)
 
 pub put_row-put_list-requires-in-SetOf : goal.put_row-put_list-requires-in-SetOf
 put_row-put_list-requires-in-SetOf t c =
-    let down = down_as c.args.table.now c.args.of.0 c.args.row.now (SetOf c.in-SetOf.inner) c.requires.sound c.requires.row c.in-SetOf.is in
+    let down = down_as c.args.table.now c.args.of.0 c.args.row.now (SetOf c.in-SetOf.inner) c.requires.row.sound c.requires.row.found c.in-SetOf.is in
     (omega arith, down.0)
 
 pub put_row-put_choice-requires : goal.put_row-put_choice-requires
 put_row-put_choice-requires t c =
-    (omega arith, down_as c.args.table.now c.args.of.0 c.args.row.now (Choice c.in-Choice.alternatives) c.requires.sound c.requires.row c.in-Choice.is)
+    (omega arith, down_as c.args.table.now c.args.of.0 c.args.row.now (Choice c.in-Choice.alternatives) c.requires.row.sound c.requires.row.found c.in-Choice.is)
 
 pub put_row-put_tagged-requires : goal.put_row-put_tagged-requires
 put_row-put_tagged-requires t c =
-    let down = down_as c.args.table.now c.args.of.0 c.args.row.now (Tagged c.in-Tagged.class c.in-Tagged.number c.in-Tagged.explicit c.in-Tagged.inner) c.requires.sound c.requires.row c.in-Tagged.is in
+    let down = down_as c.args.table.now c.args.of.0 c.args.row.now (Tagged c.in-Tagged.class c.in-Tagged.number c.in-Tagged.explicit c.in-Tagged.inner) c.requires.row.sound c.requires.row.found c.in-Tagged.is in
     (omega arith, down.0)
 
 pub put_choice-put_typed-requires : goal.put_choice-put_typed-requires

@@ -11,8 +11,8 @@ use Rattle.operation_notation.proofs.cursor.Cursor.listed_imports.Goals as goal
 pub loop-self-preserved : goal.loop-self-preserved
 loop-self-preserved c = record {
   seen = c.loop-self.invariant.seen ++ c.in_ok-next_imported.field-0 ∷ [];
-  going = goes _ _ c.loop-self.invariant.seen c.loop-self.self _ _ _ c.loop-self.invariant.going (sym c.is.ensures ∙ c.loop-self-test.true) c.in_ok-next_imported.ensures.gives c.in_ok-next_imported.ensures.takes;
-  shorter = omega (arith, c.in_ok-next_imported.ensures.takes);
+  going = goes _ _ c.loop-self.invariant.seen c.loop-self.self _ _ _ c.loop-self.invariant.going (sym c.is.ensures ∙ c.loop-self-test.true) c.in_ok-next_imported.ensures.gives c.in_ok-next_imported.ensures.takes.on_ok;
+  shorter = omega (arith, c.in_ok-next_imported.ensures.takes.on_ok);
 }
 
 pub returns-in_err-next_imported-clause-gives : goal.returns-in_err-next_imported-clause-gives

@@ -16,7 +16,7 @@ pub loop-preserved : goal.loop-preserved
 loop-preserved c = record {
   so_far = rw c.in_ok-push.ensures.ok (counted_goes _ _ c.loop.arcs 30 c.loop.counter c.loop.self _ _ _ c.loop-test.true c.loop.invariant.so_far (sym c.if-not-goes_on.ensures) c.in_ok-arc.ensures.gives);
   counted = omega (arith, ap length c.in_ok-push.ensures.ok, length-append c.loop.arcs (c.in_ok-arc.field-0 ∷ []));
-  shorter = omega (arith, c.in_ok-arc.ensures.keeps);
+  shorter = omega (arith, c.in_ok-arc.ensures.takes.always);
 }
 
 pub returns-clause-gives : goal.returns-clause-gives
