@@ -1,33 +1,33 @@
 //! What no clause says of replays over associations: whole runs with ample memory, which a model of
 //! the rules that was written apart from this project gave.
 
+use crate::runs::{gives, run};
 use crate::traces::CALC_MODULE;
-use crate::whole_runs::{files, words};
-use osi_base::{Name, NoMemory, Octets, Status, SureLine, SureSink};
-use osi_commands::osi_run;
-use std::alloc::{AllocError, Global};
-use std::test::Fail;
+use osi_base::Status;
+use std::alloc::Global;
+use std::process::Abort;
+use std::test::*;
 
-/// The status and the output of a replay of a schedule, with these words behind it.
-fn replayed(alloc: Global, schedule: &str, more: &[&str]) -> Result<(Status, Octets), NoMemory> {
-    let texts = [("module", CALC_MODULE), ("schedule", schedule)];
-    let mut files = files(alloc, texts.as_slice(), Vec::new(alloc))?;
-    let mut out = SureSink::new(alloc);
-    let mut line = SureLine::new(alloc);
-    let mut words = words(alloc, ["replay", "module", "schedule"].as_slice())?;
-    for word in more {
-        words.push(Name::from_str(alloc, word)?)?;
-    }
-    let status = osi_run(alloc, &words, &mut files, &mut out, &mut line);
-    Ok((status, out.written))
+/// Whether the replay of a schedule has this transcript.
+pub(crate) fn replays(rt: &impl Abort, alloc: Global, schedule: &str, transcript: &str) -> bool {
+    let files = [("module", CALC_MODULE), ("schedule", schedule.as_bytes())];
+    let said = ["replay", "module", "schedule"];
+    let text = transcript.as_bytes();
+    gives(rt, alloc, &files, &said, Status::Done, text)
 }
 
-#[test]
-fn replays_associations(rt: HostRuntime) -> Result<(), Fail> {
-    let rows = [
-        (
-            "two alterations and a value in flight cross, and the value is read as it was sent",
-            "mode direct
+/// Whether it has this summary.
+fn sums_up(rt: &impl Abort, alloc: Global, schedule: &str, summary: &str) -> bool {
+    let files = [("module", CALC_MODULE), ("schedule", schedule.as_bytes())];
+    let said = ["replay", "module", "schedule", "--brief"];
+    gives(rt, alloc, &files, &said, Status::Done, summary.as_bytes())
+}
+
+/// What a run shows, its schedule and its transcript.
+const RUNS: [(&str, &str, &str); 6] = [
+    (
+        "two alterations and a value in flight cross, and the value is read as it was sent",
+        "mode direct
 context 7 ber
 A open
 carry A all
@@ -43,7 +43,7 @@ A invoke 2 add 5
 carry A all
 carry B all
 ",
-            "mode direct
+        "mode direct
 1 A open
   ok
 2 carry A all
@@ -82,10 +82,10 @@ carry B all
 end A up
 end B up
 ",
-        ),
-        (
-            "a restart cuts what is open at both ends, and what was answered before it stands",
-            "mode direct
+    ),
+    (
+        "a restart cuts what is open at both ends, and what was answered before it stands",
+        "mode direct
 context 5 ber der
 A open
 carry A all
@@ -103,7 +103,7 @@ A resync 1
 carry A 180
 carry B all
 ",
-            "mode direct
+        "mode direct
 1 A open
   ok
 2 carry A all
@@ -147,10 +147,10 @@ carry B all
 end A up
 end B up
 ",
-        ),
-        (
-            "an abort ends the association at both ends",
-            "mode direct
+    ),
+    (
+        "an abort ends the association at both ends",
+        "mode direct
 context 5 packed
 accepts A ber der
 accepts B ber der
@@ -162,7 +162,7 @@ carry B all
 B abort
 carry B 116
 ",
-            "mode direct
+        "mode direct
 1 A open
   ok
 2 carry A all
@@ -183,10 +183,10 @@ carry B 116
 end A over
 end B over
 ",
-        ),
-        (
-            "a transfer that a break loses is resumed behind a recovery, and arrives once",
-            "mode reliable 2 2
+    ),
+    (
+        "a transfer that a break loses is resumed behind a recovery, and arrives once",
+        "mode reliable 2 2
 context 5 packed
 context 7 der
 A open
@@ -210,7 +210,7 @@ A resume
 carry A all
 carry B all
 ",
-            "mode reliable
+        "mode reliable
 1 A open
   ok
 2 carry A all
@@ -262,22 +262,174 @@ carry B all
 end A up
 end B up
 ",
-        ),
-    ];
-    for (shows, schedule, transcript) in rows {
-        let (status, written) = replayed(rt.alloc(), schedule, [].as_slice())?;
-        assert!(rt; status == Status::Done, "{shows}");
-        assert!(rt; written.as_slice() == transcript.as_bytes(), "{shows}");
+    ),
+    (
+        "an addition of two contexts of which the peer takes one; and a context that it took none of from the start",
+        "mode direct
+context 5 packed
+accepts A ber der
+accepts B ber der
+A open
+carry A all
+carry B all
+carry A all
+carry B all
+carry A all
+carry A all
+carry A all
+carry A all
+carry A all
+carry A all
+B answer 1 0
+carry A all
+B invoke 5 add 6
+carry A all
+carry B all
+carry A all
+carry B all
+carry B all
+carry B all
+B alter add 2 ber add 4 as {2 999 1} packed der
+carry A 95
+carry B all
+B alter add 6 der
+carry A all
+",
+        "mode direct
+1 A open
+  ok
+2 carry A all
+  A>B 03 00 00 16 11 E0 00 00 00 01 00 C0 01 0A C1 02 00 01 C2 02 00 01
+3 carry B all
+  B>A 03 00 00 0E 09 D0 00 01 00 02 00 C0 01 0A
+4 carry A all
+  A>B 03 00 00 70 02 F0 80 0D 67 05 09 13 01 00 16 01 02 17 01 31 14 02 04 2A 33 02 00 01 34 02 00 01 C1 4E 31 4C A0 03 80 01 01 A2 45 81 02 00 01 82 02 00 01 A4 24 30 0F 02 01 01 06 04 52 01 00 01 30 04 06 02 51 01 30 11 02 01 05 06 04 88 37 07 01 30 06 06 04 88 37 05 01 88 02 06 C0 61 11 30 0F 02 01 01 A0 0A 60 08 A1 06 06 04 88 37 05 03
+  B: opened
+5 carry B all
+  B>A 03 00 00 5D 02 F0 80 0E 54 05 09 13 01 00 16 01 02 17 01 31 14 02 04 2A C1 43 31 41 A0 03 80 01 01 A2 3A 83 02 00 01 A5 11 30 07 80 01 00 81 02 51 01 30 06 80 01 02 82 01 02 88 02 06 C0 61 1D 30 1B 02 01 01 A0 16 61 14 A1 06 06 04 88 37 05 03 A2 03 02 01 00 A3 05 A1 03 02 01 00
+  A: opened
+6 carry A all
+  A>B
+7 carry A all
+  A>B
+8 carry A all
+  A>B
+9 carry A all
+  A>B
+10 carry A all
+  A>B
+11 carry A all
+  A>B
+12 B answer 1 0
+  refused NoInvocation 1
+13 carry A all
+  A>B
+14 B invoke 5 add 6
+  refused Absent 5
+15 carry A all
+  A>B
+16 carry B all
+  B>A
+17 carry A all
+  A>B
+18 carry B all
+  B>A
+19 carry B all
+  B>A
+20 carry B all
+  B>A
+21 B alter add 2 ber add 4 as {2 999 1} packed der
+  ok
+22 carry A 95
+  A>B
+23 carry B all
+  B>A 03 00 00 35 02 F0 80 21 00 A0 2A A0 28 30 0F 02 01 02 06 04 88 37 07 01 30 04 06 02 51 01 30 15 02 01 04 06 03 88 37 01 30 0B 06 04 88 37 05 01 06 03 51 02 01
+  A: alter taken +2 0 +4 2
+24 B alter add 6 der
+  ok
+25 carry A all
+  A>B 03 00 00 1E 02 F0 80 21 00 A1 13 A0 11 30 07 80 01 00 81 02 51 01 30 06 80 01 02 82 01 01
+  B: altered +2 0 +4 2
+end A up
+end B up
+",
+    ),
+    (
+        "by hand: a release is the initiator's",
+        "mode direct
+context 5 ber
+A open
+carry A all
+carry B all
+carry A all
+carry B all
+B release
+",
+        "mode direct
+1 A open
+  ok
+2 carry A all
+  A>B 03 00 00 16 11 E0 00 00 00 01 00 C0 01 0A C1 02 00 01 C2 02 00 01
+3 carry B all
+  B>A 03 00 00 0E 09 D0 00 01 00 02 00 C0 01 0A
+4 carry A all
+  A>B 03 00 00 6E 02 F0 80 0D 65 05 09 13 01 00 16 01 02 17 01 31 14 02 04 2A 33 02 00 01 34 02 00 01 C1 4C 31 4A A0 03 80 01 01 A2 43 81 02 00 01 82 02 00 01 A4 22 30 0F 02 01 01 06 04 52 01 00 01 30 04 06 02 51 01 30 0F 02 01 05 06 04 88 37 07 01 30 04 06 02 51 01 88 02 06 C0 61 11 30 0F 02 01 01 A0 0A 60 08 A1 06 06 04 88 37 05 03
+  B: opened
+5 carry B all
+  B>A 03 00 00 5E 02 F0 80 0E 55 05 09 13 01 00 16 01 02 17 01 31 14 02 04 2A C1 44 31 42 A0 03 80 01 01 A2 3B 83 02 00 01 A5 12 30 07 80 01 00 81 02 51 01 30 07 80 01 00 81 02 51 01 88 02 06 C0 61 1D 30 1B 02 01 01 A0 16 61 14 A1 06 06 04 88 37 05 03 A2 03 02 01 00 A3 05 A1 03 02 01 00
+  A: opened
+6 B release
+  refused NotInitiator
+end A up
+end B up
+",
+    ),
+];
+
+#[test]
+fn replays_associations(rt: HostRuntime) {
+    for (shows, schedule, transcript) in &RUNS {
+        assert!(rt; replays(&rt, rt.alloc(), schedule, transcript), "{shows}");
     }
-    Ok(())
+}
+
+/// A schedule of bare mode in which 300 octets are carried of an invocation that has more.
+fn carried(rt: &impl Abort, alloc: Global) -> String {
+    let mut digits = String::new(alloc);
+    for _ in 0..300 {
+        digits.push_str("00").expect(rt, "memory");
+    }
+    format!(in alloc; "mode bare\nA invoke 0 store '{digits}'H\ncarry A 300\n").expect(rt, "memory")
+}
+
+/// Its summary.
+const CARRIED_SUMMARY: &str = "events 2
+octets A>B 300
+octets B>A 0
+values 0
+outcomes 0
+rejects 0
+cut 0
+transfers 0
+refused 0
+end A up
+end B up
+";
+
+#[test]
+fn carries_as_many_octets_as_are_asked_for(rt: HostRuntime) {
+    let schedule = carried(&rt, rt.alloc());
+    let is_so = sums_up(&rt, rt.alloc(), schedule.as_str(), CARRIED_SUMMARY);
+    drop(schedule);
+    assert!(rt; is_so);
 }
 
 /// A schedule in which the transfer of a value of 1,100 octets is interrupted, resumed and
 /// confirmed, and the connection breaks behind it and is recovered.
-fn interrupted(alloc: Global) -> Result<String, AllocError> {
+fn interrupted(rt: &impl Abort, alloc: Global) -> String {
     let mut digits = String::new(alloc);
     for _ in 0..1100 {
-        digits.push_str("00")?;
+        digits.push_str("00").expect(rt, "memory");
     }
     format!(in alloc;
         "mode reliable 1 1
@@ -341,6 +493,7 @@ A answer 1 7
 A resume
 "
     )
+    .expect(rt, "memory")
 }
 
 /// What the model gave as the transcript of that schedule, summed up: how many events it has,
@@ -360,10 +513,73 @@ end B up
 ";
 
 #[test]
-fn resumes_an_interrupted_transfer(rt: HostRuntime) -> Result<(), Fail> {
-    let schedule = interrupted(rt.alloc())?;
-    let (status, written) = replayed(rt.alloc(), schedule.as_str(), ["--brief"].as_slice())?;
-    assert!(rt; status == Status::Done);
-    assert!(rt; written.as_slice() == INTERRUPTED_SUMMARY.as_bytes());
-    Ok(())
+fn resumes_an_interrupted_transfer(rt: HostRuntime) {
+    let schedule = interrupted(&rt, rt.alloc());
+    let is_so = sums_up(&rt, rt.alloc(), schedule.as_str(), INTERRUPTED_SUMMARY);
+    drop(schedule);
+    assert!(rt; is_so);
+}
+
+/// A schedule in which a value of 1,100 octets goes on a context that was added, and the connection
+/// breaks behind the first 1,024 of them: behind the recovery the context isn't there, and the mark
+/// from which the transfer is resumed brings it back.
+fn brought_back(rt: &impl Abort, alloc: Global) -> String {
+    let mut digits = String::new(alloc);
+    for _ in 0..1100 {
+        digits.push_str("00").expect(rt, "memory");
+    }
+    format!(in alloc;
+        "mode reliable 1 1
+context 5 ber
+A open
+carry A all
+carry B all
+carry A all
+carry B all
+A alter add 7 ber
+carry A all
+carry B all
+A invoke 7 store '{digits}'H
+carry A all
+carry B all
+break
+A recover
+carry A all
+carry B all
+carry A all
+carry B all
+A resume
+carry A all
+carry B all
+"
+    )
+    .expect(rt, "memory")
+}
+
+/// How its transcript ends, by hand: the value is confirmed, at the mark behind that of its first
+/// octets.
+const BROUGHT_BACK_END: &str = "
+20 carry B all
+  B>A 03 00 00 0E 02 F0 80 01 00 2A 03 2A 01 32
+  A: transferred 1
+end A up
+end B up
+";
+
+/// Whether the replay of a schedule has a transcript that ends so.
+fn ends_so(rt: &impl Abort, alloc: Global, schedule: &str, end: &str) -> bool {
+    let files = [("module", CALC_MODULE), ("schedule", schedule.as_bytes())];
+    let said = ["replay", "module", "schedule"];
+    let (status, written) = run(rt, alloc, &files, &said);
+    let is_so = status == Status::Done && written.as_slice().ends_with(end.as_bytes());
+    drop(written);
+    is_so
+}
+
+#[test]
+fn a_mark_brings_a_context_back(rt: HostRuntime) {
+    let schedule = brought_back(&rt, rt.alloc());
+    let is_so = ends_so(&rt, rt.alloc(), schedule.as_str(), BROUGHT_BACK_END);
+    drop(schedule);
+    assert!(rt; is_so);
 }

@@ -2,26 +2,25 @@
 //! The octets are those of worked dialogues; the units that a line names, and how many octets a
 //! value has, are read off these octets.
 
-use crate::whole_runs::{ONE_MODULE, files, words};
-use osi_base::{NoMemory, Octets, Status, SureLine, SureSink};
-use osi_commands::osi_run;
+use crate::runs::gives;
+use crate::whole_runs::ONE_MODULE;
+use osi_base::Status;
 use std::alloc::Global;
-use std::test::Fail;
+use std::process::Abort;
+use std::test::*;
 
-/// The status and the output of the trace of a recording, by the tables of a module.
-fn traced_by(alloc: Global, module: &str, recording: &str) -> Result<(Status, Octets), NoMemory> {
-    let texts = [("module", module), ("recording", recording)];
-    let mut files = files(alloc, texts.as_slice(), Vec::new(alloc))?;
-    let mut out = SureSink::new(alloc);
-    let mut line = SureLine::new(alloc);
-    let words = words(alloc, ["trace", "module", "recording"].as_slice())?;
-    let status = osi_run(alloc, &words, &mut files, &mut out, &mut line);
-    Ok((status, out.written))
-}
-
-/// The same by the tables of the module with one operation.
-fn traced(alloc: Global, recording: &str) -> Result<(Status, Octets), NoMemory> {
-    traced_by(alloc, ONE_MODULE, recording)
+/// Whether the trace of a recording, by the tables of a module, ends with this status and output.
+fn traces(
+    rt: &impl Abort,
+    alloc: Global,
+    module: &[u8],
+    recording: &str,
+    status: Status,
+    text: &str,
+) -> bool {
+    let files = [("module", module), ("recording", recording.as_bytes())];
+    let said = ["trace", "module", "recording"];
+    gives(rt, alloc, &files, &said, status, text.as_bytes())
 }
 
 /// A connect unit of the session protocol, with a request for an association.
@@ -31,56 +30,59 @@ A>B A0 03 80 01 01 A2 43 81 02 00 01 82 02 00 01 A4 22 30 0F 02 01 01 06 04 52 0
 A>B 01 05 06 04 88 37 07 01 30 04 06 02 51 01 88 02 06 C0 61 11 30 0F 02 01 01 A0 0A 60 08 A1 06 06 04 88 37 05 03
 ";
 
+/// Recordings, and what they say by the tables of the module with one operation.
+const RECORDINGS: [(&str, &str); 7] = [
+    // an invocation with the identifier 1, on context 5: a session unit GIVE TOKENS in front of
+    // its DATA TRANSFER
+    (
+        "A>B 03 00 00 1F 02 F0 80 01 00 01 00 61 12 30 10 02 01 05 A0 0B A1 09 02 01 01 02 01 01 02 01 05\n",
+        "A>B GT+DT 5:invoke 1 add\n",
+    ),
+    // the same eleven octets as a string of bits, which is read as no invocation
+    (
+        "A>B 03 00 00 20 02 F0 80 01 00 01 00 61 13 30 11 02 01 05 82 0C 00 A1 09 02 01 01 02 01 01 02 01 05\n",
+        "A>B GT+DT 5:value 11\n",
+    ),
+    // a CONNECT with its CP, whose AARQ on context 1 has 10 octets; its packet stands in three
+    // lines
+    (CONNECT, "A>B CN CP 1:value 10\n"),
+    // a packet's length of 6, which has no room for a unit of the transport: the place of the
+    // length, behind two octets
+    ("A>B 03 00 00 06\n", "A>B fault transport 2 Length\n"),
+    // TYPED DATA with an alteration, AC, which deletes context 5; and with its answer, ACA
+    (
+        "A>B 03 00 00 10 02 F0 80 21 00 A0 05 A1 03 02 01 05\nA>B 03 00 00 10 02 F0 80 21 00 A1 05 A1 03 02 01 00\n",
+        "A>B TD AC\nA>B TD ACA\n",
+    ),
+    // RESYNCHRONIZE behind GIVE TOKENS, with the unit RS and its list of two contexts
+    (
+        "B>A 03 00 00 29 02 F0 80 01 00 35 1E 1B 01 00 2A 01 32 C1 16 30 14 A0 12 30 07 02 01 01 06 02 51 01 30 07 02 01 05 06 02 51 01\n",
+        "B>A GT+RS RS\n",
+    ),
+    // RESYNCHRONIZE ACK behind GIVE TOKENS, with the unit RSA and the same list
+    (
+        "A>B 03 00 00 26 02 F0 80 01 00 22 1B 2A 01 32 C1 16 30 14 A0 12 30 07 02 01 01 06 02 51 01 30 07 02 01 05 06 02 51 01\n",
+        "A>B GT+RA RSA\n",
+    ),
+];
+
 #[test]
-fn traces_recordings(rt: HostRuntime) -> Result<(), Fail> {
-    let rows = [
-        // an invocation with the identifier 1, on context 5: a session unit GIVE TOKENS in front of
-        // its DATA TRANSFER
-        (
-            "A>B 03 00 00 1F 02 F0 80 01 00 01 00 61 12 30 10 02 01 05 A0 0B A1 09 02 01 01 02 01 01 02 01 05\n",
-            "A>B GT+DT 5:invoke 1 add\n",
-        ),
-        // a CONNECT with its CP, whose AARQ on context 1 has 10 octets; its packet stands in three
-        // lines
-        (CONNECT, "A>B CN CP 1:value 10\n"),
-        // a packet's length of 6, which has no room for a unit of the transport: the place of the
-        // length, behind two octets
-        ("A>B 03 00 00 06\n", "A>B fault transport 2 Length\n"),
-        // TYPED DATA with an alteration, AC, which deletes context 5; and with its answer, ACA
-        (
-            "A>B 03 00 00 10 02 F0 80 21 00 A0 05 A1 03 02 01 05\nA>B 03 00 00 10 02 F0 80 21 00 A1 05 A1 03 02 01 00\n",
-            "A>B TD AC\nA>B TD ACA\n",
-        ),
-        // RESYNCHRONIZE behind GIVE TOKENS, with the unit RS and its list of two contexts
-        (
-            "B>A 03 00 00 29 02 F0 80 01 00 35 1E 1B 01 00 2A 01 32 C1 16 30 14 A0 12 30 07 02 01 01 06 02 51 01 30 07 02 01 05 06 02 51 01\n",
-            "B>A GT+RS RS\n",
-        ),
-        // RESYNCHRONIZE ACK behind GIVE TOKENS, with the unit RSA and the same list
-        (
-            "A>B 03 00 00 26 02 F0 80 01 00 22 1B 2A 01 32 C1 16 30 14 A0 12 30 07 02 01 01 06 02 51 01 30 07 02 01 05 06 02 51 01\n",
-            "A>B GT+RA RSA\n",
-        ),
-    ];
-    for (recording, text) in rows {
-        let (status, written) = traced(rt.alloc(), recording)?;
-        assert!(rt; status == Status::Done);
-        assert!(rt; written.as_slice() == text.as_bytes());
+fn traces_recordings(rt: HostRuntime) {
+    for (recording, text) in &RECORDINGS {
+        assert!(rt; traces(&rt, rt.alloc(), ONE_MODULE, recording, Status::Done, text));
     }
-    Ok(())
 }
 
 /// A field of one digit in line 1.
 #[test]
-fn refuses_a_recording_with_an_odd_digit(rt: HostRuntime) -> Result<(), Fail> {
-    let (status, written) = traced(rt.alloc(), "A>B 0\n")?;
-    assert!(rt; status == Status::ScriptRefused);
-    assert!(rt; written.as_slice() == b"script refused 1 BadField\n".as_slice());
-    Ok(())
+fn refuses_a_recording_with_an_odd_digit(rt: HostRuntime) {
+    let status = Status::ScriptRefused;
+    let text = "script refused 1 BadField\n";
+    assert!(rt; traces(&rt, rt.alloc(), ONE_MODULE, "A>B 0\n", status, text));
 }
 
 /// The module of the recordings in `examples/`.
-pub(crate) const CALC_MODULE: &str = "Calc {2 999 7 1} DEFINITIONS IMPLICIT TAGS ::= BEGIN
+pub(crate) const CALC_MODULE: &[u8] = b"Calc {2 999 7 1} DEFINITIONS IMPLICIT TAGS ::= BEGIN
 IMPORTS OPERATION, ERROR FROM Remote-Operations-Information-Objects
   {joint-iso-itu-t remote-operations(4) informationObjects(5) version1(0)};
 add OPERATION ::= {ARGUMENT INTEGER RESULT INTEGER ERRORS {overflow} LINKED {ask} CODE local:1}
@@ -169,29 +171,53 @@ A>B GT+AE
 B>A GT+AEA
 ";
 
+/// The recordings in `examples/`, and what they say.
+const EXAMPLES: [(&str, &str); 3] = [
+    (DIRECT, DIRECT_TRACE),
+    (RELIABLE, RELIABLE_TRACE),
+    (
+        BARE,
+        "A>B fault transport 0 Tag\nB>A fault transport 0 Tag\n",
+    ),
+];
+
 #[test]
-fn traces_the_examples(rt: HostRuntime) -> Result<(), Fail> {
-    let rows = [
-        (DIRECT, DIRECT_TRACE),
-        (RELIABLE, RELIABLE_TRACE),
-        (
-            BARE,
-            "A>B fault transport 0 Tag\nB>A fault transport 0 Tag\n",
-        ),
-    ];
-    for (recording, text) in rows {
-        let (status, written) = traced_by(rt.alloc(), CALC_MODULE, recording)?;
-        assert!(rt; status == Status::Done);
-        assert!(rt; written.as_slice() == text.as_bytes());
+fn traces_the_examples(rt: HostRuntime) {
+    for (recording, text) in &EXAMPLES {
+        assert!(rt; traces(&rt, rt.alloc(), CALC_MODULE, recording, Status::Done, text));
     }
-    Ok(())
+}
+
+/// An error and a reject of the invocation 1, each behind GIVE TOKENS.
+const OUTCOMES: &str =
+    "B>A 03 00 00 1F 02 F0 80 01 00 01 00 61 12 30 10 02 01 05 A0 0B A3 09 02 01 01 02 01 01 02 01 05
+B>A 03 00 00 1C 02 F0 80 01 00 01 00 61 0F 30 0D 02 01 05 A0 08 A4 06 02 01 01 82 01 02
+";
+
+/// What they say: an error by its name, and the problem of a result.
+const OUTCOMES_TRACE: &str = "B>A GT+DT 5:error 1 overflow
+B>A GT+DT 5:reject 1 result 2
+";
+
+#[test]
+fn traces_an_error_and_a_reject(rt: HostRuntime) {
+    let status = Status::Done;
+    assert!(rt;
+        traces(
+            &rt,
+            rt.alloc(),
+            CALC_MODULE,
+            OUTCOMES,
+            status,
+            OUTCOMES_TRACE
+        )
+    );
 }
 
 /// The text ends behind its first word and a line feed: the place is the front of line 2.
 #[test]
-fn refuses_a_module_at_its_fault(rt: HostRuntime) -> Result<(), Fail> {
-    let (status, written) = traced_by(rt.alloc(), "One\n", "")?;
-    assert!(rt; status == Status::ModuleRefused);
-    assert!(rt; written.as_slice() == b"module refused 2 1 UnexpectedToken\n".as_slice());
-    Ok(())
+fn refuses_a_module_at_its_fault(rt: HostRuntime) {
+    let status = Status::ModuleRefused;
+    let text = "module refused 2 1 UnexpectedToken\n";
+    assert!(rt; traces(&rt, rt.alloc(), b"One\n", "", status, text));
 }

@@ -44,46 +44,71 @@ fn short(alloc: Global, size: u64) -> Result<Vec<u8>, Stopped> {
 
 /// An end that has taken nothing.
 fn end(alloc: Global, tables: &Tables) -> Result<End<'_>, Stopped> {
-    match End::new(alloc, tables, config(alloc)?) {
-        Ok(end) => Ok(end),
-        Err(_) => Err(Stopped),
-    }
+    let made = End::new(alloc, tables, config(alloc)?);
+    made.map_err(|_| Stopped)
+}
+
+/// How many APDUs are told of these octets, where memory isn't refused.
+fn told_of(end: &mut End<'_>, octets: &[u8]) -> Option<u64> {
+    let shown = end.feed(octets).ok()?;
+    let told = shown.len() as u64;
+    drop(shown);
+    Some(told)
 }
 
 /// How many APDUs are told of octets that come one by one.
-fn told_one_by_one(mut end: End<'_>, octets: &[u8]) -> Result<u64, Stopped> {
+fn told_one_by_one(end: &mut End<'_>, octets: &[u8]) -> Option<u64> {
     let mut told = 0u64;
     for place in 0..octets.len() {
-        let shown = end.feed(&octets[place..place + 1])?;
-        told = told.wrapping_add(shown.len() as u64);
+        told = told.wrapping_add(told_of(end, &octets[place..place + 1])?);
     }
-    Ok(told)
+    Some(told)
 }
 
-/// How many APDUs are told of octets that come at once.
-fn told_at_once(mut end: End<'_>, octets: &[u8]) -> Result<u64, Stopped> {
-    let shown = end.feed(octets)?;
-    Ok(shown.len() as u64)
+/// How many APDUs are told by a new end.
+fn told_by_new(
+    alloc: Global,
+    tables: &Tables,
+    octets: &[u8],
+    one_by_one: bool,
+) -> Result<u64, Stopped> {
+    let mut end = end(alloc, tables)?;
+    let told = if one_by_one {
+        told_one_by_one(&mut end, octets)
+    } else {
+        told_of(&mut end, octets)
+    };
+    drop(end);
+    told.ok_or(Stopped)
+}
+
+/// How many APDUs are told in so many rounds, each by an end of its own.
+fn told_in_rounds(
+    alloc: Global,
+    octets: &[u8],
+    rounds: u64,
+    one_by_one: bool,
+) -> Result<u64, Stopped> {
+    let tables = module(alloc)?;
+    let mut told = Some(0u64);
+    for _ in 0..rounds {
+        told = match (told, told_by_new(alloc, &tables, octets, one_by_one)) {
+            (Some(before), Ok(now)) => Some(before.wrapping_add(now)),
+            _ => None,
+        };
+    }
+    drop(tables);
+    told.ok_or(Stopped)
 }
 
 /// How many long APDUs are told in so many rounds, each to an end of its own, octet by octet.
 pub fn one_by_one(alloc: Global, size: u64, rounds: u64) -> Result<u64, Stopped> {
-    let tables = module(alloc)?;
     let octets = long(alloc, size)?;
-    let mut told = 0u64;
-    for _ in 0..rounds {
-        told = told.wrapping_add(told_one_by_one(end(alloc, &tables)?, octets.as_slice())?);
-    }
-    Ok(told)
+    told_in_rounds(alloc, octets.as_slice(), rounds, true)
 }
 
 /// How many short APDUs are told in so many rounds, each to an end of its own, all at once.
 pub fn at_once(alloc: Global, size: u64, rounds: u64) -> Result<u64, Stopped> {
-    let tables = module(alloc)?;
     let octets = short(alloc, size)?;
-    let mut told = 0u64;
-    for _ in 0..rounds {
-        told = told.wrapping_add(told_at_once(end(alloc, &tables)?, octets.as_slice())?);
-    }
-    Ok(told)
+    told_in_rounds(alloc, octets.as_slice(), rounds, false)
 }

@@ -32,15 +32,18 @@ fn note(alloc: Global) -> Result<Operation, NoMemory> {
 
 /// The module.
 pub fn module(alloc: Global) -> Result<Tables, Stopped> {
+    let name = Name::from_str(alloc, "One")?;
+    let name_oid = Oid::from_slice(alloc, &[2, 999, 7, 4])?;
+    let note = note(alloc)?;
+    let mut operations = Operations::new(alloc);
+    operations.push(note)?;
     let mut types = TypeTable::new(alloc);
     let Ok(_) = types.add(TypeRow::OctetString { most: u32::MAX }) else {
         return Err(Stopped);
     };
-    let mut operations = Operations::new(alloc);
-    operations.push(note(alloc)?)?;
     Ok(Tables {
-        name: Name::from_str(alloc, "One")?,
-        name_oid: Oid::from_slice(alloc, &[2, 999, 7, 4])?,
+        name,
+        name_oid,
         types,
         operations,
         errors: ErrorRows::new(alloc),
@@ -51,15 +54,19 @@ pub fn module(alloc: Global) -> Result<Tables, Stopped> {
 pub fn config(alloc: Global) -> Result<Config, NoMemory>
     ensures { IfOk result (λ config. config.mode ≡ Bare) }
 {
+    let calling = Octets::from_slice(alloc, b"a")?;
+    let called = Octets::from_slice(alloc, b"b")?;
+    let reference = Octets::from_slice(alloc, b"r")?;
+    let common = Octets::from_slice(alloc, b"2601010000Z00")?;
     Ok(Config {
         initiator: false,
         mode: Mode::Bare,
         contexts: ListOf::new(alloc),
         accepts: ListOf::new(alloc),
-        calling: Octets::from_slice(alloc, b"a")?,
-        called: Octets::from_slice(alloc, b"b")?,
-        reference: Octets::from_slice(alloc, b"r")?,
-        common: Octets::from_slice(alloc, b"2601010000Z00")?,
+        calling,
+        called,
+        reference,
+        common,
         checkpoint: 0,
         window: 1,
     })

@@ -1,9 +1,9 @@
 //! The forest of open invocations by itself. Which keys come, and in which order, follows from the
 //! order in which they were opened.
 
-use linked_ops::{Forest, ForestRefusal, Key, Keys};
-use osi_base::NoMemory;
+use linked_ops::{Forest, ForestRefusal, Key};
 use std::alloc::Global;
+use std::process::Abort;
 use std::test::*;
 
 /// An own invocation.
@@ -16,123 +16,125 @@ fn peer(id: i64) -> Key {
     Key { own: false, id }
 }
 
-/// Opens a key that isn't open under one that is; what was refused otherwise counts as a failure.
-fn put(forest: &mut Forest, key: Key, parent: Option<Key>) -> Result<(), NoMemory> {
-    match forest.open(key, parent) {
-        Ok(()) => Ok(()),
-        Err(_) => Err(NoMemory),
-    }
+/// Opens a key that isn't open under one that is.
+fn put(rt: &impl Abort, forest: &mut Forest, key: Key, parent: Option<Key>) {
+    forest.open(key, parent).expect(rt, "the key is opened");
 }
 
 /// The own invocation 1, with the peer's 1 and 2 under it, and the own 2 under the peer's 1.
-fn family(alloc: Global) -> Result<Forest, NoMemory> {
+fn family(rt: &impl Abort, alloc: Global) -> Forest {
     let mut forest = Forest::new(alloc);
-    put(&mut forest, own(1), None)?;
-    put(&mut forest, peer(1), Some(own(1)))?;
-    put(&mut forest, own(2), Some(peer(1)))?;
-    put(&mut forest, peer(2), Some(own(1)))?;
-    Ok(forest)
+    put(rt, &mut forest, own(1), None);
+    put(rt, &mut forest, peer(1), Some(own(1)));
+    put(rt, &mut forest, own(2), Some(peer(1)));
+    put(rt, &mut forest, peer(2), Some(own(1)));
+    forest
 }
 
-/// Whether the key at this place is this one.
-fn is_at(keys: &Keys, place: usize, key: Key) -> bool {
-    match keys.as_slice().get(place) {
-        Some(found) => found.is(&key),
-        None => false,
+/// Whether these keys are those, in their order.
+fn are_same(keys: &[Key], wanted: &[Key]) -> bool {
+    for (key, other) in keys.iter().zip(wanted.iter()) {
+        if !key.is(other) {
+            return false;
+        }
     }
+    keys.len() == wanted.len()
+}
+
+/// Whether all keys in post order are these.
+fn is_post_order(rt: &impl Abort, forest: &Forest, wanted: &[Key]) -> bool {
+    let keys = forest.post_order().expect(rt, "memory");
+    are_same(keys.as_slice(), wanted)
+}
+
+/// Whether the children of a key are these, in their order.
+fn are_children(forest: &Forest, key: Key, wanted: &[Key]) -> bool {
+    let mut children = forest.children(key);
+    for other in wanted {
+        match children.next() {
+            Some(child) if child.is(other) => {}
+            _ => return false,
+        }
+    }
+    children.next().is_none()
 }
 
 #[test]
-fn children_come_before_parents(rt: HostRuntime) -> Result<(), Fail> {
-    let forest = family(rt.alloc())?;
-    let keys = forest.post_order()?;
-    assert!(rt; is_at(&keys, 0, own(2)) && is_at(&keys, 1, peer(1)));
-    assert!(rt; is_at(&keys, 2, peer(2)) && is_at(&keys, 3, own(1)));
-    Ok(())
+fn children_come_before_parents(rt: HostRuntime) {
+    let forest = family(&rt, rt.alloc());
+    let wanted = [own(2), peer(1), peer(2), own(1)];
+    assert!(rt; is_post_order(&rt, &forest, &wanted));
+    drop(forest);
 }
 
 #[test]
-fn trees_come_in_order_of_opening(rt: HostRuntime) -> Result<(), Fail> {
-    let mut forest = family(rt.alloc())?;
-    put(&mut forest, own(3), None)?;
+fn trees_come_in_order_of_opening(rt: HostRuntime) {
+    let mut forest = family(&rt, rt.alloc());
+    put(&rt, &mut forest, own(3), None);
     assert!(rt; forest.close(own(1)));
-    let keys = forest.post_order()?;
-    assert!(rt; keys.len() == 4);
-    assert!(rt; is_at(&keys, 0, own(2)) && is_at(&keys, 1, peer(1)));
-    assert!(rt; is_at(&keys, 2, peer(2)) && is_at(&keys, 3, own(3)));
-    Ok(())
+    let wanted = [own(2), peer(1), peer(2), own(3)];
+    assert!(rt; is_post_order(&rt, &forest, &wanted));
+    drop(forest);
 }
 
 #[test]
-fn children_come_in_order_of_opening(rt: HostRuntime) -> Result<(), Fail> {
-    let forest = family(rt.alloc())?;
-    let mut children = forest.children(own(1));
-    assert!(rt; matches!(children.next(), Some(Key { own: false, id: 1 })));
-    assert!(rt; matches!(children.next(), Some(Key { own: false, id: 2 })));
-    assert!(rt; children.next().is_none());
-    Ok(())
+fn children_come_in_order_of_opening(rt: HostRuntime) {
+    let forest = family(&rt, rt.alloc());
+    assert!(rt; are_children(&forest, own(1), &[peer(1), peer(2)]));
+    drop(forest);
 }
 
 #[test]
-fn a_key_is_opened_once(rt: HostRuntime) -> Result<(), Fail> {
-    let mut forest = family(rt.alloc())?;
+fn a_key_is_opened_once(rt: HostRuntime) {
+    let mut forest = family(&rt, rt.alloc());
     let again = forest.open(peer(2), None);
+    drop(forest);
     assert!(rt;
         matches!(
             again,
             Err(ForestRefusal::Present(Key { own: false, id: 2 }))
         )
     );
-    Ok(())
 }
 
 #[test]
-fn a_parent_is_open(rt: HostRuntime) -> Result<(), Fail> {
-    let mut forest = family(rt.alloc())?;
+fn a_parent_is_open(rt: HostRuntime) {
+    let mut forest = family(&rt, rt.alloc());
     let under = forest.open(peer(3), Some(own(9)));
+    drop(forest);
     assert!(rt;
         matches!(
             under,
             Err(ForestRefusal::ParentAbsent(Key { own: true, id: 9 }))
         )
     );
-    Ok(())
 }
 
 #[test]
-fn the_children_of_what_is_closed_are_roots(rt: HostRuntime) -> Result<(), Fail> {
-    let mut forest = family(rt.alloc())?;
-    let closed = forest.close(own(1));
-    assert!(rt; closed);
+fn the_children_of_what_is_closed_are_roots(rt: HostRuntime) {
+    let mut forest = family(&rt, rt.alloc());
+    assert!(rt; forest.close(own(1)));
     assert!(rt; forest.parent(peer(2)).is_none() && forest.is_open(peer(2)));
-    let twice = forest.close(own(1));
-    assert!(rt; !twice);
-    Ok(())
+    assert!(rt; !forest.close(own(1)));
+    drop(forest);
 }
 
 #[test]
-fn siblings_stay_in_order_where_one_is_closed(rt: HostRuntime) -> Result<(), Fail> {
-    let mut forest = family(rt.alloc())?;
-    put(&mut forest, peer(3), Some(own(1)))?;
-    let closed = forest.close(peer(2));
-    assert!(rt; closed);
-    put(&mut forest, peer(4), Some(own(1)))?;
-    let mut children = forest.children(own(1));
-    assert!(rt; matches!(children.next(), Some(Key { own: false, id: 1 })));
-    assert!(rt; matches!(children.next(), Some(Key { own: false, id: 3 })));
-    assert!(rt; matches!(children.next(), Some(Key { own: false, id: 4 })));
-    assert!(rt; children.next().is_none());
-    Ok(())
+fn siblings_stay_in_order_where_one_is_closed(rt: HostRuntime) {
+    let mut forest = family(&rt, rt.alloc());
+    put(&rt, &mut forest, peer(3), Some(own(1)));
+    assert!(rt; forest.close(peer(2)));
+    put(&rt, &mut forest, peer(4), Some(own(1)));
+    assert!(rt; are_children(&forest, own(1), &[peer(1), peer(3), peer(4)]));
+    drop(forest);
 }
 
 #[test]
-fn a_key_that_is_opened_again_has_no_children(rt: HostRuntime) -> Result<(), Fail> {
-    let mut forest = family(rt.alloc())?;
-    let closed = forest.close(own(1));
-    assert!(rt; closed);
-    put(&mut forest, own(1), None)?;
+fn a_key_that_is_opened_again_has_no_children(rt: HostRuntime) {
+    let mut forest = family(&rt, rt.alloc());
+    assert!(rt; forest.close(own(1)));
+    put(&rt, &mut forest, own(1), None);
     assert!(rt; forest.parent(peer(1)).is_none());
-    let mut children = forest.children(own(1));
-    assert!(rt; children.next().is_none());
-    Ok(())
+    assert!(rt; are_children(&forest, own(1), &[]));
+    drop(forest);
 }

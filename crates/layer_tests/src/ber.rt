@@ -3,7 +3,7 @@
 use crate::tables::{Member, Row, parts, table};
 use ber_codec::{
     LIMIT, Read, ReadFault, RowRefusal, TextKind, TypeId, TypeRow, TypeTable, ber_octets, ber_read,
-    ber_read_within, der_read,
+    ber_read_within, der_read, is_whole,
 };
 use osi_base::{Kind, Octets};
 use std::alloc::Global;
@@ -47,8 +47,12 @@ const BIT_LISTS: u32 = 11;
 
 const FLAGGED: u32 = 12;
 
+const BIT: u32 = 13;
+
+const ZEROED: u32 = 14;
+
 /// The rows that the constants name.
-const TABLE: [Row; 13] = [
+const TABLE: [Row; 15] = [
     Row::Integer(i64::MIN, i64::MAX),
     Row::Boolean,
     Row::Set(&[("a", INTEGER, false, None), ("b", BOOLEAN, false, None)]),
@@ -62,6 +66,8 @@ const TABLE: [Row; 13] = [
     Row::Set(&[("d", BOOLEAN, false, Some(1))]),
     Row::SequenceOf(BITS),
     Row::Set(&[("a", INTEGER, false, None), ("b", BOOLEAN, true, None)]),
+    Row::Integer(0, 1),
+    Row::Sequence(&[("e", INTEGER, false, Some(0))]),
 ];
 
 /// Octets of a type: what they are read as in BER and in DER, and how their value is written.
@@ -69,7 +75,7 @@ type Sample = (u32, &'static [u8], Outcome, Outcome, &'static [u8]);
 
 /// Each row follows from the sections of X.690 that are named above it or above the first of its
 /// kind, and its place from counting octets.
-const ROWS: [Sample; 38] = [
+const ROWS: [Sample; 40] = [
     // 8.3.2: a number has no more octets than it needs; 8.1.3.5, 10.1: DER's length neither.
     // 5 in two octets
     (
@@ -96,6 +102,14 @@ const ROWS: [Sample; 38] = [
         Used(4),
         At(1, Kind::Form),
         &[2, 1, 5],
+    ),
+    // five octets behind one
+    (
+        OCTETS,
+        &[4, 0x81, 5, 1, 2, 3, 4, 5],
+        Used(8),
+        At(1, Kind::Form),
+        &[4, 5, 1, 2, 3, 4, 5],
     ),
     // 8.6.2.3, 11.2.1: unused bits may have any values, in DER they are zeros; so too inside a
     // value and in segments (8.6.4).
@@ -295,6 +309,14 @@ const ROWS: [Sample; 38] = [
         Used(8),
         &[0x30, 6, 2, 1, 5, 2, 1, 8],
     ),
+    // e is its default's 0, and stands
+    (
+        ZEROED,
+        &[0x30, 3, 2, 1, 0],
+        Used(5),
+        At(4, Kind::Form),
+        &[0x30, 0],
+    ),
     // b stands twice
     (
         COUNTED,
@@ -418,7 +440,9 @@ fn is_written(
 ) -> bool {
     let octets = ber_octets(alloc, table, TypeId(of), &read.value).expect(rt, "memory");
     drop(read);
-    octets.as_slice() == written
+    let is_so = octets.as_slice() == written;
+    drop(octets);
+    is_so
 }
 
 /// Whether what is read of octets in BER within the limit is written as these: as none after a
@@ -452,18 +476,22 @@ fn worked_rows(rt: HostRuntime) {
     for row in &ROWS {
         assert!(rt; is_so(&rt, rt.alloc(), &table, row));
     }
+    drop(table);
 }
 
 /// What is told when a SEQUENCE of these parts is added to the table.
 fn refusal_of(rt: &impl Abort, alloc: Global, members: &[Member]) -> Option<RowRefusal> {
     let mut table = table(rt, alloc, &TABLE);
-    let added = table.add(TypeRow::Sequence(parts(rt, alloc, members)));
-    added.err()
+    let refusal = table
+        .add(TypeRow::Sequence(parts(rt, alloc, members)))
+        .err();
+    drop(table);
+    refusal
 }
 
 /// Parts, and why a SEQUENCE of them is no row, if it is none: a default is of a BOOLEAN, an
 /// INTEGER or an ENUMERATED, and not of an optional part, and no two parts have one name.
-const REFUSED: [(&'static [Member], Option<RowRefusal>); 6] = [
+const REFUSED: [(&'static [Member], Option<RowRefusal>); 7] = [
     // a BOOLEAN's default, FALSE
     (&[("a", BOOLEAN, false, Some(0))], None),
     // 2, which is no truth value
@@ -473,7 +501,9 @@ const REFUSED: [(&'static [Member], Option<RowRefusal>); 6] = [
     ),
     // an INTEGER's, -1
     (&[("a", NUMBER, false, Some(-1))], None),
-    // the same of a part that may be absent
+    // 2, which is above the range
+    (&[("a", BIT, false, Some(2))], Some(RowRefusal::BadDefault)),
+    // -1 of a part that may be absent
     (
         &[("a", NUMBER, true, Some(-1))],
         Some(RowRefusal::BadDefault),
@@ -494,6 +524,25 @@ const REFUSED: [(&'static [Member], Option<RowRefusal>); 6] = [
 fn rows_are_refused(rt: HostRuntime) {
     for (members, refusal) in &REFUSED {
         assert!(rt; refusal_of(&rt, rt.alloc(), members) == *refusal);
+    }
+}
+
+/// Octets, and whether they are one whole value (8.1.2, 8.1.3; a length has at most 8 octets here).
+const WHOLES: [(&'static [u8], bool); 4] = [
+    // the tag number 30, in one octet
+    (&[0x9E, 0], true),
+    // 31, in a digit behind the first octet
+    (&[0x9F, 0x1F, 0], true),
+    // 16,384, whose second digit is a zero
+    (&[0x9F, 0x81, 0x80, 0, 0], true),
+    // a length in nine octets
+    (&[4, 0x89, 0, 0, 0, 0, 0, 0, 0, 0, 1, 5], false),
+];
+
+#[test]
+fn whole_values(rt: HostRuntime) {
+    for (octets, whole) in &WHOLES {
+        assert!(rt; is_whole(octets) == *whole);
     }
 }
 
@@ -536,6 +585,7 @@ fn octets_within_a_limit(rt: HostRuntime) {
     for row in &LIMITED {
         assert!(rt; is_within(&rt, rt.alloc(), &table, row));
     }
+    drop(table);
 }
 
 /// Whether octets of a type are refused for their 33rd level.
@@ -547,14 +597,20 @@ fn is_too_deep(rt: &impl Abort, alloc: Global, table: &TypeTable, of: u32, octet
 fn too_many_levels_of_a_string(rt: HostRuntime) {
     let table = table(&rt, rt.alloc(), &TABLE);
     let deep = [0x24, 0x80].repeat(rt.alloc(), 40).expect(&rt, "memory");
-    assert!(rt; is_too_deep(&rt, rt.alloc(), &table, OCTETS, deep.as_slice()));
+    let is_so = is_too_deep(&rt, rt.alloc(), &table, OCTETS, deep.as_slice());
+    drop(deep);
+    drop(table);
+    assert!(rt; is_so);
 }
 
 #[test]
 fn too_many_levels_of_any_value(rt: HostRuntime) {
     let table = table(&rt, rt.alloc(), &TABLE);
     let deep = [0x30, 0x80].repeat(rt.alloc(), 40).expect(&rt, "memory");
-    assert!(rt; is_too_deep(&rt, rt.alloc(), &table, ANY, deep.as_slice()));
+    let is_so = is_too_deep(&rt, rt.alloc(), &table, ANY, deep.as_slice());
+    drop(deep);
+    drop(table);
+    assert!(rt; is_so);
 }
 
 /// The octets of the longest value.
@@ -562,6 +618,7 @@ fn longest(rt: &impl Abort, alloc: Global) -> Octets {
     let zeros = vec![in alloc; 0; 262_139].expect(rt, "memory");
     let mut long = Octets::from_slice(alloc, &[4, 0x83, 3, 0xFF, 0xFB]).expect(rt, "memory");
     long.extend(zeros.as_slice()).expect(rt, "memory");
+    drop(zeros);
     long
 }
 
@@ -569,5 +626,8 @@ fn longest(rt: &impl Abort, alloc: Global) -> Octets {
 fn the_longest_value(rt: HostRuntime) {
     let table = table(&rt, rt.alloc(), &TABLE);
     let long = longest(&rt, rt.alloc());
-    assert!(rt; ber_used(&rt, rt.alloc(), &table, OCTETS, long.as_slice()) == Ok(262_144));
+    let used = ber_used(&rt, rt.alloc(), &table, OCTETS, long.as_slice());
+    drop(long);
+    drop(table);
+    assert!(rt; used == Ok(262_144));
 }

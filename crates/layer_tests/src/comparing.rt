@@ -309,6 +309,8 @@ fn is_told(rt: &impl Abort, alloc: Global, table: &TypeTable, of: u32, a: &Val, 
     let first = spelling(rt, alloc, table, of, a);
     let second = spelling(rt, alloc, table, of, b);
     let less = octets_less(first.as_slice(), second.as_slice());
+    drop(first);
+    drop(second);
     is_less(table, TypeId(of), a, b) == Some(less)
 }
 
@@ -343,13 +345,22 @@ fn values(rt: &impl Abort, alloc: Global, of: u32) -> Vals {
     }
 }
 
+/// Whether all pairs of the values of a type are told so.
+fn are_all_told(rt: &impl Abort, alloc: Global, table: &TypeTable, of: u32) -> bool {
+    let values = values(rt, alloc, of);
+    let are_so = are_told(rt, alloc, table, of, &values);
+    drop(values);
+    are_so
+}
+
 #[test]
 fn values_compare_as_their_octets(rt: HostRuntime) {
     let alloc = rt.alloc();
     let table = table(&rt, alloc, &TABLE);
     for of in &COMPARED {
-        assert!(rt; are_told(&rt, alloc, &table, *of, &values(&rt, alloc, *of)));
+        assert!(rt; are_all_told(&rt, alloc, &table, *of));
     }
+    drop(table);
 }
 
 /// Values of the SEQUENCE, and others that are none.
@@ -373,6 +384,9 @@ fn is_record(table: &TypeTable, value: Val) -> bool {
     fits
 }
 
+/// The types of which such values are compared.
+const ODDLY_COMPARED: [u32; 4] = [SEQUENCE, SET, CHOICE, LIST];
+
 /// A value whose parts stand in the wrong places has no form, and is compared all the same.
 #[test]
 fn values_without_form_compare_too(rt: HostRuntime) {
@@ -380,7 +394,9 @@ fn values_without_form_compare_too(rt: HostRuntime) {
     let table = table(&rt, alloc, &TABLE);
     let odd = odd_values(&rt, alloc);
     assert!(rt; !is_record(&table, number(5)));
-    for of in &[SEQUENCE, SET, CHOICE, LIST] {
+    for of in &ODDLY_COMPARED {
         assert!(rt; are_told(&rt, alloc, &table, *of, &odd));
     }
+    drop(odd);
+    drop(table);
 }

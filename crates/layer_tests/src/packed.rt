@@ -290,6 +290,7 @@ fn worked_rows(rt: HostRuntime) {
     for (of, octets, outcome) in &ROWS {
         assert!(rt; is_read(&rt, rt.alloc(), &table, TypeId(*of), octets, outcome));
     }
+    drop(table);
 }
 
 /// How many octets a value was read from.
@@ -330,4 +331,5 @@ fn a_lower_limit(rt: HostRuntime) {
     for row in &LIMITED {
         assert!(rt; is_read_within(&rt, rt.alloc(), &table, row));
     }
+    drop(table);
 }

@@ -158,7 +158,9 @@ fn feed(rt: &impl Abort, reader: &mut TReader, octets: &[u8]) -> TFed {
 /// Whether a feed gives nothing at all.
 fn gives_nothing(rt: &impl Abort, reader: &mut TReader, octets: &[u8]) -> bool {
     let fed = feed(rt, reader, octets);
-    fed.packets.len() == 0 && fed.fault.is_none()
+    let is_nothing = fed.packets.len() == 0 && fed.fault.is_none();
+    drop(fed);
+    is_nothing
 }
 
 /// Whether a feed gave this TSDU alone.
@@ -174,16 +176,24 @@ fn is_tsdu(fed: &TFed, tsdu: &[u8]) -> bool {
 
 /// Whether a feed gives this TSDU alone.
 fn gives(rt: &impl Abort, reader: &mut TReader, octets: &[u8], tsdu: &[u8]) -> bool {
-    is_tsdu(&feed(rt, reader, octets), tsdu)
+    let fed = feed(rt, reader, octets);
+    let is_so = is_tsdu(&fed, tsdu);
+    drop(fed);
+    is_so
 }
 
 /// The fault of a stream, where no packet came before.
 fn fault_of(rt: &impl Abort, alloc: Global, stream: &[u8]) -> Option<TFault> {
-    let fed = feed(rt, &mut TReader::new(alloc), stream);
-    if fed.packets.len() != 0 {
-        return None;
-    }
-    fed.fault
+    let mut reader = TReader::new(alloc);
+    let fed = feed(rt, &mut reader, stream);
+    drop(reader);
+    let fault = if fed.packets.len() == 0 {
+        fed.fault
+    } else {
+        None
+    };
+    drop(fed);
+    fault
 }
 
 /// Whether these are the fields.
@@ -197,10 +207,10 @@ fn are_ends(ends: &ConnectionFields, destination: u16, source: u16, selector: &[
 
 /// Whether a TSDU is written as this packet.
 fn is_written(rt: &impl Abort, alloc: Global, tsdu: &[u8], packet: &[u8]) -> bool {
-    write_tsdu(alloc, tsdu, 1024)
-        .expect(rt, "memory")
-        .as_slice()
-        == packet
+    let written = write_tsdu(alloc, tsdu, 1024).expect(rt, "memory");
+    let is_so = written.as_slice() == packet;
+    drop(written);
+    is_so
 }
 
 /// Whether a packet is read as one TSDU, which is written as the same packet.
@@ -209,13 +219,19 @@ fn is_part(rt: &impl Abort, alloc: Global, packet: &[u8]) -> bool {
         return false;
     }
     let tsdu = &packet[7..];
-    gives(rt, &mut TReader::new(alloc), packet, tsdu) && is_written(rt, alloc, tsdu, packet)
+    let mut reader = TReader::new(alloc);
+    let is_given = gives(rt, &mut reader, packet, tsdu);
+    drop(reader);
+    is_given && is_written(rt, alloc, tsdu, packet)
 }
 
 /// Whether the first of two pieces of the invocation gives nothing, and the second gives it.
 fn is_joined(rt: &impl Abort, alloc: Global, first: &[u8], second: &[u8]) -> bool {
     let mut reader = TReader::new(alloc);
-    gives_nothing(rt, &mut reader, first) && gives(rt, &mut reader, second, &INVOCATION[7..])
+    let joined = gives_nothing(rt, &mut reader, first)
+        && gives(rt, &mut reader, second, &INVOCATION[7..]);
+    drop(reader);
+    joined
 }
 
 #[test]
@@ -264,13 +280,44 @@ fn is_problem(fed: &TFed) -> bool {
     matches!(fed.packets.get(0), Some(Packet::Problem))
 }
 
+/// What a unit is.
+#[derive(Clone, Copy)]
+enum Unit {
+    /// A request or a confirm with these references and this selector.
+    Connection(u16, u16, &'static [u8]),
+    Disconnect,
+    Problem,
+}
+
+/// Units that come one behind the other.
+const UNITS: [(&'static [u8], Unit); 4] = [
+    (REQUEST, Unit::Connection(0, 1, &[0, 1])),
+    (CONFIRM, Unit::Connection(1, 2, &[])),
+    (DISCONNECT, Unit::Disconnect),
+    (PROBLEM, Unit::Problem),
+];
+
+/// Whether a feed gives this unit first.
+fn is_unit(rt: &impl Abort, reader: &mut TReader, octets: &[u8], unit: Unit) -> bool {
+    let fed = feed(rt, reader, octets);
+    let is_so = match unit {
+        Unit::Connection(destination, source, selector) => {
+            is_connection(&fed, destination, source, selector)
+        }
+        Unit::Disconnect => is_disconnect(&fed),
+        Unit::Problem => is_problem(&fed),
+    };
+    drop(fed);
+    is_so
+}
+
 #[test]
 fn units_are_read(rt: HostRuntime) {
     let mut reader = TReader::new(rt.alloc());
-    assert!(rt; is_connection(&feed(&rt, &mut reader, REQUEST), 0, 1, &[0, 1]));
-    assert!(rt; is_connection(&feed(&rt, &mut reader, CONFIRM), 1, 2, &[]));
-    assert!(rt; is_disconnect(&feed(&rt, &mut reader, DISCONNECT)));
-    assert!(rt; is_problem(&feed(&rt, &mut reader, PROBLEM)));
+    for (octets, unit) in &UNITS {
+        assert!(rt; is_unit(&rt, &mut reader, octets, *unit));
+    }
+    drop(reader);
 }
 
 /// A selector.
@@ -295,48 +342,87 @@ fn ends(
     }
 }
 
+/// Whether octets are these; they are let go.
+fn are(written: Octets, octets: &[u8]) -> bool {
+    let is_so = written.as_slice() == octets;
+    drop(written);
+    is_so
+}
+
+/// A request with these ends, which have room.
+fn request(rt: &impl Abort, alloc: Global, ends: &ConnectionFields) -> Octets {
+    assert!(rt; ends.has_room());
+    write_connect(alloc, ends).expect(rt, "memory")
+}
+
 #[test]
 fn a_request_is_written(rt: HostRuntime) {
     let ends = ends(&rt, rt.alloc(), 0, 1, &[0, 1]);
+    let is_so = are(request(&rt, rt.alloc(), &ends), REQUEST);
+    drop(ends);
+    assert!(rt; is_so);
+}
+
+/// A confirm with these ends, which have room.
+fn confirm(rt: &impl Abort, alloc: Global, ends: &ConnectionFields) -> Octets {
     assert!(rt; ends.has_room());
-    let written = write_connect(rt.alloc(), &ends).expect(&rt, "memory");
-    assert!(rt; written.as_slice() == REQUEST);
+    write_confirm(alloc, ends).expect(rt, "memory")
 }
 
 #[test]
 fn a_confirm_is_written(rt: HostRuntime) {
     let ends = ends(&rt, rt.alloc(), 1, 2, &[]);
-    assert!(rt; ends.has_room());
-    let written = write_confirm(rt.alloc(), &ends).expect(&rt, "memory");
-    assert!(rt; written.as_slice() == CONFIRM);
+    let is_so = are(confirm(&rt, rt.alloc(), &ends), CONFIRM);
+    drop(ends);
+    assert!(rt; is_so);
 }
 
 #[test]
 fn the_end_of_a_connection_is_written(rt: HostRuntime) {
-    let written = write_disconnect(rt.alloc(), 1, 0, 0).expect(&rt, "memory");
-    assert!(rt; written.as_slice() == DISCONNECT);
-    let written = write_problem(rt.alloc(), 1, 0).expect(&rt, "memory");
-    assert!(rt; written.as_slice() == PROBLEM);
+    let disconnect = write_disconnect(rt.alloc(), 1, 0, 0).expect(&rt, "memory");
+    assert!(rt; are(disconnect, DISCONNECT));
+    let problem = write_problem(rt.alloc(), 1, 0).expect(&rt, "memory");
+    assert!(rt; are(problem, PROBLEM));
+}
+
+/// Whether this is the fault of a stream.
+fn is_faulty(rt: &impl Abort, alloc: Global, stream: &[u8], place: u64, kind: Kind) -> bool {
+    match fault_of(rt, alloc, stream) {
+        Some(fault) => fault.place == place && fault.kind == kind,
+        None => false,
+    }
 }
 
 #[test]
 fn faulty_headers(rt: HostRuntime) {
     for (stream, place, kind) in &FAULTY {
-        let fault = TFault {
-            place: *place,
-            kind: *kind,
-        };
-        assert!(rt; fault_of(&rt, rt.alloc(), stream) == Some(fault));
+        assert!(rt; is_faulty(&rt, rt.alloc(), stream, *place, *kind));
     }
+}
+
+/// Whether these octets come behind the header of a packet as large as may be.
+fn is_large(rt: &impl Abort, alloc: Global, octets: &[u8]) -> bool {
+    let mut reader = TReader::new(alloc);
+    let is_given = gives_nothing(rt, &mut reader, &[3, 0, 0xFF, 0xFF, 2, 0xF0, 0x80])
+        && gives(rt, &mut reader, octets, octets);
+    drop(reader);
+    is_given
 }
 
 /// 65,535 octets: 7 of the header and 65,528 of data.
 #[test]
 fn largest_packet(rt: HostRuntime) {
-    let mut reader = TReader::new(rt.alloc());
-    assert!(rt; gives_nothing(&rt, &mut reader, &[3, 0, 0xFF, 0xFF, 2, 0xF0, 0x80]));
     let octets = vec![in rt.alloc(); 5u8; 65_528].expect(&rt, "memory");
-    assert!(rt; gives(&rt, &mut reader, &octets, &octets));
+    let is_given = is_large(&rt, rt.alloc(), &octets);
+    drop(octets);
+    assert!(rt; is_given);
+}
+
+/// Whether octets are those of two packets, of 125 octets 7 and of 5.
+fn are_two(octets: &[u8]) -> bool {
+    octets.len() == 144
+        && octets.starts_with(&[3, 0, 0, 0x84, 2, 0xF0, 0, 7])
+        && octets.ends_with(&[7, 3, 0, 0, 0x0C, 2, 0xF0, 0x80, 7, 7, 7, 7, 7])
 }
 
 /// 130 octets in DTs of at most 128, of which three are the header's: 125 and 5.
@@ -344,10 +430,10 @@ fn largest_packet(rt: HostRuntime) {
 fn cut_into_parts_of_128(rt: HostRuntime) {
     let tsdu = vec![in rt.alloc(); 7u8; 130].expect(&rt, "memory");
     let written = write_tsdu(rt.alloc(), &tsdu, 128).expect(&rt, "memory");
-    let octets = written.as_slice();
-    assert!(rt; octets.len() == 144);
-    assert!(rt; octets.starts_with(&[3, 0, 0, 0x84, 2, 0xF0, 0, 7]));
-    assert!(rt; octets.ends_with(&[7, 3, 0, 0, 0x0C, 2, 0xF0, 0x80, 7, 7, 7, 7, 7]));
+    drop(tsdu);
+    let are_so = are_two(written.as_slice());
+    drop(written);
+    assert!(rt; are_so);
 }
 
 /// Whether a packet that is not the last, of so many octets, gives nothing.
@@ -355,26 +441,38 @@ fn is_kept(rt: &impl Abort, reader: &mut TReader, head: &[u8], octets: &[u8]) ->
     gives_nothing(rt, reader, head) && gives_nothing(rt, reader, octets)
 }
 
+/// Whether 16 packets of these octets and one of the first 128 give nothing.
+fn are_kept(rt: &impl Abort, reader: &mut TReader, octets: &[u8]) -> bool {
+    for _ in 0..16 {
+        if !is_kept(rt, reader, &[3, 0, 0xFF, 0xFF, 2, 0xF0, 0], octets) {
+            return false;
+        }
+    }
+    octets.len() >= 128 && is_kept(rt, reader, &[3, 0, 0, 0x87, 2, 0xF0, 0], &octets[..128])
+}
+
+/// Whether a feed gives no packet and this fault.
+fn gives_fault(rt: &impl Abort, reader: &mut TReader, octets: &[u8], fault: TFault) -> bool {
+    let fed = feed(rt, reader, octets);
+    let is_so = fed.packets.len() == 0 && fed.fault == Some(fault);
+    drop(fed);
+    is_so
+}
+
 /// 16 packets of 65,528 octets of data and one of 128 make 1,048,576. One octet more is told at the
-/// code of its DT, behind 16 times 65,535 octets, 135 and five.
+/// code of its DT, behind 16 times 65,535 octets, 135 and five; and again of whatever comes then.
 #[test]
 fn longest_tsdu(rt: HostRuntime) {
     let mut reader = TReader::new(rt.alloc());
     let octets = vec![in rt.alloc(); 5u8; 65_528].expect(&rt, "memory");
-    for _ in 0..16 {
-        assert!(rt; is_kept(&rt, &mut reader, &[3, 0, 0xFF, 0xFF, 2, 0xF0, 0], &octets));
-    }
-    assert!(rt;
-        is_kept(
-            &rt,
-            &mut reader,
-            &[3, 0, 0, 0x87, 2, 0xF0, 0],
-            &octets[..128]
-        )
-    );
+    let are_kept = are_kept(&rt, &mut reader, &octets);
+    drop(octets);
     let fault = TFault {
         place: 1_048_700,
         kind: Kind::Length,
     };
-    assert!(rt; feed(&rt, &mut reader, &[3, 0, 0, 8, 2, 0xF0]).fault == Some(fault));
+    let is_told = gives_fault(&rt, &mut reader, &[3, 0, 0, 8, 2, 0xF0], fault);
+    let is_told_again = gives_fault(&rt, &mut reader, INVOCATION, fault);
+    drop(reader);
+    assert!(rt; are_kept && is_told && is_told_again);
 }

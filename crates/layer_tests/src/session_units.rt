@@ -1,10 +1,10 @@
 //! Octets of each unit: those of worked dialogues, and others that are laid out by hand by X.225
 //! 8.2 and 8.3, which are named so. Places of faults are counted in the octets.
 
-ghost use Rattle.std.specs.Prelude.{◌≡◌, ◌≤◌, true, length};
+ghost use Rattle.std.specs.Prelude.{◌≡◌, ◌≤◌, true, [], ◌∷◌, ◌++◌, length};
 ghost use Rattle.spdu_codec.specs.Written.{AreFields, AreWritable, octets_in, stands_alone, stands_second};
 
-use osi_base::{Kind, NoMemory, Octets, SessionConnect, SessionWord, Spdus};
+use osi_base::{Kind, Octets, SessionConnect, SessionWord, Spdus};
 use spdu_codec::{SFault, read_spdus, write_spdus};
 use std::alloc::Global;
 use std::process::Abort;
@@ -231,41 +231,63 @@ fn shown(rt: &impl Abort, alloc: Global, words: &Spdus) -> String {
 /// Whether octets are read as these words.
 fn are_read(rt: &impl Abort, alloc: Global, octets: &[u8], words: &Spdus) -> bool {
     let read = read_spdus(alloc, octets).expect(rt, "units");
-    shown(rt, alloc, &read).as_str() == shown(rt, alloc, words).as_str()
+    let shown_read = shown(rt, alloc, &read);
+    drop(read);
+    let wanted = shown(rt, alloc, words);
+    let is_so = shown_read.as_str() == wanted.as_str();
+    drop(shown_read);
+    drop(wanted);
+    is_so
+}
+
+/// Whether words are written as these octets.
+fn are_written(rt: &impl Abort, alloc: Global, words: &Spdus, octets: &[u8]) -> bool
+    requires { AreWritable words.now }
+{
+    let written = write_spdus(alloc, words).expect(rt, "memory");
+    let is_so = written.as_slice() == octets;
+    drop(written);
+    is_so
 }
 
 /// These words are written as these octets, and the octets are read as these words.
 fn check(rt: &impl Abort, alloc: Global, words: &Spdus, octets: &[u8])
     requires { AreWritable words.now }
 {
-    let written = write_spdus(alloc, words).expect(rt, "memory");
-    assert!(rt; written.as_slice() == octets);
+    assert!(rt; are_written(rt, alloc, words, octets));
     assert!(rt; are_read(rt, alloc, octets, words));
 }
 
+/// A word behind these.
+fn add(rt: &impl Abort, words: &mut Spdus, word: SessionWord)
+    ensures { words.new ≡ words.old ++ word ∷ [] }
+{
+    words.push(word).expect(rt, "memory");
+}
+
 /// A unit that stands alone.
-fn alone(rt: &impl Abort, alloc: Global, word: SessionWord, octets: &[u8]) -> Result<(), NoMemory>
+fn alone(rt: &impl Abort, alloc: Global, word: SessionWord, octets: &[u8])
     requires stands { stands_alone word ≡ true }
     requires fields { AreFields word }
     requires short { octets_in word ≤ 1000 }
 {
     let mut words = Spdus::new(alloc);
-    words.push(word)?;
+    add(rt, &mut words, word);
     check(rt, alloc, &words, octets);
-    Ok(())
+    drop(words);
 }
 
 /// A unit behind an empty GT.
-fn second(rt: &impl Abort, alloc: Global, word: SessionWord, octets: &[u8]) -> Result<(), NoMemory>
+fn second(rt: &impl Abort, alloc: Global, word: SessionWord, octets: &[u8])
     requires stands { stands_second word ≡ true }
     requires fields { AreFields word }
     requires short { octets_in word ≤ 1000 }
 {
     let mut words = Spdus::new(alloc);
-    words.push(SessionWord::GiveTokens { tokens: None })?;
-    words.push(word)?;
+    add(rt, &mut words, SessionWord::GiveTokens { tokens: None });
+    add(rt, &mut words, word);
     check(rt, alloc, &words, octets);
-    Ok(())
+    drop(words);
 }
 
 /// The connect of an opening in direct mode.
@@ -284,7 +306,7 @@ fn a_connect(rt: HostRuntime) {
         called: Some(octets(&rt, alloc, &[0, 1])),
         user: octets(&rt, alloc, CONNECT_DATA),
     };
-    alone(&rt, alloc, SessionWord::Connect(connect), CONNECT).expect(&rt, "memory");
+    alone(&rt, alloc, SessionWord::Connect(connect), CONNECT);
 }
 
 /// A connect of reliable mode with a token setting.
@@ -304,7 +326,7 @@ fn a_connect_with_references(rt: HostRuntime) {
         user: octets(&rt, alloc, &[]),
     };
     let word = SessionWord::Connect(connect);
-    alone(&rt, alloc, word, CONNECT_WITH_REFERENCES).expect(&rt, "memory");
+    alone(&rt, alloc, word, CONNECT_WITH_REFERENCES);
 }
 
 #[test]
@@ -317,7 +339,7 @@ fn an_accept(rt: HostRuntime) {
         requirements: Some(0x042A),
         user: octets(&rt, alloc, ACCEPT_DATA),
     };
-    alone(&rt, alloc, word, ACCEPT).expect(&rt, "memory");
+    alone(&rt, alloc, word, ACCEPT);
 }
 
 #[test]
@@ -330,7 +352,7 @@ fn a_short_accept(rt: HostRuntime) {
         requirements: Some(0x0002),
         user: octets(&rt, alloc, &[0x31, 0x00]),
     };
-    alone(&rt, alloc, word, SHORT_ACCEPT).expect(&rt, "memory");
+    alone(&rt, alloc, word, SHORT_ACCEPT);
 }
 
 #[test]
@@ -343,7 +365,7 @@ fn a_refusal(rt: HostRuntime) {
         reason: Some(2),
         user: Some(user),
     };
-    alone(&rt, alloc, word, REFUSE).expect(&rt, "memory");
+    alone(&rt, alloc, word, REFUSE);
 }
 
 #[test]
@@ -353,10 +375,10 @@ fn the_end_of_a_connection(rt: HostRuntime) {
         transport: Some(1),
         user: octets(&rt, alloc, FINISH_DATA),
     };
-    alone(&rt, alloc, word, FINISH).expect(&rt, "memory");
+    alone(&rt, alloc, word, FINISH);
     let user = octets(&rt, alloc, DISCONNECT_DATA);
     let word = SessionWord::Disconnect { user };
-    alone(&rt, alloc, word, DISCONNECT).expect(&rt, "memory");
+    alone(&rt, alloc, word, DISCONNECT);
 }
 
 #[test]
@@ -366,12 +388,12 @@ fn aborts_with_data(rt: HostRuntime) {
         transport: Some(3),
         user: Some(octets(&rt, alloc, ABORT_DATA)),
     };
-    alone(&rt, alloc, word, ABORT).expect(&rt, "memory");
+    alone(&rt, alloc, word, ABORT);
     let word = SessionWord::Abort {
         transport: Some(3),
         user: Some(octets(&rt, alloc, &[0x30, 0x03, 0x80, 0x01, 0x06])),
     };
-    alone(&rt, alloc, word, PROVIDER_ABORT).expect(&rt, "memory");
+    alone(&rt, alloc, word, PROVIDER_ABORT);
 }
 
 #[test]
@@ -381,21 +403,21 @@ fn aborts_without_data(rt: HostRuntime) {
         transport: Some(5),
         user: None,
     };
-    alone(&rt, alloc, word, &[0x19, 0x03, 0x11, 0x01, 0x05]).expect(&rt, "memory");
+    alone(&rt, alloc, word, &[0x19, 0x03, 0x11, 0x01, 0x05]);
     // its answer, by hand
     let word = SessionWord::AbortAccept;
-    alone(&rt, alloc, word, &[0x1A, 0x00]).expect(&rt, "memory");
+    alone(&rt, alloc, word, &[0x1A, 0x00]);
 }
 
 #[test]
 fn tokens(rt: HostRuntime) {
     let alloc = rt.alloc();
     let word = SessionWord::GiveTokens { tokens: Some(4) };
-    alone(&rt, alloc, word, &[0x01, 0x03, 0x10, 0x01, 0x04]).expect(&rt, "memory");
+    alone(&rt, alloc, word, &[0x01, 0x03, 0x10, 0x01, 0x04]);
     let word = SessionWord::GiveTokensConfirm;
-    alone(&rt, alloc, word, &[0x15, 0x00]).expect(&rt, "memory");
+    alone(&rt, alloc, word, &[0x15, 0x00]);
     let word = SessionWord::GiveTokensAck;
-    alone(&rt, alloc, word, &[0x16, 0x00]).expect(&rt, "memory");
+    alone(&rt, alloc, word, &[0x16, 0x00]);
 }
 
 #[test]
@@ -405,14 +427,14 @@ fn requests_for_tokens(rt: HostRuntime) {
         tokens: Some(4),
         user: None,
     };
-    alone(&rt, alloc, word, &[0x02, 0x03, 0x10, 0x01, 0x04]).expect(&rt, "memory");
+    alone(&rt, alloc, word, &[0x02, 0x03, 0x10, 0x01, 0x04]);
     // all tokens, with an octet of user data, by hand
     let word = SessionWord::PleaseTokens {
         tokens: Some(0x15),
         user: Some(octets(&rt, alloc, &[7])),
     };
     let unit = [0x02, 0x06, 0x10, 0x01, 0x15, 0xC1, 0x01, 0x07];
-    alone(&rt, alloc, word, &unit).expect(&rt, "memory");
+    alone(&rt, alloc, word, &unit);
 }
 
 #[test]
@@ -420,9 +442,9 @@ fn data(rt: HostRuntime) {
     let alloc = rt.alloc();
     let user = octets(&rt, alloc, &[0xA0, 0x05, 0xA1, 0x03, 0x02, 0x01, 0x05]);
     let word = SessionWord::TypedData { user };
-    alone(&rt, alloc, word, TYPED_DATA).expect(&rt, "memory");
+    alone(&rt, alloc, word, TYPED_DATA);
     let user = octets(&rt, alloc, INVOCATION);
-    second(&rt, alloc, SessionWord::Data { user }, DATA).expect(&rt, "memory");
+    second(&rt, alloc, SessionWord::Data { user }, DATA);
 }
 
 #[test]
@@ -434,16 +456,14 @@ fn marks(rt: HostRuntime) {
         alloc,
         word,
         &[0x01, 0x00, 0x31, 0x03, 0x2A, 0x01, 0x31],
-    )
-    .expect(&rt, "memory");
+    );
     let word = SessionWord::MarkAck { number: 1 };
     second(
         &rt,
         alloc,
         word,
         &[0x01, 0x00, 0x32, 0x03, 0x2A, 0x01, 0x31],
-    )
-    .expect(&rt, "memory");
+    );
 }
 
 #[test]
@@ -453,12 +473,12 @@ fn restarts(rt: HostRuntime) {
         number: 2,
         user: Some(octets(&rt, alloc, RESTART_DATA)),
     };
-    second(&rt, alloc, word, RESTART).expect(&rt, "memory");
+    second(&rt, alloc, word, RESTART);
     let word = SessionWord::ResynchronizeAck {
         number: 2,
         user: Some(octets(&rt, alloc, RESTART_DATA)),
     };
-    second(&rt, alloc, word, RESTARTED).expect(&rt, "memory");
+    second(&rt, alloc, word, RESTARTED);
 }
 
 #[test]
@@ -470,18 +490,17 @@ fn beginnings_of_activities(rt: HostRuntime) {
         alloc,
         word,
         &[0x01, 0x00, 0x2D, 0x03, 0x29, 0x01, 0x31],
-    )
-    .expect(&rt, "memory");
+    );
     let word = SessionWord::ActivityResume {
         activity: 1,
         mark: 1,
     };
-    second(&rt, alloc, word, RESUME).expect(&rt, "memory");
+    second(&rt, alloc, word, RESUME);
     let word = SessionWord::ActivityResume {
         activity: 1,
         mark: 0,
     };
-    second(&rt, alloc, word, RESUME_AT_FIRST).expect(&rt, "memory");
+    second(&rt, alloc, word, RESUME_AT_FIRST);
 }
 
 #[test]
@@ -493,16 +512,14 @@ fn ends_of_activities(rt: HostRuntime) {
         alloc,
         word,
         &[0x01, 0x00, 0x29, 0x03, 0x2A, 0x01, 0x33],
-    )
-    .expect(&rt, "memory");
+    );
     let word = SessionWord::ActivityEndAck { number: 3 };
     second(
         &rt,
         alloc,
         word,
         &[0x01, 0x00, 0x2A, 0x03, 0x2A, 0x01, 0x33],
-    )
-    .expect(&rt, "memory");
+    );
 }
 
 #[test]
@@ -514,10 +531,9 @@ fn interrupts_of_activities(rt: HostRuntime) {
         alloc,
         word,
         &[0x01, 0x00, 0x19, 0x03, 0x32, 0x01, 0x00],
-    )
-    .expect(&rt, "memory");
+    );
     let word = SessionWord::ActivityInterruptAck;
-    second(&rt, alloc, word, &[0x01, 0x00, 0x1A, 0x00]).expect(&rt, "memory");
+    second(&rt, alloc, word, &[0x01, 0x00, 0x1A, 0x00]);
 }
 
 #[test]
@@ -529,37 +545,53 @@ fn discards_of_activities(rt: HostRuntime) {
         alloc,
         word,
         &[0x01, 0x00, 0x39, 0x03, 0x32, 0x01, 0x00],
-    )
-    .expect(&rt, "memory");
+    );
     let word = SessionWord::ActivityDiscardAck;
-    second(&rt, alloc, word, &[0x01, 0x00, 0x3A, 0x00]).expect(&rt, "memory");
+    second(&rt, alloc, word, &[0x01, 0x00, 0x3A, 0x00]);
 }
 
 /// A mark with the long form of a length, an unknown parameter twice, and the sync type item.
 #[test]
 fn a_mark_in_the_long_form(rt: HostRuntime) {
     let spdus = read_spdus(rt.alloc(), LONG_MARK).expect(&rt, "units");
-    assert!(rt; matches!(spdus.get(1), Some(SessionWord::Mark { number: 5 })));
+    let is_mark = matches!(spdus.get(1), Some(SessionWord::Mark { number: 5 }));
+    drop(spdus);
+    assert!(rt; is_mark);
 }
 
 /// The fault of octets.
 fn fault_of(alloc: Global, octets: &[u8]) -> Option<SFault> {
-    read_spdus(alloc, octets).err()
+    match read_spdus(alloc, octets) {
+        Ok(words) => {
+            drop(words);
+            None
+        }
+        Err(fault) => Some(fault),
+    }
 }
 
 /// Extended user data of one octet, where User Data would do, by hand.
 #[test]
 fn short_data_in_the_long_parameter(rt: HostRuntime) {
-    assert!(rt; fault_of(rt.alloc(), &[0x0D, 0x03, 0xC2, 0x01, 0x09]) == None);
+    assert!(rt; fault_of(rt.alloc(), &[0x0D, 0x03, 0xC2, 0x01, 0x09]).is_none());
+}
+
+/// Whether this is the fault of octets.
+fn is_faulty(alloc: Global, octets: &[u8], place: usize, kind: Kind) -> bool {
+    match fault_of(alloc, octets) {
+        Some(
+            SFault::At {
+                place: at,
+                kind: of,
+            },
+        ) => at == place && of == kind,
+        _ => false,
+    }
 }
 
 #[test]
 fn faults(rt: HostRuntime) {
     for (octets, place, kind) in &FAULTY {
-        let fault = SFault::At {
-            place: *place,
-            kind: *kind,
-        };
-        assert!(rt; fault_of(rt.alloc(), octets) == Some(fault));
+        assert!(rt; is_faulty(rt.alloc(), octets, *place, *kind));
     }
 }

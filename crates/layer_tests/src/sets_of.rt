@@ -4,9 +4,11 @@
 //! the identifier's, then those of the length and the contents. A place is counted in its row.
 
 use crate::tables::{Row, table};
-use ber_codec::{Node, ReadFault, TypeId, TypeTable, Val, ber_octets, ber_read, der_read, fits};
+use ber_codec::{
+    Node, ReadFault, TypeId, TypeTable, Val, Vals, ber_octets, ber_read, der_read, fits, in_order,
+};
 use osi_base::{Kind, Octets};
-use packed_codec::{PackedFault, packed_len, packed_read, packed_write};
+use packed_codec::{PackedFault, Read, packed_len, packed_read, packed_write};
 use std::alloc::Global;
 use std::process::Abort;
 use std::test::*;
@@ -136,7 +138,9 @@ fn is_rewritten(
     let whole = read.used == octets.len() && fits(table, TypeId(of), &read.value);
     let back = spelling(rt, alloc, table, of, &read.value);
     drop(read);
-    whole && back.as_slice() == written
+    let is_so = back.as_slice() == written;
+    drop(back);
+    whole && is_so
 }
 
 /// The fault of octets in DER.
@@ -172,6 +176,7 @@ fn any_order_is_read_and_rising_order_written(rt: HostRuntime) {
     for row in &ROWS {
         assert!(rt; is_so(&rt, rt.alloc(), &table, row));
     }
+    drop(table);
 }
 
 fn numbers(rt: &impl Abort, alloc: Global, all: &[i64]) -> Val {
@@ -212,17 +217,32 @@ fn only_rising_items_fit(rt: HostRuntime) {
     for (items, wanted) in &FITTING {
         assert!(rt; is_fitting(&rt, alloc, &table, items) == *wanted);
     }
+    drop(table);
 }
 
-/// The fault of octets in the packed syntax.
-fn packed_fault(
+/// How many octets of numbers are read in the packed syntax.
+fn packed_used(
     rt: &impl Abort,
     alloc: Global,
     table: &TypeTable,
     octets: &[u8],
-) -> Option<PackedFault> {
+) -> Result<usize, PackedFault> {
     assert!(rt; table.has(TypeId(NUMBERS)));
-    packed_read(alloc, table, TypeId(NUMBERS), octets).err()
+    packed_read(alloc, table, TypeId(NUMBERS), octets).map(octets_of)
+}
+
+/// How many octets a value was read from.
+fn octets_of(read: Read) -> usize {
+    let used = read.used;
+    drop(read);
+    used
+}
+
+/// Whether a value is written as these 9 octets, of which the last was there.
+fn is_packed(rt: &impl Abort, table: &TypeTable, value: &Val, octets: &[u8]) -> bool {
+    assert!(rt; packed_len(table, TypeId(NUMBERS), value) == 8);
+    let mut room = [0xAA; 9];
+    packed_write(table, TypeId(NUMBERS), value, &mut room) == 8 && room.as_slice() == octets
 }
 
 /// A count of 2 in four octets, and each number behind its size; the octet behind them stays.
@@ -231,28 +251,38 @@ fn the_packed_syntax_has_them_rising(rt: HostRuntime) {
     let alloc = rt.alloc();
     let table = table(&rt, alloc, &TABLE);
     let value = numbers(&rt, alloc, &[1, 3]);
-    let mut room = [0xAA; 9];
-    assert!(rt; packed_len(&table, TypeId(NUMBERS), &value) == 8);
-    assert!(rt; packed_write(&table, TypeId(NUMBERS), &value, &mut room) == 8);
+    let is_so = is_packed(&rt, &table, &value, &[0, 0, 0, 2, 1, 1, 1, 3, 0xAA]);
     drop(value);
-    assert!(rt; room == [0, 0, 0, 2, 1, 1, 1, 3, 0xAA]);
+    drop(table);
+    assert!(rt; is_so);
 }
 
-/// The same octets, and those with 3 in front of 1: at fault is the 1, behind 6 octets.
+/// Whether octets are read so in the packed syntax.
+fn is_unpacked(
+    rt: &impl Abort,
+    alloc: Global,
+    table: &TypeTable,
+    octets: &[u8],
+    wanted: Result<usize, PackedFault>,
+) -> bool {
+    packed_used(rt, alloc, table, octets) == wanted
+}
+
+/// At fault is the 1, behind 6 octets.
+const FALLING: PackedFault = PackedFault::NotSpelled {
+    place: 6,
+    kind: Kind::Content,
+};
+
+/// The same octets, and those with 3 in front of 1.
 #[test]
 fn the_packed_syntax_is_read_rising(rt: HostRuntime) {
     let alloc = rt.alloc();
     let table = table(&rt, alloc, &TABLE);
-    assert!(rt; table.has(TypeId(NUMBERS)));
-    let octets = [0, 0, 0, 2, 1, 1, 1, 3, 0xAA];
-    let read = packed_read(alloc, &table, TypeId(NUMBERS), &octets).expect(&rt, "a value");
-    assert!(rt; read.used == 8);
-    drop(read);
-    let falling = PackedFault::NotSpelled {
-        place: 6,
-        kind: Kind::Content,
-    };
-    assert!(rt; packed_fault(&rt, alloc, &table, &[0, 0, 0, 2, 1, 3, 1, 1]) == Some(falling));
+    let rising = is_unpacked(&rt, alloc, &table, &[0, 0, 0, 2, 1, 1, 1, 3, 0xAA], Ok(8));
+    let falling = is_unpacked(&rt, alloc, &table, &[0, 0, 0, 2, 1, 3, 1, 1], Err(FALLING));
+    drop(table);
+    assert!(rt; rising && falling);
 }
 
 /// A string of 299 octets 5 and another.
@@ -268,9 +298,10 @@ fn long_string(rt: &impl Abort, alloc: Global, last: u8) -> Val {
 fn rewritten(rt: &impl Abort, alloc: Global, table: &TypeTable, octets: &[u8]) -> Octets {
     assert!(rt; table.has(TypeId(TEXTS)));
     let read = ber_read(alloc, table, TypeId(TEXTS), octets).expect(rt, "a value");
-    assert!(rt; fits(table, TypeId(TEXTS), &read.value));
+    let is_fitting = fits(table, TypeId(TEXTS), &read.value);
     let written = spelling(rt, alloc, table, TEXTS, &read.value);
     drop(read);
+    assert!(rt; is_fitting);
     written
 }
 
@@ -284,18 +315,65 @@ fn long_strings(rt: &impl Abort, alloc: Global) -> Val {
     }
 }
 
+/// The octets of these two strings, which fit, with a last octet of 6 in place of 9.
+fn with_last_lowered(rt: &impl Abort, alloc: Global, table: &TypeTable) -> Vec<u8> {
+    let value = long_strings(rt, alloc);
+    let is_fitting = fits(table, TypeId(TEXTS), &value);
+    let mut written = spelling(rt, alloc, table, TEXTS, &value).into_vec();
+    drop(value);
+    let last = written.pop();
+    assert!(rt; is_fitting && last == Some(9));
+    written.push(6).expect(rt, "memory");
+    written
+}
+
 /// Items of many octets, which differ late, in the octets of a long string: the last of 300, which
 /// is 7 and 9, and then 7 and 6, so that the second string is written in front.
 #[test]
 fn long_items_are_compared_to_their_ends(rt: HostRuntime) {
+    let table = table(&rt, rt.alloc(), &TABLE);
+    let written = with_last_lowered(&rt, rt.alloc(), &table);
+    let back = rewritten(&rt, rt.alloc(), &table, written.as_slice());
+    drop(written);
+    drop(table);
+    let last = back.as_slice().last().copied();
+    drop(back);
+    assert!(rt; last == Some(7));
+}
+
+/// A value of a type in any form, of these octets.
+fn any(rt: &impl Abort, alloc: Global, octets: &[u8]) -> Val {
+    Val {
+        node: Node::Any(Octets::from_slice(alloc, octets).expect(rt, "memory")),
+    }
+}
+
+/// How many octets an item of a type in any form has.
+fn any_len(item: Option<&Val>) -> Option<usize> {
+    match &item?.node {
+        Node::Any(octets) => Some(octets.len()),
+        _ => None,
+    }
+}
+
+/// The octets 5 and 0, and an octet 5.
+fn two_items(rt: &impl Abort, alloc: Global) -> Vals {
+    let mut items = Vec::new(alloc);
+    items.push(any(rt, alloc, &[5, 0])).expect(rt, "memory");
+    items.push(any(rt, alloc, &[5])).expect(rt, "memory");
+    items
+}
+
+/// An octet 5 that stands behind the octets 5 and 0, which begin with it: the shorter rises first.
+/// Of whole values none begins another, so that these are none.
+#[test]
+fn what_begins_another_stands_in_front_of_it(rt: HostRuntime) {
     let alloc = rt.alloc();
-    let table = table(&rt, alloc, &TABLE);
-    let value = long_strings(&rt, alloc);
-    assert!(rt; fits(&table, TypeId(TEXTS), &value));
-    let mut written = spelling(&rt, alloc, &table, TEXTS, &value).into_vec();
-    drop(value);
-    assert!(rt; written.pop() == Some(9));
-    written.push(6).expect(&rt, "memory");
-    let back = rewritten(&rt, alloc, &table, written.as_slice());
-    assert!(rt; back.as_slice().last().copied() == Some(7));
+    let table = table(&rt, alloc, &[Row::Any]);
+    let items = two_items(&rt, alloc);
+    let risen = in_order(alloc, &table, TypeId(0), items).expect(&rt, "memory");
+    drop(table);
+    let are_risen = any_len(risen.first()) == Some(1) && any_len(risen.last()) == Some(2);
+    drop(risen);
+    assert!(rt; are_risen);
 }

@@ -31,29 +31,46 @@ pub(crate) enum Row {
     Tagged(u32, bool, u32),
 }
 
+/// This part.
+fn part(
+    rt: &impl Abort,
+    alloc: Global,
+    name: &str,
+    inner: u32,
+    optional: bool,
+    default: Option<i64>,
+) -> Part {
+    Part {
+        name: Name::from_str(alloc, name).expect(rt, "memory"),
+        inner: TypeId(inner),
+        optional,
+        default,
+    }
+}
+
 /// These parts.
 pub(crate) fn parts(rt: &impl Abort, alloc: Global, members: &[Member]) -> Parts {
     let mut parts = Parts::new(alloc);
     for (name, inner, optional, default) in members {
-        let part = Part {
-            name: Name::from_str(alloc, name).expect(rt, "memory"),
-            inner: TypeId(*inner),
-            optional: *optional,
-            default: *default,
-        };
+        let part = part(rt, alloc, name, *inner, *optional, *default);
         parts.push(part).expect(rt, "memory");
     }
     parts
 }
 
-/// The items of an ENUMERATED with one.
-fn items(rt: &impl Abort, alloc: Global, name: &str, number: i64) -> Named {
-    let item = Item {
+fn item(rt: &impl Abort, alloc: Global, name: &str, number: i64) -> Item {
+    Item {
         name: Name::from_str(alloc, name).expect(rt, "memory"),
         number,
-    };
+    }
+}
+
+/// The items of an ENUMERATED with one.
+fn items(rt: &impl Abort, alloc: Global, name: &str, number: i64) -> Named {
     let mut items = Named::new(alloc);
-    items.push(item).expect(rt, "memory");
+    items
+        .push(item(rt, alloc, name, number))
+        .expect(rt, "memory");
     items
 }
 

@@ -6,7 +6,8 @@
 
 use notation_tokens::cut_text;
 use operation_notation::{NotationFault, NotationKind, lex, parse_module};
-use std::alloc::{AllocError, Global};
+use std::alloc::Global;
+use std::process::Abort;
 use std::test::*;
 
 /// A module with five assignments.
@@ -105,7 +106,7 @@ type Row = (&'static [u8], u32, u32, NotationKind);
 /// Texts with their first faults. A place is that of the first octet of what can't stand there, and
 /// each label says how many octets of its line stand before it: its column is one more. A line ends
 /// at its line feed, and a text that ends too early is at fault behind its last octet.
-const FAULTS: [Row; 28] = [
+const FAULTS: [Row; 29] = [
     // REAL, a word that isn't supported, behind 24 octets of line 2
     (
         b"M {2 999 7 2} DEFINITIONS ::= BEGIN\na OPERATION ::= {RESULT REAL}\nEND\n",
@@ -253,6 +254,8 @@ const FAULTS: [Row; 28] = [
         4,
         NotationKind::BadCharacter,
     ),
+    // behind a comment with a letter of two octets, an octet that begins no token, behind 11 octets
+    (b"M -- \xC3\xA9 -- $", 1, 12, NotationKind::BadCharacter),
     // a token behind the module's END, behind 36 octets
     (
         b"M {2 999} DEFINITIONS ::= BEGIN END END",
@@ -269,39 +272,34 @@ const FAULTS: [Row; 28] = [
     ),
 ];
 
-/// What a text is as a module, printed.
-fn shown(alloc: Global, text: &[u8]) -> Result<String, AllocError> {
-    format!(in alloc; "{:?}", parse_module(alloc, text))
+/// Whether a text is a module that prints so.
+fn is_shown(rt: &impl Abort, alloc: Global, text: &[u8], module: &str) -> bool {
+    let read = parse_module(alloc, text);
+    let found = format!(in alloc; "{read:?}").expect(rt, "memory");
+    drop(read);
+    let wanted = format!(in alloc; "Ok({module})").expect(rt, "memory");
+    found.as_str() == wanted.as_str()
 }
 
 #[test]
-fn calc_has_its_five_assignments(rt: HostRuntime) -> Result<(), Fail> {
-    let found = shown(rt.alloc(), CALC)?;
-    let wanted = format!(in rt.alloc(); "Ok({CALC_SHOWN})")?;
-    assert!(rt; found.as_str() == wanted.as_str());
-    Ok(())
+fn calc_has_its_five_assignments(rt: HostRuntime) {
+    assert!(rt; is_shown(&rt, rt.alloc(), CALC, CALC_SHOWN));
 }
 
 #[test]
-fn a_type_has_its_tag_size_and_parts(rt: HostRuntime) -> Result<(), Fail> {
-    let found = shown(rt.alloc(), PARTS)?;
-    let wanted = format!(in rt.alloc(); "Ok({PARTS_SHOWN})")?;
-    assert!(rt; found.as_str() == wanted.as_str());
-    Ok(())
+fn a_type_has_its_tag_size_and_parts(rt: HostRuntime) {
+    assert!(rt; is_shown(&rt, rt.alloc(), PARTS, PARTS_SHOWN));
 }
 
 #[test]
-fn parts_have_their_defaults(rt: HostRuntime) -> Result<(), Fail> {
-    let found = shown(rt.alloc(), DEFAULTS)?;
-    let wanted = format!(in rt.alloc(); "Ok({DEFAULTS_SHOWN})")?;
-    assert!(rt; found.as_str() == wanted.as_str());
-    Ok(())
+fn parts_have_their_defaults(rt: HostRuntime) {
+    assert!(rt; is_shown(&rt, rt.alloc(), DEFAULTS, DEFAULTS_SHOWN));
 }
 
 /// Whether a module's text has this first fault.
 fn is_refused(alloc: Global, text: &[u8], line: u32, column: u32, kind: NotationKind) -> bool {
     let fault = NotationFault::At { line, column, kind };
-    matches!(parse_module(alloc, text), Err(found) if found == fault)
+    parse_module(alloc, text).err() == Some(fault)
 }
 
 #[test]
@@ -316,9 +314,10 @@ fn first_faults(rt: HostRuntime) {
 
 /// Octets are counted from 0, lines and columns from 1: the line feed is the octet 9.
 #[test]
-fn each_token_has_its_place(rt: HostRuntime) -> Result<(), Fail> {
+fn each_token_has_its_place(rt: HostRuntime) {
     let tokens = lex(rt.alloc(), b"M -- x --\n {-5 a-b ::=");
-    let found = format!(in rt.alloc(); "{tokens:?}")?;
+    let found = format!(in rt.alloc(); "{tokens:?}").expect(&rt, "memory");
+    drop(tokens);
     let wanted = "Ok(ListOf { items: [\
         Token { kind: Word, from: 0, to: 1, line: 1, column: 1 }, \
         Token { kind: Sign, from: 11, to: 12, line: 2, column: 2 }, \
@@ -326,91 +325,106 @@ fn each_token_has_its_place(rt: HostRuntime) -> Result<(), Fail> {
         Token { kind: Word, from: 15, to: 18, line: 2, column: 6 }, \
         Token { kind: Sign, from: 19, to: 22, line: 2, column: 10 }] })";
     assert!(rt; found.as_str() == wanted);
-    Ok(())
 }
 
 /// The octet is the fourth, in column 2 of line 2.
 #[test]
-fn cutting_stops_at_an_octet_that_begins_nothing(rt: HostRuntime) -> Result<(), Fail> {
-    let found = format!(in rt.alloc(); "{:?}", cut_text(rt.alloc(), b"M\n $ M"))?;
+fn cutting_stops_at_an_octet_that_begins_nothing(rt: HostRuntime) {
+    let cut = cut_text(rt.alloc(), b"M\n $ M");
+    let found = format!(in rt.alloc(); "{cut:?}").expect(&rt, "memory");
+    drop(cut);
     let wanted = "Ok(Lexed { tokens: ListOf { items: [\
         Token { kind: Word, from: 0, to: 1, line: 1, column: 1 }] }, \
         stop: Some(BadCharacter), place: Place { line: 2, column: 2 } })";
     assert!(rt; found.as_str() == wanted);
-    Ok(())
 }
 
 /// `T ::= ` and so many times `SEQUENCE OF`, and these tokens.
-fn nested(alloc: Global, times: usize, tokens: &[u8]) -> Result<Vec<u8>, AllocError> {
-    let mut text = Vec::from_slice(alloc, b"M {2 999} DEFINITIONS ::= BEGIN T ::= ")?;
+fn nested(rt: &impl Abort, alloc: Global, times: usize, tokens: &[u8]) -> Vec<u8> {
+    let front = b"M {2 999} DEFINITIONS ::= BEGIN T ::= ";
+    let mut text = Vec::from_slice(alloc, front).expect(rt, "memory");
     for _ in 0..times {
-        text.extend_from_slice(b"SEQUENCE OF ")?;
+        text.extend_from_slice(b"SEQUENCE OF ").expect(rt, "memory");
     }
-    text.extend_from_slice(tokens)?;
-    text.extend_from_slice(b" END")?;
-    Ok(text)
+    text.extend_from_slice(tokens).expect(rt, "memory");
+    text.extend_from_slice(b" END").expect(rt, "memory");
+    text
 }
 
-/// The first type stands in column 39, and each `SEQUENCE OF` in front of the last has 12 octets.
-#[test]
-fn types_nest_256_deep(rt: HostRuntime) -> Result<(), Fail> {
-    let most = nested(rt.alloc(), 255, b"NULL")?;
-    assert!(rt; parse_module(rt.alloc(), &most).is_ok());
-    let column = 39 + 256 * 12;
-    let types: [&'static [u8]; 6] = [
-        b"NULL",
-        b"U",
-        b"[1] NULL",
-        b"CHOICE {",
-        b"SET {}",
-        b"SET OF",
-    ];
-    for tokens in types {
-        let deeper = nested(rt.alloc(), 256, tokens)?;
-        assert!(rt; is_refused(rt.alloc(), &deeper, 1, column, NotationKind::Unsupported));
-    }
-    Ok(())
+/// Whether a text is a module.
+fn is_module(alloc: Global, text: &[u8]) -> bool {
+    let read = parse_module(alloc, text);
+    let is_read = read.is_ok();
+    drop(read);
+    is_read
 }
+
+/// Whether these tokens behind 256 `SEQUENCE OF` have this fault: the first type stands in column
+/// 39, and each `SEQUENCE OF` in front of the last has 12 octets.
+fn is_refused_deep(rt: &impl Abort, alloc: Global, tokens: &[u8], kind: NotationKind) -> bool {
+    let deeper = nested(rt, alloc, 256, tokens);
+    is_refused(alloc, &deeper, 1, 39 + 256 * 12, kind)
+}
+
+const TYPES: [&'static [u8]; 6] = [
+    b"NULL",
+    b"U",
+    b"[1] NULL",
+    b"CHOICE {",
+    b"SET {}",
+    b"SET OF",
+];
+
+#[test]
+fn types_nest_256_deep(rt: HostRuntime) {
+    let most = nested(&rt, rt.alloc(), 255, b"NULL");
+    assert!(rt; is_module(rt.alloc(), &most));
+    for tokens in &TYPES {
+        assert!(rt; is_refused_deep(&rt, rt.alloc(), tokens, NotationKind::Unsupported));
+    }
+}
+
+const NO_TYPES: [&'static [u8]; 4] = [b"}", b"u", b"7", b"OPTIONAL"];
 
 /// At the same place stands what begins no type, or one that isn't supported at any depth.
 #[test]
-fn no_type_begins_too_deep(rt: HostRuntime) -> Result<(), Fail> {
-    let column = 39 + 256 * 12;
-    let others: [&'static [u8]; 4] = [b"}", b"u", b"7", b"OPTIONAL"];
-    for tokens in others {
-        let deeper = nested(rt.alloc(), 256, tokens)?;
-        assert!(rt;
-            is_refused(
-                rt.alloc(),
-                &deeper,
-                1,
-                column,
-                NotationKind::UnexpectedToken
-            )
-        );
+fn no_type_begins_too_deep(rt: HostRuntime) {
+    for tokens in &NO_TYPES {
+        assert!(rt; is_refused_deep(&rt, rt.alloc(), tokens, NotationKind::UnexpectedToken));
     }
-    let real = nested(rt.alloc(), 256, b"REAL")?;
-    assert!(rt; is_refused(rt.alloc(), &real, 1, column, NotationKind::Unsupported));
-    Ok(())
+    assert!(rt; is_refused_deep(&rt, rt.alloc(), b"REAL", NotationKind::Unsupported));
+}
+
+/// This octet so many times.
+fn repeated(rt: &impl Abort, alloc: Global, octet: u8, count: usize) -> Vec<u8> {
+    vec![in alloc; octet; count].expect(rt, "memory")
+}
+
+/// Whether a text is cut into tokens.
+fn is_cut(alloc: Global, text: &[u8]) -> bool {
+    let tokens = lex(alloc, text);
+    let is_read = tokens.is_ok();
+    drop(tokens);
+    is_read
 }
 
 #[test]
-fn texts_have_at_most_1_048_576_octets(rt: HostRuntime) -> Result<(), Fail> {
-    let spaces = vec![in rt.alloc(); 32_u8; 1_048_577]?;
-    assert!(rt; is_refused(rt.alloc(), &spaces, 1, 1, NotationKind::TextTooLong));
-    assert!(rt; lex(rt.alloc(), &spaces[1..]).is_ok());
-    Ok(())
+fn texts_have_at_most_1_048_576_octets(rt: HostRuntime) {
+    let more = repeated(&rt, rt.alloc(), b' ', 1_048_577);
+    assert!(rt; is_refused(rt.alloc(), &more, 1, 1, NotationKind::TextTooLong));
+    let most = repeated(&rt, rt.alloc(), b' ', 1_048_576);
+    assert!(rt; is_cut(rt.alloc(), &most));
 }
 
 #[test]
-fn texts_have_at_most_65_536_tokens(rt: HostRuntime) -> Result<(), Fail> {
-    let commas = vec![in rt.alloc(); 44_u8; 65_537]?;
+fn texts_have_at_most_65_536_tokens(rt: HostRuntime) {
+    let more = repeated(&rt, rt.alloc(), b',', 65_537);
     let fault = NotationFault::At {
         line: 1,
         column: 65_537,
         kind: NotationKind::TooManyTokens,
     };
-    assert!(rt; matches!(lex(rt.alloc(), &commas), Err(found) if found == fault));
-    assert!(rt; lex(rt.alloc(), &commas[1..]).is_ok());
-    Ok(())
+    assert!(rt; lex(rt.alloc(), &more).err() == Some(fault));
+    let most = repeated(&rt, rt.alloc(), b',', 65_536);
+    assert!(rt; is_cut(rt.alloc(), &most));
 }

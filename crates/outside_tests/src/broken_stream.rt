@@ -2,13 +2,14 @@
 
 ghost use Rattle.std.specs.Prelude.{◌≤◌, IfOk};
 
-use osi_base::{Line, LineFault, Name, TcpLine};
+use crate::calls::{Step, go};
+use osi_base::{LineFault, TcpLine};
 use std::cell::Cell;
 use std::io;
 use std::io::{Error, ErrorKind, Read, Write};
 use std::net::{Net, OpenListener, OpenStream, SocketAddr};
 use std::os::fd::{AsRawFd, RawFd};
-use std::test::Fail;
+use std::test::*;
 
 /// Which call of the connection is the next: the first is done in part, the second is interrupted,
 /// the third is done, and the fourth and all later ones fail.
@@ -101,38 +102,52 @@ impl Net for BrokenNet {
     }
 }
 
-#[test]
-fn a_part_of_a_write_is_told_as_a_part(rt: HostRuntime) -> Result<(), Fail> {
-    let alloc = rt.alloc();
-    let host = Name::from_str(alloc, "127.0.0.1")?;
-    let mut line = TcpLine::new(BrokenNet);
-    assert!(rt; line.open(alloc, &host, 102) == Ok(()));
-    assert!(rt; line.write(b"abc") == Ok(1));
-    assert!(rt; line.write(b"bc") == Ok(2));
-    assert!(rt; line.faults == 0);
-    assert!(rt; line.write(b"d") == Err(LineFault::Failed));
-    assert!(rt; line.faults == 1);
-    Ok(())
-}
+/// The calls before the fault.
+const WRITTEN: [Step; 3] = [
+    Step::Open("127.0.0.1", Ok(())),
+    Step::Write("abc", Ok(1)),
+    Step::Write("bc", Ok(2)),
+];
+
+const NOT_WRITTEN: [Step; 1] = [Step::Write("d", Err(LineFault::Failed))];
 
 #[test]
-fn a_part_of_a_read_is_told_as_a_part(rt: HostRuntime) -> Result<(), Fail> {
-    let alloc = rt.alloc();
-    let host = Name::from_str(alloc, "127.0.0.1")?;
+fn a_part_of_a_write_is_told_as_a_part(rt: HostRuntime) {
     let mut line = TcpLine::new(BrokenNet);
-    let mut room = [0; 4];
-    assert!(rt; line.open(alloc, &host, 102) == Ok(()));
-    assert!(rt; line.read(&mut room) == Ok(1));
-    assert!(rt; line.read(&mut room) == Ok(4));
-    assert!(rt; line.read(&mut room) == Err(LineFault::Failed));
-    assert!(rt; line.octets_read == 5);
-    assert!(rt; line.faults == 1);
-    Ok(())
+    go(&rt, rt.alloc(), &mut line, "written", &WRITTEN);
+    let before = line.faults;
+    go(&rt, rt.alloc(), &mut line, "not written", &NOT_WRITTEN);
+    let after = line.faults;
+    drop(line);
+    assert!(rt; before == 0);
+    assert!(rt; after == 1);
 }
+
+const READ: [Step; 4] = [
+    Step::Open("127.0.0.1", Ok(())),
+    Step::ReadFour(Ok(1)),
+    Step::ReadFour(Ok(4)),
+    Step::ReadFour(Err(LineFault::Failed)),
+];
+
+#[test]
+fn a_part_of_a_read_is_told_as_a_part(rt: HostRuntime) {
+    let mut line = TcpLine::new(BrokenNet);
+    go(&rt, rt.alloc(), &mut line, "read", &READ);
+    let octets_read = line.octets_read;
+    let faults = line.faults;
+    drop(line);
+    assert!(rt; octets_read == 5);
+    assert!(rt; faults == 1);
+}
+
+const NO_CALLER: [Step; 1] = [Step::Accept(102, Err(LineFault::Failed))];
 
 #[test]
 fn no_one_who_calls_is_a_fault(rt: HostRuntime) {
     let mut line = TcpLine::new(BrokenNet);
-    assert!(rt; line.accept(rt.alloc(), 102) == Err(LineFault::Failed));
-    assert!(rt; line.faults == 1);
+    go(&rt, rt.alloc(), &mut line, "no one calls", &NO_CALLER);
+    let faults = line.faults;
+    drop(line);
+    assert!(rt; faults == 1);
 }

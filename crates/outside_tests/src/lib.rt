@@ -7,10 +7,10 @@
 #[cfg(test)]
 mod broken_stream;
 #[cfg(test)]
+mod calls;
+#[cfg(test)]
 mod lines;
 #[cfg(test)]
 mod memory;
-#[cfg(test)]
-mod received;
 #[cfg(test)]
 mod tcp;

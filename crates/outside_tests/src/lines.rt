@@ -1,85 +1,121 @@
 //! Lines in memory.
 
-use crate::received::received;
-use osi_base::{Failed, FailingCalls, Line, LineFault, MemLine, Name, NoMemory, Octets, SureLine};
+use crate::calls::Step::{Accept, Gives, Open, Read, Shut, Write};
+use crate::calls::{Step, failing, go};
+use osi_base::{Failed, LineFault, MemLine, Octets, SureLine};
 use std::alloc::Global;
 use std::collections::VecDeque;
-use std::test::Fail;
+use std::process::Abort;
+use std::test::*;
 
 /// What two peers say.
-fn peers(alloc: Global) -> Result<VecDeque<Octets>, NoMemory> {
+fn peers(rt: &impl Abort, alloc: Global) -> VecDeque<Octets> {
     let mut peers = VecDeque::new(alloc);
-    peers.push_back(Octets::from_slice(alloc, b"abc")?)?;
-    peers.push_back(Octets::from_slice(alloc, b"de")?)?;
-    Ok(peers)
+    for said in ["abc", "de"] {
+        let said = Octets::from_slice(alloc, said.as_bytes()).expect(rt, "memory");
+        peers.push_back(said).expect(rt, "memory");
+    }
+    peers
 }
 
 /// A line to them of which the calls with these numbers fail, and each other takes two octets at
 /// most.
-fn mem_line(alloc: Global, numbers: Vec<u64>) -> Result<MemLine, NoMemory> {
-    Ok(MemLine::new(alloc, peers(alloc)?, 2, FailingCalls::new(numbers)))
+fn mem_line(rt: &impl Abort, alloc: Global, numbers: &[u64]) -> MemLine {
+    MemLine::new(alloc, peers(rt, alloc), 2, failing(rt, alloc, numbers))
 }
 
-#[test]
-fn a_line_in_memory_gives_what_its_peer_says(rt: HostRuntime) -> Result<(), Fail> {
-    let alloc = rt.alloc();
-    let mut line = mem_line(alloc, Vec::new(alloc))?;
-    line.accept(alloc, 102)?;
-    assert!(rt; received(alloc, &mut line)?.as_slice() == b"ab".as_slice());
-    assert!(rt; received(alloc, &mut line)?.as_slice() == b"c".as_slice());
-    assert!(rt; received(alloc, &mut line)?.is_empty());
-    Ok(())
-}
+const ONE_PEER: [Step; 4] = [Accept(102, Ok(())), Gives("ab"), Gives("c"), Gives("")];
 
 #[test]
-fn the_next_connection_is_to_the_next_peer(rt: HostRuntime) -> Result<(), Fail> {
-    let alloc = rt.alloc();
-    let mut line = mem_line(alloc, Vec::new(alloc))?;
-    line.accept(alloc, 102)?;
-    line.accept(alloc, 102)?;
-    assert!(rt; received(alloc, &mut line)?.as_slice() == b"de".as_slice());
-    assert!(rt; line.octets_read == 2);
-    Ok(())
+fn a_line_in_memory_gives_what_its_peer_says(rt: HostRuntime) {
+    let mut line = mem_line(&rt, rt.alloc(), &[]);
+    go(&rt, rt.alloc(), &mut line, "one peer", &ONE_PEER);
+    drop(line);
 }
 
-#[test]
-fn a_line_in_memory_fails_where_it_is_to(rt: HostRuntime) -> Result<(), Fail> {
-    let alloc = rt.alloc();
-    let mut line = mem_line(alloc, vec![in alloc; 0, 2, 4]?)?;
-    let mut room = [0; 8];
-    assert!(rt; line.accept(alloc, 102) == Err(LineFault::Failed));
-    assert!(rt; line.accept(alloc, 102) == Ok(()));
-    assert!(rt; line.read(&mut room) == Err(LineFault::Failed));
-    assert!(rt; line.read(&mut room) == Ok(2));
-    assert!(rt; line.write(b"xyz") == Err(LineFault::Failed));
-    assert!(rt; line.write(b"xyz") == Ok(2));
-    assert!(rt; line.shut() == Ok(()));
-    assert!(rt; line.failing.faults == 3);
-    Ok(())
-}
+const NEXT_PEER: [Step; 3] = [Accept(102, Ok(())), Accept(102, Ok(())), Gives("de")];
+
+const NO_PEER: [Step; 2] = [Accept(102, Ok(())), Gives("")];
 
 #[test]
-fn a_shut_that_is_to_fail_does(rt: HostRuntime) -> Result<(), Fail> {
-    let alloc = rt.alloc();
-    let mut line = mem_line(alloc, vec![in alloc; 1]?)?;
-    assert!(rt; line.accept(alloc, 102) == Ok(()));
-    assert!(rt; line.shut() == Err(Failed));
-    assert!(rt; line.shut() == Ok(()));
-    assert!(rt; line.failing.faults == 1);
-    Ok(())
+fn the_next_connection_is_to_the_next_peer(rt: HostRuntime) {
+    let mut line = mem_line(&rt, rt.alloc(), &[]);
+    go(&rt, rt.alloc(), &mut line, "the next peer", &NEXT_PEER);
+    let octets_read = line.octets_read;
+    go(
+        &rt,
+        rt.alloc(),
+        &mut line,
+        "there is no third peer",
+        &NO_PEER,
+    );
+    drop(line);
+    assert!(rt; octets_read == 2);
 }
 
+const FAILING: [Step; 7] = [
+    Accept(102, Err(LineFault::Failed)),
+    Accept(102, Ok(())),
+    Read(Err(LineFault::Failed)),
+    Read(Ok(2)),
+    Write("xyz", Err(LineFault::Failed)),
+    Write("xyz", Ok(2)),
+    Shut(Ok(())),
+];
+
 #[test]
-fn a_line_that_never_fails_takes_all_and_gives_the_end(rt: HostRuntime) -> Result<(), Fail> {
-    let alloc = rt.alloc();
-    let host = Name::from_str(alloc, "localhost")?;
-    let mut line = SureLine::new(alloc);
-    let mut room = [0; 8];
-    assert!(rt; line.open(alloc, &host, 102) == Ok(()));
-    assert!(rt; line.write(b"abc") == Ok(3));
-    assert!(rt; line.read(&mut room) == Ok(0));
-    assert!(rt; line.shut() == Ok(()));
-    assert!(rt; line.shut() == Ok(()));
-    assert!(rt; line.accept(alloc, 102) == Ok(()));
-    Ok(())
+fn a_line_in_memory_fails_where_it_is_to(rt: HostRuntime) {
+    let mut line = mem_line(&rt, rt.alloc(), &[0, 2, 4]);
+    go(&rt, rt.alloc(), &mut line, "three faults", &FAILING);
+    let faults = line.failing.faults;
+    drop(line);
+    assert!(rt; faults == 3);
+}
+
+const FAILING_SHUT: [Step; 3] = [Accept(102, Ok(())), Shut(Err(Failed)), Shut(Ok(()))];
+
+#[test]
+fn a_shut_that_is_to_fail_does(rt: HostRuntime) {
+    let mut line = mem_line(&rt, rt.alloc(), &[1]);
+    go(&rt, rt.alloc(), &mut line, "one fault", &FAILING_SHUT);
+    let faults = line.failing.faults;
+    drop(line);
+    assert!(rt; faults == 1);
+}
+
+const TWO_SHUTS: [Step; 4] = [
+    Write("ab", Ok(2)),
+    Shut(Ok(())),
+    Shut(Ok(())),
+    Accept(102, Ok(())),
+];
+
+/// What was written, two shuts and a call behind them, as they stand in the log.
+#[test]
+fn two_shuts_and_what_was_written_before_are_told(rt: HostRuntime) {
+    let mut line = mem_line(&rt, rt.alloc(), &[]);
+    go(&rt, rt.alloc(), &mut line, "two shuts", &TWO_SHUTS);
+    let log = format!(in rt.alloc(); "{:?}", line.log).expect(&rt, "memory");
+    drop(line);
+    let told = "CallLog { calls: [Write(Octets { items: [97, 98] }, Done), Shut(Done), \
+        Shut(Done), Accept(102, Done)]";
+    let is_told = log.as_str().starts_with(told);
+    drop(log);
+    assert!(rt; is_told);
+}
+
+const SURE: [Step; 6] = [
+    Open("localhost", Ok(())),
+    Write("abc", Ok(3)),
+    Read(Ok(0)),
+    Shut(Ok(())),
+    Shut(Ok(())),
+    Accept(102, Ok(())),
+];
+
+#[test]
+fn a_line_that_never_fails_takes_all_and_gives_the_end(rt: HostRuntime) {
+    let mut line = SureLine::new(rt.alloc());
+    go(&rt, rt.alloc(), &mut line, "no fault", &SURE);
+    drop(line);
 }

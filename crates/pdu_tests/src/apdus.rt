@@ -5,199 +5,214 @@
 //! others are those of worked dialogues. The place of a fault is counted in the octets of its row.
 
 use acse::{AcseFault, read_acse, write_acse};
-use osi_base::{Acse, Diagnostic, External, Kind, NoMemory};
+use osi_base::{Acse, Diagnostic, External, Kind};
 use std::alloc::Global;
+use std::process::Abort;
 use std::test::*;
 use worked_octets::octets_of;
 
+/// Octets of an APDU, and those that it is written as.
+type Rewritten = (&'static str, &'static str);
+
+/// Octets that are no APDU, and the place and kind of their fault.
+type Refused = (&'static str, usize, Kind);
+
+/// Whether the APDU is written as these octets.
+fn is_apdu_of(rt: &impl Abort, alloc: Global, apdu: &Acse, wanted: &[u8]) -> bool {
+    let written = write_acse(alloc, apdu).expect(rt, "memory");
+    written.as_slice() == wanted
+}
+
 /// Whether the APDU of these octets is written as those.
-fn is_written(alloc: Global, text: &str, to: &str) -> Result<bool, NoMemory> {
-    let octets = octets_of(alloc, text)?;
-    let wanted = octets_of(alloc, to)?;
-    match read_acse(alloc, octets.as_slice()) {
-        Ok(apdu) => {
-            let written = write_acse(alloc, &apdu)?;
-            Ok(written.as_slice() == wanted.as_slice())
-        }
-        Err(_) => Ok(false),
-    }
+fn is_written(rt: &impl Abort, alloc: Global, text: &str, to: &str) -> bool {
+    let octets = octets_of(alloc, text).expect(rt, "memory");
+    let wanted = octets_of(alloc, to).expect(rt, "memory");
+    let read = read_acse(alloc, octets.as_slice());
+    let so = match &read {
+        Ok(apdu) => is_apdu_of(rt, alloc, apdu, wanted.as_slice()),
+        Err(_) => false,
+    };
+    drop(read);
+    so
 }
 
 /// Whether these octets are refused so.
-fn is_refused(alloc: Global, text: &str, fault: AcseFault) -> Result<bool, NoMemory> {
-    let octets = octets_of(alloc, text)?;
-    match read_acse(alloc, octets.as_slice()) {
-        Ok(_) => Ok(false),
-        Err(found) => Ok(found == fault),
-    }
+fn is_refused(rt: &impl Abort, alloc: Global, text: &str, fault: AcseFault) -> bool {
+    let octets = octets_of(alloc, text).expect(rt, "memory");
+    read_acse(alloc, octets.as_slice()).err() == Some(fault)
 }
 
 /// Whether the APDU of each row is written as its octets.
-fn are_written(alloc: Global, rows: &[&'static str]) -> Result<bool, NoMemory> {
+fn are_written(rt: &impl Abort, alloc: Global, rows: &[&'static str]) -> bool {
     for text in rows {
-        if !is_written(alloc, text, text)? {
-            return Ok(false);
+        if !is_written(rt, alloc, text, text) {
+            return false;
         }
     }
-    Ok(true)
+    true
 }
 
 /// Whether the APDU of each row is written as the second octets.
-fn are_written_so(alloc: Global, rows: &[(&'static str, &'static str)]) -> Result<bool, NoMemory> {
+fn are_written_so(rt: &impl Abort, alloc: Global, rows: &[Rewritten]) -> bool {
     for (text, to) in rows {
-        if !is_written(alloc, text, to)? {
-            return Ok(false);
+        if !is_written(rt, alloc, text, to) {
+            return false;
         }
     }
-    Ok(true)
+    true
 }
 
 /// Whether the octets of each row are refused with its place and kind.
-fn are_refused(alloc: Global, rows: &[(&'static str, usize, Kind)]) -> Result<bool, NoMemory> {
+fn are_refused(rt: &impl Abort, alloc: Global, rows: &[Refused]) -> bool {
     for (text, place, kind) in rows {
         let fault = AcseFault::At {
             place: *place,
             kind: *kind,
         };
-        if !is_refused(alloc, text, fault)? {
-            return Ok(false);
+        if !is_refused(rt, alloc, text, fault) {
+            return false;
         }
     }
-    Ok(true)
+    true
 }
 
+/// X.227 9: AARQ (the tag 60) and AARE (61), whose result is 0 or 1
+const ASSOCIATIONS: [&'static str; 3] = [
+    // request
+    "60 08 A1 06 06 04 88 37 05 03",
+    // response
+    "61 14 A1 06 06 04 88 37 05 03 A2 03 02 01 00 A3 05 A1 03 02 01 00",
+    // refusal, by hand
+    "61 14 A1 06 06 04 88 37 05 03 A2 03 02 01 01 A3 05 A1 03 02 01 01",
+];
+
 #[test]
-fn associations_are_read_and_written(rt: HostRuntime) -> Result<(), Fail> {
-    // X.227 9: AARQ (the tag 60) and AARE (61), whose result is 0 or 1
-    let rows = [
-        // request
+fn associations_are_read_and_written(rt: HostRuntime) {
+    assert!(rt; are_written(&rt, rt.alloc(), &ASSOCIATIONS));
+}
+
+/// X.227 9: AARQ and AARE, whose user information carries RTORQ (the tag B0), RTOAC (B1) or
+/// RTORJ (B2) of X.228 9
+const RELIABLE_ASSOCIATIONS: [&'static str; 5] = [
+    // request of reliable transfer
+    "60 22 A1 06 06 04 88 37 05 04 BE 18 28 16 02 01 03 A0 11 B0 0F 80 01 01 81 01 02 82 01 01 A3 04 A0 02 05 00",
+    // response of reliable transfer
+    "61 2B A1 06 06 04 88 37 05 04 A2 03 02 01 00 A3 05 A1 03 02 01 00 BE 15 28 13 02 01 03 A0 0E B1 0C 80 01 01 81 01 02 A2 04 A0 02 05 00",
+    // refusal of reliable transfer, by hand
+    "61 22 A1 06 06 04 88 37 05 04 A2 03 02 01 01 A3 05 A1 03 02 01 01 BE 0C 28 0A 02 01 03 A0 05 B2 03 80 01 02",
+    // response of a recovery
+    "61 3E A1 06 06 04 88 37 05 04 A2 03 02 01 00 A3 05 A1 03 02 01 00 BE 28 28 26 02 01 03 A0 21 B1 1F 80 01 01 81 01 02 A2 17 A1 15 04 04 72 65 66 31 17 0D 32 36 30 31 30 31 30 30 30 30 30 30 5A",
+    // request of a recovery
+    "60 35 A1 06 06 04 88 37 05 04 BE 2B 28 29 02 01 03 A0 24 B0 22 80 01 01 81 01 02 82 01 01 A3 17 A1 15 04 04 72 65 66 31 17 0D 32 36 30 31 30 31 30 30 30 30 30 30 5A",
+];
+
+#[test]
+fn associations_of_reliable_transfer_are_read_and_written(rt: HostRuntime) {
+    assert!(rt; are_written(&rt, rt.alloc(), &RELIABLE_ASSOCIATIONS));
+}
+
+/// X.227 9: RLRQ (the tag 62), RLRE (63) and ABRT (64), the last with RTAB (B6) of X.228 9
+const ENDS: [&'static str; 5] = [
+    // release
+    "62 03 80 01 00",
+    // its answer
+    "63 03 80 01 00",
+    // abort
+    "64 03 80 01 00",
+    // abort by association control, by hand
+    "64 03 80 01 01",
+    // abort of reliable transfer, by hand
+    "64 11 80 01 00 BE 0C 28 0A 02 01 03 A0 05 B6 03 80 01 04",
+];
+
+#[test]
+fn releases_and_aborts_are_read_and_written(rt: HostRuntime) {
+    assert!(rt; are_written(&rt, rt.alloc(), &ENDS));
+}
+
+/// APDUs with fields that are passed over or absent.
+const PASSED: [Rewritten; 4] = [
+    // a request with a title in front of the context name, and with two fields behind it, of
+    // which the first has an indefinite length
+    (
+        "60 16 A2 03 06 01 2A A1 06 06 04 88 37 05 03 A6 80 06 01 2A 00 00 BD 00",
         "60 08 A1 06 06 04 88 37 05 03",
-        // response
+    ),
+    // a response with its version and, in front of the result, an empty title
+    (
+        "61 19 80 01 00 A1 06 06 04 88 37 05 03 A4 00 A2 03 02 01 00 A3 05 A1 03 02 01 00",
         "61 14 A1 06 06 04 88 37 05 03 A2 03 02 01 00 A3 05 A1 03 02 01 00",
-        // refusal, by hand
-        "61 14 A1 06 06 04 88 37 05 03 A2 03 02 01 01 A3 05 A1 03 02 01 01",
-    ];
-    assert!(rt; are_written(rt.alloc(), &rows)?);
-    Ok(())
-}
+    ),
+    // a release with empty user information in front of its reason
+    ("62 05 BE 00 80 01 00", "62 03 80 01 00"),
+    // a release without its reason, which is 0 then
+    ("62 00", "62 03 80 01 00"),
+];
 
 #[test]
-fn associations_of_reliable_transfer_are_read_and_written(rt: HostRuntime) -> Result<(), Fail> {
-    // X.227 9: AARQ and AARE, whose user information carries RTORQ (the tag B0), RTOAC (B1) or
-    // RTORJ (B2) of X.228 9
-    let rows = [
-        // request of reliable transfer
-        "60 22 A1 06 06 04 88 37 05 04 BE 18 28 16 02 01 03 A0 11 B0 0F 80 01 01 81 01 02 82 01 01 A3 04 A0 02 05 00",
-        // response of reliable transfer
-        "61 2B A1 06 06 04 88 37 05 04 A2 03 02 01 00 A3 05 A1 03 02 01 00 BE 15 28 13 02 01 03 A0 0E B1 0C 80 01 01 81 01 02 A2 04 A0 02 05 00",
-        // refusal of reliable transfer, by hand
-        "61 22 A1 06 06 04 88 37 05 04 A2 03 02 01 01 A3 05 A1 03 02 01 01 BE 0C 28 0A 02 01 03 A0 05 B2 03 80 01 02",
-        // response of a recovery
-        "61 3E A1 06 06 04 88 37 05 04 A2 03 02 01 00 A3 05 A1 03 02 01 00 BE 28 28 26 02 01 03 A0 21 B1 1F 80 01 01 81 01 02 A2 17 A1 15 04 04 72 65 66 31 17 0D 32 36 30 31 30 31 30 30 30 30 30 30 5A",
-        // request of a recovery
-        "60 35 A1 06 06 04 88 37 05 04 BE 2B 28 29 02 01 03 A0 24 B0 22 80 01 01 81 01 02 82 01 01 A3 17 A1 15 04 04 72 65 66 31 17 0D 32 36 30 31 30 31 30 30 30 30 30 30 5A",
-    ];
-    assert!(rt; are_written(rt.alloc(), &rows)?);
-    Ok(())
+fn what_is_passed_over_is_left_out(rt: HostRuntime) {
+    assert!(rt; are_written_so(&rt, rt.alloc(), &PASSED));
 }
+
+/// What is no APDU, with its first fault.
+const FIRST_FAULTS: [Refused; 6] = [
+    // no octet
+    ("", 0, Kind::Missing),
+    // a tag that no APDU has
+    ("65 00", 0, Kind::Tag),
+    // a title whose contents are an identifier without its length, and no context name
+    ("60 03 A2 01 05", 5, Kind::Missing),
+    // a whole title, and no context name behind it
+    ("60 04 A2 02 05 00", 6, Kind::Missing),
+    // a result of 3, where 2 is the greatest
+    (
+        "61 14 A1 06 06 04 88 37 05 03 A2 03 02 01 03 A3 05 A1 03 02 01 00",
+        14,
+        Kind::Content,
+    ),
+    // a context name behind user information, in front of which it is looked for
+    ("60 0A BE 00 A1 06 06 04 88 37 05 03", 2, Kind::Missing),
+];
 
 #[test]
-fn releases_and_aborts_are_read_and_written(rt: HostRuntime) -> Result<(), Fail> {
-    // X.227 9: RLRQ (the tag 62), RLRE (63) and ABRT (64), the last with RTAB (B6) of X.228 9
-    let rows = [
-        // release
-        "62 03 80 01 00",
-        // its answer
-        "63 03 80 01 00",
-        // abort
-        "64 03 80 01 00",
-        // abort by association control, by hand
-        "64 03 80 01 01",
-        // abort of reliable transfer, by hand
-        "64 11 80 01 00 BE 0C 28 0A 02 01 03 A0 05 B6 03 80 01 04",
-    ];
-    assert!(rt; are_written(rt.alloc(), &rows)?);
-    Ok(())
+fn first_faults_of_apdus(rt: HostRuntime) {
+    assert!(rt; are_refused(&rt, rt.alloc(), &FIRST_FAULTS));
 }
+
+/// Faults behind known fields.
+const LATER_FAULTS: [Refused; 5] = [
+    // a second context name
+    (
+        "60 10 A1 06 06 04 88 37 05 03 A1 06 06 04 88 37 05 03",
+        10,
+        Kind::Extra,
+    ),
+    // a title of 127 octets, which goes past the end
+    ("60 0A A2 7F A1 06 06 04 88 37 05 03", 3, Kind::Length),
+    // a field behind the context name whose tag is of another class
+    ("60 0A A1 06 06 04 88 37 05 03 05 00", 10, Kind::Extra),
+    // a source of 2, where 1 is the greatest
+    ("64 03 80 01 02", 4, Kind::Content),
+    // an octet behind the APDU
+    ("62 00 00", 2, Kind::Extra),
+];
 
 #[test]
-fn what_is_passed_over_is_left_out(rt: HostRuntime) -> Result<(), Fail> {
-    let rows = [
-        // a request with a title in front of the context name, and with two fields behind it, of
-        // which the first has an indefinite length
-        (
-            "60 16 A2 03 06 01 2A A1 06 06 04 88 37 05 03 A6 80 06 01 2A 00 00 BD 00",
-            "60 08 A1 06 06 04 88 37 05 03",
-        ),
-        // a response with its version and, in front of the result, an empty title
-        (
-            "61 19 80 01 00 A1 06 06 04 88 37 05 03 A4 00 A2 03 02 01 00 A3 05 A1 03 02 01 00",
-            "61 14 A1 06 06 04 88 37 05 03 A2 03 02 01 00 A3 05 A1 03 02 01 00",
-        ),
-        // a release with empty user information in front of its reason
-        ("62 05 BE 00 80 01 00", "62 03 80 01 00"),
-        // a release without its reason, which is 0 then
-        ("62 00", "62 03 80 01 00"),
-    ];
-    assert!(rt; are_written_so(rt.alloc(), &rows)?);
-    Ok(())
+fn faults_behind_known_fields(rt: HostRuntime) {
+    assert!(rt; are_refused(&rt, rt.alloc(), &LATER_FAULTS));
 }
 
-#[test]
-fn first_faults_of_apdus(rt: HostRuntime) -> Result<(), Fail> {
-    let rows = [
-        // no octet
-        ("", 0, Kind::Missing),
-        // a tag that no APDU has
-        ("65 00", 0, Kind::Tag),
-        // a title whose contents are an identifier without its length, and no context name
-        ("60 03 A2 01 05", 5, Kind::Missing),
-        // a whole title, and no context name behind it
-        ("60 04 A2 02 05 00", 6, Kind::Missing),
-        // a result of 3, where 2 is the greatest
-        (
-            "61 14 A1 06 06 04 88 37 05 03 A2 03 02 01 03 A3 05 A1 03 02 01 00",
-            14,
-            Kind::Content,
-        ),
-        // a context name behind user information, in front of which it is looked for
-        ("60 0A BE 00 A1 06 06 04 88 37 05 03", 2, Kind::Missing),
-    ];
-    assert!(rt; are_refused(rt.alloc(), &rows)?);
-    Ok(())
-}
-
-#[test]
-fn faults_behind_known_fields(rt: HostRuntime) -> Result<(), Fail> {
-    let rows = [
-        // a second context name
-        (
-            "60 10 A1 06 06 04 88 37 05 03 A1 06 06 04 88 37 05 03",
-            10,
-            Kind::Extra,
-        ),
-        // a title of 127 octets, which goes past the end
-        ("60 0A A2 7F A1 06 06 04 88 37 05 03", 3, Kind::Length),
-        // a field behind the context name whose tag is of another class
-        ("60 0A A1 06 06 04 88 37 05 03 05 00", 10, Kind::Extra),
-        // a source of 2, where 1 is the greatest
-        ("64 03 80 01 02", 4, Kind::Content),
-        // an octet behind the APDU
-        ("62 00 00", 2, Kind::Extra),
-    ];
-    assert!(rt; are_refused(rt.alloc(), &rows)?);
-    Ok(())
-}
-
-/// Whether these octets are an APDU of which this holds.
-fn is_apdu<J: Fn(&Acse) -> bool>(alloc: Global, text: &str, judge: J) -> Result<bool, NoMemory>
-    requires { J.IsAlwaysCallable judge }
-{
-    let octets = octets_of(alloc, text)?;
-    match read_acse(alloc, octets.as_slice()) {
-        Ok(apdu) => Ok(judge(&apdu)),
-        Err(_) => Ok(false),
-    }
+/// What an APDU says.
+#[derive(Clone, Copy)]
+enum Says {
+    /// A request of reliable transfer: an EXTERNAL on context 3 with 17 octets.
+    Asks,
+    /// A refusal by the user, with no reason given.
+    Refuses,
+    /// A release for this reason.
+    Releases(i64),
+    /// An abort by this source, with so many values of user information.
+    Aborts(u8, usize),
 }
 
 /// Whether user information is there, on this context, with so many octets.
@@ -241,18 +256,6 @@ fn refuses(apdu: &Acse) -> bool {
     }
 }
 
-#[test]
-fn associations_say_their_fields(rt: HostRuntime) -> Result<(), Fail> {
-    // request of reliable transfer: an EXTERNAL on context 3 with 17 octets
-    let request =
-        "60 22 A1 06 06 04 88 37 05 04 BE 18 28 16 02 01 03 A0 11 B0 0F 80 01 01 81 01 02 82 01 01 A3 04 A0 02 05 00";
-    assert!(rt; is_apdu(rt.alloc(), request, asks)?);
-    // refusal, by hand: by the user, with no reason given
-    let refusal = "61 14 A1 06 06 04 88 37 05 03 A2 03 02 01 01 A3 05 A1 03 02 01 01";
-    assert!(rt; is_apdu(rt.alloc(), refusal, refuses)?);
-    Ok(())
-}
-
 fn releases(apdu: &Acse, number: i64) -> bool {
     match apdu {
         Acse::ReleaseRequest { reason } => *reason == number,
@@ -267,25 +270,74 @@ fn is_aborted(apdu: &Acse, by: u8, count: usize) -> bool {
     }
 }
 
-/// Whether these octets ask for a release for this reason.
-fn is_release(alloc: Global, text: &str, number: i64) -> Result<bool, NoMemory> {
-    is_apdu(alloc, text, |apdu| releases(apdu, number))
+fn says_this(apdu: &Acse, says: Says) -> bool {
+    match says {
+        Says::Asks => asks(apdu),
+        Says::Refuses => refuses(apdu),
+        Says::Releases(number) => releases(apdu, number),
+        Says::Aborts(by, count) => is_aborted(apdu, by, count),
+    }
 }
 
-/// Whether these octets are an abort by this source, with so many values of user information.
-fn is_abort(alloc: Global, text: &str, by: u8, count: usize) -> Result<bool, NoMemory> {
-    is_apdu(alloc, text, |apdu| is_aborted(apdu, by, count))
+/// Whether these octets are an APDU that says this.
+fn is_said(rt: &impl Abort, alloc: Global, text: &str, says: Says) -> bool {
+    let octets = octets_of(alloc, text).expect(rt, "memory");
+    let read = read_acse(alloc, octets.as_slice());
+    let so = match &read {
+        Ok(apdu) => says_this(apdu, says),
+        Err(_) => false,
+    };
+    drop(read);
+    so
 }
+
+/// Whether the octets of each row are an APDU that says this.
+fn are_said(rt: &impl Abort, alloc: Global, rows: &[(&'static str, Says)]) -> bool {
+    for (text, says) in rows {
+        if !is_said(rt, alloc, text, *says) {
+            return false;
+        }
+    }
+    true
+}
+
+/// Associations.
+const ASSOCIATIONS_SAID: [(&'static str, Says); 2] = [
+    // request of reliable transfer: an EXTERNAL on context 3 with 17 octets
+    (
+        "60 22 A1 06 06 04 88 37 05 04 BE 18 28 16 02 01 03 A0 11 B0 0F 80 01 01 81 01 02 82 01 01 A3 04 A0 02 05 00",
+        Says::Asks,
+    ),
+    // refusal, by hand: by the user, with no reason given
+    (
+        "61 14 A1 06 06 04 88 37 05 03 A2 03 02 01 01 A3 05 A1 03 02 01 01",
+        Says::Refuses,
+    ),
+];
 
 #[test]
-fn releases_and_aborts_say_their_fields(rt: HostRuntime) -> Result<(), Fail> {
-    // a release without its reason, which is 0 then, and by hand one with the reason 30
-    assert!(rt; is_release(rt.alloc(), "62 00", 0)?);
-    assert!(rt; is_release(rt.alloc(), "62 03 80 01 1E", 30)?);
-    // aborts by the user, and by hand by association control and by reliable transfer
-    assert!(rt; is_abort(rt.alloc(), "64 03 80 01 00", 0, 0)?);
-    assert!(rt; is_abort(rt.alloc(), "64 03 80 01 01", 1, 0)?);
-    let text = "64 11 80 01 00 BE 0C 28 0A 02 01 03 A0 05 B6 03 80 01 04";
-    assert!(rt; is_abort(rt.alloc(), text, 0, 1)?);
-    Ok(())
+fn associations_say_their_fields(rt: HostRuntime) {
+    assert!(rt; are_said(&rt, rt.alloc(), &ASSOCIATIONS_SAID));
+}
+
+/// Releases and aborts.
+const ENDS_SAID: [(&'static str, Says); 5] = [
+    // a release without its reason, which is 0 then
+    ("62 00", Says::Releases(0)),
+    // by hand, one with the reason 30
+    ("62 03 80 01 1E", Says::Releases(30)),
+    // an abort by the user
+    ("64 03 80 01 00", Says::Aborts(0, 0)),
+    // by hand, one by association control
+    ("64 03 80 01 01", Says::Aborts(1, 0)),
+    // by hand, one by reliable transfer
+    (
+        "64 11 80 01 00 BE 0C 28 0A 02 01 03 A0 05 B6 03 80 01 04",
+        Says::Aborts(0, 1),
+    ),
+];
+
+#[test]
+fn releases_and_aborts_say_their_fields(rt: HostRuntime) {
+    assert!(rt; are_said(&rt, rt.alloc(), &ENDS_SAID));
 }

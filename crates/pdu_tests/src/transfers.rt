@@ -6,172 +6,173 @@
 //! invocation stores 2,975 octets and whose checkpoint is 1.
 
 use fixed_tables::PduFault;
-use osi_base::{ConnectionData, Kind, NoMemory, Octets, Pdv, PdvContent, Rtse};
+use osi_base::{ConnectionData, Kind, Octets, Pdv, PdvContent, Rtse};
 use rtse_apdus::{read_rtse, read_transfer, write_rtse, write_transfer};
 use std::alloc::Global;
+use std::process::Abort;
 use std::test::*;
 use worked_octets::octets_of;
 
+/// Octets of an APDU, and those that it is written as.
+type Rewritten = (&'static str, &'static str);
+
+/// Octets that are no APDU, and the place and kind of their fault.
+type Refused = (&'static str, usize, Kind);
+
+/// Whether the APDU is written as these octets.
+fn is_apdu_of(rt: &impl Abort, alloc: Global, apdu: &Rtse, wanted: &[u8]) -> bool {
+    let written = write_rtse(alloc, apdu).expect(rt, "memory");
+    written.as_slice() == wanted
+}
+
 /// Whether the APDU of these octets is written as those.
-fn is_written(alloc: Global, text: &str, to: &str) -> Result<bool, NoMemory> {
-    let octets = octets_of(alloc, text)?;
-    let wanted = octets_of(alloc, to)?;
-    match read_rtse(alloc, octets.as_slice()) {
-        Ok(apdu) => {
-            let written = write_rtse(alloc, &apdu)?;
-            Ok(written.as_slice() == wanted.as_slice())
-        }
-        Err(_) => Ok(false),
-    }
+fn is_written(rt: &impl Abort, alloc: Global, text: &str, to: &str) -> bool {
+    let octets = octets_of(alloc, text).expect(rt, "memory");
+    let wanted = octets_of(alloc, to).expect(rt, "memory");
+    let read = read_rtse(alloc, octets.as_slice());
+    let so = match &read {
+        Ok(apdu) => is_apdu_of(rt, alloc, apdu, wanted.as_slice()),
+        Err(_) => false,
+    };
+    drop(read);
+    so
 }
 
 /// Whether these octets are refused so.
-fn is_refused(alloc: Global, text: &str, fault: PduFault) -> Result<bool, NoMemory> {
-    let octets = octets_of(alloc, text)?;
-    match read_rtse(alloc, octets.as_slice()) {
-        Ok(_) => Ok(false),
-        Err(found) => Ok(found == fault),
-    }
+fn is_refused(rt: &impl Abort, alloc: Global, text: &str, fault: PduFault) -> bool {
+    let octets = octets_of(alloc, text).expect(rt, "memory");
+    read_rtse(alloc, octets.as_slice()).err() == Some(fault)
 }
 
 /// Whether the APDU of each row is written as its octets.
-fn are_written(alloc: Global, rows: &[&'static str]) -> Result<bool, NoMemory> {
+fn are_written(rt: &impl Abort, alloc: Global, rows: &[&'static str]) -> bool {
     for text in rows {
-        if !is_written(alloc, text, text)? {
-            return Ok(false);
+        if !is_written(rt, alloc, text, text) {
+            return false;
         }
     }
-    Ok(true)
+    true
 }
 
 /// Whether the APDU of each row is written as the second octets.
-fn are_written_so(alloc: Global, rows: &[(&'static str, &'static str)]) -> Result<bool, NoMemory> {
+fn are_written_so(rt: &impl Abort, alloc: Global, rows: &[Rewritten]) -> bool {
     for (text, to) in rows {
-        if !is_written(alloc, text, to)? {
-            return Ok(false);
+        if !is_written(rt, alloc, text, to) {
+            return false;
         }
     }
-    Ok(true)
+    true
 }
 
 /// Whether the octets of each row are refused with its place and kind.
-fn are_refused(alloc: Global, rows: &[(&'static str, usize, Kind)]) -> Result<bool, NoMemory> {
+fn are_refused(rt: &impl Abort, alloc: Global, rows: &[Refused]) -> bool {
     for (text, place, kind) in rows {
         let fault = PduFault::At {
             place: *place,
             kind: *kind,
         };
-        if !is_refused(alloc, text, fault)? {
-            return Ok(false);
+        if !is_refused(rt, alloc, text, fault) {
+            return false;
         }
     }
-    Ok(true)
+    true
 }
 
+/// X.228 9: RTORQ (the tag B0), RTOAC (B1), RTORJ (B2), RTAB (B6), RTTP (an INTEGER, 02) and
+/// RTTR (an OCTET STRING, 04)
+const OPENINGS: [&'static str; 7] = [
+    // an opening
+    "B0 0F 80 01 01 81 01 02 82 01 01 A3 04 A0 02 05 00",
+    // its acceptance
+    "B1 0C 80 01 01 81 01 02 A2 04 A0 02 05 00",
+    // its refusal, by hand
+    "B2 03 80 01 02",
+    // an abort, by hand
+    "B6 03 80 01 04",
+    // a plea for the turn
+    "02 01 03",
+    // one of the highest priority number, 4,294,967,295, by hand
+    "02 05 00 FF FF FF FF",
+    // a part of a transfer, by hand: two octets
+    "04 02 A1 09",
+];
+
 #[test]
-fn openings_are_read_and_written(rt: HostRuntime) -> Result<(), Fail> {
-    // X.228 9: RTORQ (the tag B0), RTOAC (B1), RTORJ (B2), RTAB (B6), RTTP (an INTEGER, 02) and
-    // RTTR (an OCTET STRING, 04)
-    let rows = [
-        // an opening
+fn openings_are_read_and_written(rt: HostRuntime) {
+    assert!(rt; are_written(&rt, rt.alloc(), &OPENINGS));
+}
+
+/// X.228 9: RTORQ and RTOAC, with the name of a session connection instead of an opening's data
+const RECOVERIES: [&'static str; 2] = [
+    // a recovery
+    "B0 22 80 01 01 81 01 02 82 01 01 A3 17 A1 15 04 04 72 65 66 31 17 0D 32 36 30 31 30 31 30 30 30 30 30 30 5A",
+    // its acceptance
+    "B1 1F 80 01 01 81 01 02 A2 17 A1 15 04 04 72 65 66 31 17 0D 32 36 30 31 30 31 30 30 30 30 30 30 5A",
+];
+
+#[test]
+fn a_recovery_is_read_and_written(rt: HostRuntime) {
+    assert!(rt; are_written(&rt, rt.alloc(), &RECOVERIES));
+}
+
+/// Openings with fields that are absent or stand in another order.
+const DEFAULTS: [Rewritten; 3] = [
+    // an opening without checkpoint, window and mode, whose defaults are those of X.228 9: 0, 3
+    // and 0
+    (
+        "B0 06 A3 04 A0 02 05 00",
+        "B0 0F 80 01 00 81 01 03 82 01 00 A3 04 A0 02 05 00",
+    ),
+    // an acceptance without checkpoint and window: 0 and 3
+    (
+        "B1 06 A2 04 A0 02 05 00",
+        "B1 0C 80 01 00 81 01 03 A2 04 A0 02 05 00",
+    ),
+    // fields of a SET in another order, written in that of their tags
+    (
+        "B0 0F A3 04 A0 02 05 00 82 01 01 81 01 02 80 01 01",
         "B0 0F 80 01 01 81 01 02 82 01 01 A3 04 A0 02 05 00",
-        // its acceptance
-        "B1 0C 80 01 01 81 01 02 A2 04 A0 02 05 00",
-        // its refusal, by hand
-        "B2 03 80 01 02",
-        // an abort, by hand
-        "B6 03 80 01 04",
-        // a plea for the turn
-        "02 01 03",
-        // one of the highest priority number, 4,294,967,295, by hand
-        "02 05 00 FF FF FF FF",
-        // a part of a transfer, by hand: two octets
-        "04 02 A1 09",
-    ];
-    assert!(rt; are_written(rt.alloc(), &rows)?);
-    Ok(())
-}
+    ),
+];
 
 #[test]
-fn a_recovery_is_read_and_written(rt: HostRuntime) -> Result<(), Fail> {
-    // X.228 9: RTORQ and RTOAC, with the name of a session connection instead of an opening's data
-    let rows = [
-        // a recovery
-        "B0 22 80 01 01 81 01 02 82 01 01 A3 17 A1 15 04 04 72 65 66 31 17 0D 32 36 30 31 30 31 30 30 30 30 30 30 5A",
-        // its acceptance
-        "B1 1F 80 01 01 81 01 02 A2 17 A1 15 04 04 72 65 66 31 17 0D 32 36 30 31 30 31 30 30 30 30 30 30 5A",
-    ];
-    assert!(rt; are_written(rt.alloc(), &rows)?);
-    Ok(())
+fn defaults_are_written(rt: HostRuntime) {
+    assert!(rt; are_written_so(&rt, rt.alloc(), &DEFAULTS));
 }
+
+/// What is no APDU, with its first fault.
+const FIRST_FAULTS: [Refused; 7] = [
+    // a window of 256
+    (
+        "B0 10 80 01 01 81 02 01 00 82 01 01 A3 04 A0 02 05 00",
+        7,
+        Kind::Content,
+    ),
+    // a checkpoint of 256
+    (
+        "B1 0D 80 02 01 00 81 01 02 A2 04 A0 02 05 00",
+        4,
+        Kind::Content,
+    ),
+    // no reason
+    ("B2 00", 2, Kind::Missing),
+    // a field behind the reason
+    ("B6 06 80 01 04 81 01 00", 5, Kind::Extra),
+    // a recovery with NULL where its common reference should stand
+    (
+        "B0 0C A3 0A A1 08 04 04 72 65 66 31 05 00",
+        12,
+        Kind::Missing,
+    ),
+    // an octet behind the APDU
+    ("02 01 03 00", 3, Kind::Extra),
+    // a refusal that ends behind the first octet of its reason
+    ("B2 03 80", 3, Kind::Missing),
+];
 
 #[test]
-fn defaults_are_written(rt: HostRuntime) -> Result<(), Fail> {
-    let rows = [
-        // an opening without checkpoint, window and mode, whose defaults are those of X.228 9: 0, 3
-        // and 0
-        (
-            "B0 06 A3 04 A0 02 05 00",
-            "B0 0F 80 01 00 81 01 03 82 01 00 A3 04 A0 02 05 00",
-        ),
-        // an acceptance without checkpoint and window: 0 and 3
-        (
-            "B1 06 A2 04 A0 02 05 00",
-            "B1 0C 80 01 00 81 01 03 A2 04 A0 02 05 00",
-        ),
-        // fields of a SET in another order, written in that of their tags
-        (
-            "B0 0F A3 04 A0 02 05 00 82 01 01 81 01 02 80 01 01",
-            "B0 0F 80 01 01 81 01 02 82 01 01 A3 04 A0 02 05 00",
-        ),
-    ];
-    assert!(rt; are_written_so(rt.alloc(), &rows)?);
-    Ok(())
-}
-
-#[test]
-fn first_faults_of_transfers(rt: HostRuntime) -> Result<(), Fail> {
-    let rows = [
-        // a window of 256
-        (
-            "B0 10 80 01 01 81 02 01 00 82 01 01 A3 04 A0 02 05 00",
-            7,
-            Kind::Content,
-        ),
-        // a checkpoint of 256
-        (
-            "B1 0D 80 02 01 00 81 01 02 A2 04 A0 02 05 00",
-            4,
-            Kind::Content,
-        ),
-        // no reason
-        ("B2 00", 2, Kind::Missing),
-        // a field behind the reason
-        ("B6 06 80 01 04 81 01 00", 5, Kind::Extra),
-        // a recovery with NULL where its common reference should stand
-        (
-            "B0 0C A3 0A A1 08 04 04 72 65 66 31 05 00",
-            12,
-            Kind::Missing,
-        ),
-        // an octet behind the APDU
-        ("02 01 03 00", 3, Kind::Extra),
-        // a refusal that ends behind the first octet of its reason
-        ("B2 03 80", 3, Kind::Missing),
-    ];
-    assert!(rt; are_refused(rt.alloc(), &rows)?);
-    Ok(())
-}
-
-/// Whether these octets are an APDU of which this holds.
-fn is_apdu<J: Fn(&Rtse) -> bool>(alloc: Global, text: &str, judge: J) -> Result<bool, NoMemory>
-    requires { J.IsAlwaysCallable judge }
-{
-    let octets = octets_of(alloc, text)?;
-    match read_rtse(alloc, octets.as_slice()) {
-        Ok(apdu) => Ok(judge(&apdu)),
-        Err(_) => Ok(false),
-    }
+fn first_faults_of_transfers(rt: HostRuntime) {
+    assert!(rt; are_refused(&rt, rt.alloc(), &FIRST_FAULTS));
 }
 
 fn opens(apdu: &Rtse) -> bool {
@@ -204,102 +205,128 @@ fn recovers(apdu: &Rtse) -> bool {
     }
 }
 
+/// Whether these octets are an APDU of which this holds: that it opens, or that it recovers.
+fn is_apdu(rt: &impl Abort, alloc: Global, text: &str, recovery: bool) -> bool {
+    let octets = octets_of(alloc, text).expect(rt, "memory");
+    let read = read_rtse(alloc, octets.as_slice());
+    let so = match &read {
+        Ok(apdu) => {
+            if recovery {
+                recovers(apdu)
+            } else {
+                opens(apdu)
+            }
+        }
+        Err(_) => false,
+    };
+    drop(read);
+    so
+}
+
+/// An opening, by hand: with the dialogue mode 3.
+const OPENING: &'static str = "B0 0F 80 01 01 81 01 02 82 01 03 A3 04 A0 02 05 00";
+
+/// The acceptance of a recovery, with both references.
+const RECOVERY_ACCEPTED: &'static str =
+    "B1 1F 80 01 01 81 01 02 A2 17 A1 15 04 04 72 65 66 31 17 0D 32 36 30 31 30 31 30 30 30 30 30 30 5A";
+
 #[test]
-fn openings_say_their_fields(rt: HostRuntime) -> Result<(), Fail> {
-    // an opening, by hand: with the dialogue mode 3
-    let opening = "B0 0F 80 01 01 81 01 02 82 01 03 A3 04 A0 02 05 00";
-    assert!(rt; is_apdu(rt.alloc(), opening, opens)?);
-    // the acceptance of a recovery, with both references
-    let acceptance =
-        "B1 1F 80 01 01 81 01 02 A2 17 A1 15 04 04 72 65 66 31 17 0D 32 36 30 31 30 31 30 30 30 30 30 30 5A";
-    assert!(rt; is_apdu(rt.alloc(), acceptance, recovers)?);
-    Ok(())
+fn openings_say_their_fields(rt: HostRuntime) {
+    assert!(rt; is_apdu(&rt, rt.alloc(), OPENING, false));
+    assert!(rt; is_apdu(&rt, rt.alloc(), RECOVERY_ACCEPTED, true));
 }
 
 /// So many octets.
-fn zeros(alloc: Global, count: usize) -> Result<Octets, NoMemory> {
-    Ok(Octets::from_vec(vec![in alloc; 0_u8; count]?))
+fn zeros(rt: &impl Abort, alloc: Global, count: usize) -> Octets {
+    Octets::from_vec(vec![in alloc; 0_u8; count].expect(rt, "memory"))
 }
 
 /// The invocation that stores 2,975 octets (X.882 9), on context 5. A transfer of it is a data
 /// value with its context (X.226 8.4.2).
-fn stored(alloc: Global) -> Result<Pdv, NoMemory> {
-    let mut octets = octets_of(alloc, "A1 82 0B A9 02 01 01 02 01 02 04 82 0B 9F")?;
-    octets.extend(zeros(alloc, 2_975)?.as_slice())?;
-    Ok(Pdv {
+fn stored(rt: &impl Abort, alloc: Global) -> Pdv {
+    let front = "A1 82 0B A9 02 01 01 02 01 02 04 82 0B 9F";
+    let mut octets = octets_of(alloc, front).expect(rt, "memory");
+    let zeros = zeros(rt, alloc, 2_975);
+    octets.extend(zeros.as_slice()).expect(rt, "memory");
+    Pdv {
         transfer: None,
         id: 5,
         content: PdvContent::SingleAsn1Type(octets),
-    })
+    }
 }
 
-/// Whether the octets are a transfer of that invocation.
-fn is_stored(alloc: Global, octets: &[u8]) -> bool {
-    let Ok(pdv) = read_transfer(alloc, octets) else {
-        return false;
-    };
-    let id = pdv.id;
+/// Whether this is that invocation, by its context and length.
+fn is_stored(pdv: &Pdv) -> bool {
     match &pdv.content {
-        PdvContent::SingleAsn1Type(value) => id == 5 && value.len() == 2_989,
+        PdvContent::SingleAsn1Type(value) => pdv.id == 5 && value.len() == 2_989,
         _ => false,
     }
 }
 
+/// The transfer of that invocation.
+fn transfer(rt: &impl Abort, alloc: Global) -> Octets {
+    let pdv = stored(rt, alloc);
+    let octets = write_transfer(alloc, &pdv).expect(rt, "memory");
+    drop(pdv);
+    octets
+}
+
 /// Whether that transfer is written as so many octets that begin with these.
-fn transfer_begins(alloc: Global, count: usize, front: &str) -> Result<bool, NoMemory> {
-    let front = octets_of(alloc, front)?;
-    let octets = write_transfer(alloc, &stored(alloc)?)?;
-    Ok(octets.len() == count && octets.as_slice().starts_with(front.as_slice()))
+fn transfer_begins(rt: &impl Abort, alloc: Global, count: usize, front: &str) -> bool {
+    let front = octets_of(alloc, front).expect(rt, "memory");
+    let octets = transfer(rt, alloc);
+    octets.len() == count && octets.as_slice().starts_with(front.as_slice())
 }
 
 /// Whether that transfer is read back as it was written.
-fn transfer_is_read(alloc: Global) -> Result<bool, NoMemory> {
-    let octets = write_transfer(alloc, &stored(alloc)?)?;
-    Ok(is_stored(alloc, octets.as_slice()))
+fn transfer_is_read(rt: &impl Abort, alloc: Global) -> bool {
+    let octets = transfer(rt, alloc);
+    let read = read_transfer(alloc, octets.as_slice());
+    let so = match &read {
+        Ok(pdv) => is_stored(pdv),
+        Err(_) => false,
+    };
+    drop(read);
+    so
 }
 
 /// The invocation has 14 octets in front of the 2,975, and the transfer 11 in front of it.
 #[test]
-fn a_transfer_has_3000_octets(rt: HostRuntime) -> Result<(), Fail> {
+fn a_transfer_has_3000_octets(rt: HostRuntime) {
     let front = "30 82 0B B4 02 01 05 A0 82 0B AD A1 82 0B A9";
-    assert!(rt; transfer_begins(rt.alloc(), 3_000, front)?);
-    assert!(rt; transfer_is_read(rt.alloc())?);
-    Ok(())
+    assert!(rt; transfer_begins(&rt, rt.alloc(), 3_000, front));
+    assert!(rt; transfer_is_read(&rt, rt.alloc()));
 }
 
 /// Whether the first part of that transfer is written as 1,024 octets behind these.
-fn part_begins(alloc: Global, front: &[u8]) -> Result<bool, NoMemory> {
+fn part_begins(rt: &impl Abort, alloc: Global, front: &[u8]) -> bool {
     let part = Rtse::Transfer {
-        octets: zeros(alloc, 1_024)?,
+        octets: zeros(rt, alloc, 1_024),
     };
-    let value = write_rtse(alloc, &part)?;
-    Ok(value.len() == front.len() + 1_024 && value.as_slice().starts_with(front))
+    let value = write_rtse(alloc, &part).expect(rt, "memory");
+    drop(part);
+    value.len() == front.len() + 1_024 && value.as_slice().starts_with(front)
 }
 
 /// A tag, and a length in three octets.
 #[test]
-fn the_first_part_has_1028_octets(rt: HostRuntime) -> Result<(), Fail> {
-    assert!(rt; part_begins(rt.alloc(), &[0x04, 0x82, 0x04, 0x00])?);
-    Ok(())
+fn the_first_part_has_1028_octets(rt: HostRuntime) {
+    assert!(rt; part_begins(&rt, rt.alloc(), &[0x04, 0x82, 0x04, 0x00]));
 }
 
 /// Whether these octets are refused so as a transfer.
-fn is_no_transfer(alloc: Global, text: &str, fault: PduFault) -> Result<bool, NoMemory> {
-    let octets = octets_of(alloc, text)?;
-    match read_transfer(alloc, octets.as_slice()) {
-        Ok(_) => Ok(false),
-        Err(found) => Ok(found == fault),
-    }
+fn is_no_transfer(rt: &impl Abort, alloc: Global, text: &str, fault: PduFault) -> bool {
+    let octets = octets_of(alloc, text).expect(rt, "memory");
+    read_transfer(alloc, octets.as_slice()).err() == Some(fault)
 }
 
 #[test]
-fn what_is_no_transfer_is_refused(rt: HostRuntime) -> Result<(), Fail> {
+fn what_is_no_transfer_is_refused(rt: HostRuntime) {
     // a value on context 5, by hand, and an empty one behind it
     let twice = "30 08 02 01 05 A0 03 02 01 05 30 00";
     let fault = PduFault::At {
         place: 10,
         kind: Kind::Extra,
     };
-    assert!(rt; is_no_transfer(rt.alloc(), twice, fault)?);
-    Ok(())
+    assert!(rt; is_no_transfer(&rt, rt.alloc(), twice, fault));
 }

@@ -1,11 +1,11 @@
 //! A module with three operations and one error.
 
-ghost use Rattle.std.specs.Prelude.{◌≡◌, ◌<◌, ◌^◌, IfOk, IsTrue, length};
+ghost use Rattle.std.specs.Prelude.{◌≡◌, ◌<◌, ◌^◌, IsTrue, length};
 ghost use Rattle.stub_tables.specs.Codes.{have_own_codes};
 ghost use Rattle.stub_tables.specs.declared.operation.Code.TheVariants as codes;
 
 use asn1_types::{Node, TypeId, TypeRow, TypeTable, Val};
-use osi_base::{Indices, ListOf, Name, NoMemory, Oid};
+use osi_base::{Indices, ListOf, Name, Oid};
 use std::alloc::Global;
 use std::process::Abort;
 use std::test::*;
@@ -58,29 +58,33 @@ fn operation(
 
 /// `add`, to which `ask` may be linked and which may answer the error; `ask`; and `note`, which is
 /// silent.
-fn operations(rt: &impl Abort, alloc: Global) -> Result<Operations, NoMemory>
-    ensures few { IfOk result (λ operations. length operations < 2 ^ 32) }
-    ensures own { IfOk result (λ operations. IsTrue (have_own_codes (λ o. o.code) operations)) }
+fn operations(rt: &impl Abort, alloc: Global) -> Operations
+    ensures few { length result < 2 ^ 32 }
+    ensures own { IsTrue (have_own_codes (λ o. o.code) result) }
 {
     let mut operations = Operations::new(alloc);
-    operations.push(operation(rt, alloc, "add", 1, true, &[0], &[1]))?;
-    operations.push(operation(rt, alloc, "ask", 3, true, &[], &[]))?;
-    operations.push(operation(rt, alloc, "note", 4, false, &[], &[]))?;
-    Ok(operations)
+    let add = operation(rt, alloc, "add", 1, true, &[0], &[1]);
+    operations.push(add).expect(rt, "memory");
+    let ask = operation(rt, alloc, "ask", 3, true, &[], &[]);
+    operations.push(ask).expect(rt, "memory");
+    let note = operation(rt, alloc, "note", 4, false, &[], &[]);
+    operations.push(note).expect(rt, "memory");
+    operations
 }
 
 /// `overflow`, which carries an INTEGER.
-fn errors(rt: &impl Abort, alloc: Global) -> Result<ErrorRows, NoMemory>
-    ensures few { IfOk result (λ errors. length errors < 2 ^ 32) }
-    ensures own { IfOk result (λ errors. IsTrue (have_own_codes (λ e. e.code) errors)) }
+fn errors(rt: &impl Abort, alloc: Global) -> ErrorRows
+    ensures few { length result < 2 ^ 32 }
+    ensures own { IsTrue (have_own_codes (λ e. e.code) result) }
 {
     let mut errors = ErrorRows::new(alloc);
-    errors.push(ErrorRow {
+    let overflow = ErrorRow {
         name: Name::from_str(alloc, "overflow").expect(rt, "memory"),
         code: Code::Local(1),
         parameter: carrying(true),
-    })?;
-    Ok(errors)
+    };
+    errors.push(overflow).expect(rt, "memory");
+    errors
 }
 
 /// INTEGER.
@@ -95,14 +99,32 @@ fn types(rt: &impl Abort, alloc: Global) -> TypeTable {
 }
 
 /// A module with these operations and this error.
-pub(crate) fn module(rt: &impl Abort, alloc: Global) -> Result<Tables, NoMemory> {
-    let operations = operations(rt, alloc)?;
-    let errors = errors(rt, alloc)?;
-    Ok(Tables {
+pub(crate) fn module(rt: &impl Abort, alloc: Global) -> Tables {
+    Tables {
         name: Name::from_str(alloc, "Calc").expect(rt, "memory"),
         name_oid: Oid::from_slice(alloc, &[2, 999, 7, 1]).expect(rt, "memory"),
         types: types(rt, alloc),
-        operations,
-        errors,
-    })
+        operations: operations(rt, alloc),
+        errors: errors(rt, alloc),
+    }
+}
+
+/// An operation that returns no result is silent where it returns no error either.
+#[test]
+fn what_returns_nothing_is_silent(rt: HostRuntime) {
+    let note = operation(&rt, rt.alloc(), "note", 4, false, &[], &[]);
+    let warn = operation(&rt, rt.alloc(), "warn", 5, false, &[0], &[]);
+    assert!(rt; note.is_silent() && !warn.is_silent());
+    drop(note);
+    drop(warn);
+}
+
+/// Local codes are one code where their numbers are equal.
+#[test]
+fn a_code_is_itself_alone(rt: HostRuntime) {
+    let three = Code::Local(3);
+    let one = Code::Local(1);
+    assert!(rt; three.is(&three) && !three.is(&one) && !one.is(&three));
+    drop(three);
+    drop(one);
 }

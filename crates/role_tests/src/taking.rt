@@ -2,7 +2,7 @@
 //! the invocation and its reject are those of worked dialogues; the numbers of all problems are
 //! those of X.880 9.4.
 
-ghost use Rattle.std.specs.Prelude.{◌≡◌, true, false, [], IfOk};
+ghost use Rattle.std.specs.Prelude.{◌≡◌, true, false, []};
 ghost use Rattle.rose_roles.specs.Calls.{AreOpen};
 ghost use Rattle.rose_roles.specs.Heads.{is_invocation};
 
@@ -12,7 +12,7 @@ use Told::{BadReject, Invoked, Reject, RejectTaken, Rejected, Returned};
 use apdu_codec::{ApduHead, ApduKind, read_apdu, write_apdu};
 use asn1_types::{Node, Val};
 use linked_ops::{Forest, Key};
-use osi_base::{NoMemory, Problem, Syntax};
+use osi_base::{Problem, Syntax};
 use rose_roles::{InvokedWith, Invoker, Performer, RoseTaken, refused_head};
 use std::alloc::Global;
 use std::process::Abort;
@@ -22,9 +22,9 @@ use stub_tables::{Apdu, Tables};
 /// What becomes of an APDU.
 #[derive(Clone, Copy)]
 enum Told {
-    /// Its invocation 1 is told, of the operation at this place, with this number, linked to the
-    /// own invocation 1 or to none.
-    Invoked(u32, i64, bool),
+    /// Its invocation 1 is told, of the operation at this place, with this number, linked to this
+    /// own invocation or to none.
+    Invoked(u32, i64, Option<i64>),
     /// The result of the own invocation 1 is told, with this number.
     Returned(i64),
     /// The own invocation 1 was rejected.
@@ -74,7 +74,7 @@ const INVOCATION: &'static [u8] = &[0xA1, 9, 2, 1, 1, 2, 1, 1, 2, 1, 5];
 const PACKED_INVOCATION: &'static [u8] = &[1, 1, 1, 0, 0, 1, 1, 1, 1, 5];
 
 /// Outcomes and rejects.
-const OUTCOMES: [Row; 7] = [
+static OUTCOMES: [Row; 7] = [
     Row {
         shows: "a result is handed up",
         open: ADD,
@@ -148,14 +148,14 @@ const OUTCOMES: [Row; 7] = [
 ];
 
 /// Invocations.
-const INVOCATIONS: [Row; 11] = [
+static INVOCATIONS: [Row; 11] = [
     Row {
         shows: "an invocation is taken",
         open: None,
         again: false,
         syntax: Ber,
         octets: INVOCATION,
-        told: Invoked(0, 5, false),
+        told: Invoked(0, 5, None),
         own: false,
         peer: Some((0, false)),
     },
@@ -165,7 +165,7 @@ const INVOCATIONS: [Row; 11] = [
         again: false,
         syntax: Packed,
         octets: PACKED_INVOCATION,
-        told: Invoked(0, 5, false),
+        told: Invoked(0, 5, None),
         own: false,
         peer: Some((0, false)),
     },
@@ -185,7 +185,7 @@ const INVOCATIONS: [Row; 11] = [
         again: false,
         syntax: Ber,
         octets: &[0xA1, 9, 2, 1, 1, 2, 1, 4, 2, 1, 5],
-        told: Invoked(2, 5, false),
+        told: Invoked(2, 5, None),
         own: false,
         peer: None,
     },
@@ -225,7 +225,7 @@ const INVOCATIONS: [Row; 11] = [
         again: false,
         syntax: Ber,
         octets: &[0xA1, 0x0C, 2, 1, 1, 0x80, 1, 1, 2, 1, 3, 2, 1, 7],
-        told: Invoked(1, 7, true),
+        told: Invoked(1, 7, Some(1)),
         own: true,
         peer: Some((1, true)),
     },
@@ -286,20 +286,22 @@ fn without_any(alloc: Global) -> Both
 }
 
 /// The same with an open own invocation 1 of the operation at this place, if at any.
-fn with_open(alloc: Global, place: Option<u32>) -> Result<Both, NoMemory>
-    ensures own { IfOk result (λ both. AreOpen true both.forest both.own.kept) }
-    ensures peer { IfOk result (λ both. AreOpen false both.forest both.performer.kept) }
+fn with_open(rt: &impl Abort, alloc: Global, place: Option<u32>) -> Both
+    ensures own { AreOpen true result.forest result.own.kept }
+    ensures peer { AreOpen false result.forest result.performer.kept }
 {
     let mut both = without_any(alloc);
     let Some(operation) = place else {
-        return Ok(both);
+        return both;
     };
     let called = InvokedWith {
         operation,
         context: 5,
     };
-    both.own.open(&mut both.forest, called, None)?;
-    Ok(both)
+    both.own
+        .open(&mut both.forest, called, None)
+        .expect(rt, "memory");
+    both
 }
 
 /// Whether this is the head of an invocation.
@@ -314,18 +316,19 @@ fn is_invocation(head: &ApduHead) -> bool
 
 /// What becomes of the octets of an APDU.
 fn take(
+    rt: &impl Abort,
     alloc: Global,
     both: &mut Both,
     tables: &Tables,
     syntax: Syntax,
     octets: &[u8],
-) -> Result<RoseTaken, NoMemory>
+) -> RoseTaken
     requires own { AreOpen true both.old.forest both.old.own.kept }
     requires peer { AreOpen false both.old.forest both.old.performer.kept }
     ensures own { AreOpen true both.new.forest both.new.own.kept }
     ensures peer { AreOpen false both.new.forest both.new.performer.kept }
 {
-    match read_apdu(alloc, syntax, octets) {
+    let taken = match read_apdu(alloc, syntax, octets) {
         Ok(head) => {
             if is_invocation(&head) {
                 both.performer
@@ -335,21 +338,20 @@ fn take(
             }
         }
         Err(fault) => refused_head(fault),
-    }
+    };
+    taken.expect(rt, "memory")
 }
 
 /// Takes the APDU of a row as often as it comes before.
-fn take_before(alloc: Global, both: &mut Both, tables: &Tables, row: &Row) -> Result<(), NoMemory>
+fn take_before(rt: &impl Abort, alloc: Global, both: &mut Both, tables: &Tables, row: &Row)
     requires own { AreOpen true both.old.forest both.old.own.kept }
     requires peer { AreOpen false both.old.forest both.old.performer.kept }
     ensures own { AreOpen true both.new.forest both.new.own.kept }
     ensures peer { AreOpen false both.new.forest both.new.performer.kept }
 {
-    if !row.again {
-        return Ok(());
+    if row.again {
+        drop(take(rt, alloc, both, tables, row.syntax, row.octets));
     }
-    drop(take(alloc, both, tables, row.syntax, row.octets)?);
-    Ok(())
 }
 
 /// Whether this is that value of INTEGER.
@@ -377,20 +379,15 @@ fn is_told(rt: &impl Abort, alloc: Global, tables: &Tables, taken: &RoseTaken, t
     match (taken, told) {
         (
             RoseTaken::Invoked {
-                id,
+                id: 1,
                 operation,
                 linked,
                 argument,
             },
-            Invoked(place, number, under),
-        ) => {
-            let parent = if under { Some(1) } else { None };
-            *id == 1 && *operation == place && *linked == parent && is_integer(argument, number)
-        }
-        (RoseTaken::Result { id, value }, Returned(number)) => {
-            *id == 1 && is_integer(value, number)
-        }
-        (RoseTaken::Rejected { id, .. }, Rejected) => *id == 1,
+            Invoked(place, number, parent),
+        ) => *operation == place && *linked == parent && is_integer(argument, number),
+        (RoseTaken::Result { id: 1, value }, Returned(number)) => is_integer(value, number),
+        (RoseTaken::Rejected { id: 1, .. }, Rejected) => true,
         (RoseTaken::RejectTaken { .. }, RejectTaken) => true,
         (RoseTaken::BadReject, BadReject) => true,
         (RoseTaken::Reject { id, problem }, Reject(octets)) => {
@@ -424,26 +421,20 @@ fn is_peer(both: &Both, peer: Option<(u32, bool)>) -> bool {
 }
 
 /// Whether it goes as a row says at this end.
-fn is_so_at(
-    rt: &impl Abort,
-    alloc: Global,
-    both: &mut Both,
-    tables: &Tables,
-    row: &Row,
-) -> Result<bool, NoMemory>
+fn is_so_at(rt: &impl Abort, alloc: Global, both: &mut Both, tables: &Tables, row: &Row) -> bool
     requires own { AreOpen true both.old.forest both.old.own.kept }
     requires peer { AreOpen false both.old.forest both.old.performer.kept }
 {
-    take_before(alloc, both, tables, row)?;
-    let taken = take(alloc, both, tables, row.syntax, row.octets)?;
+    take_before(rt, alloc, both, tables, row);
+    let taken = take(rt, alloc, both, tables, row.syntax, row.octets);
     let told = is_told(rt, alloc, tables, &taken, row.told);
     drop(taken);
-    Ok(told && is_own(both, row.own) && is_peer(both, row.peer))
+    told && is_own(both, row.own) && is_peer(both, row.peer)
 }
 
 /// Whether it goes as a row says.
-fn is_so(rt: &impl Abort, alloc: Global, tables: &Tables, row: &Row) -> Result<bool, NoMemory> {
-    let mut both = with_open(alloc, row.open)?;
+fn is_so(rt: &impl Abort, alloc: Global, tables: &Tables, row: &Row) -> bool {
+    let mut both = with_open(rt, alloc, row.open);
     let so = is_so_at(rt, alloc, &mut both, tables, row);
     drop(both);
     so
@@ -451,10 +442,9 @@ fn is_so(rt: &impl Abort, alloc: Global, tables: &Tables, row: &Row) -> Result<b
 
 /// It goes as each row says.
 fn check(rt: &impl Abort, alloc: Global, rows: &[Row]) {
-    let tables = module(rt, alloc).expect(rt, "memory");
+    let tables = module(rt, alloc);
     for row in rows {
-        let so = is_so(rt, alloc, &tables, row).expect(rt, "memory");
-        assert!(rt; so, "{}", row.shows);
+        assert!(rt; is_so(rt, alloc, &tables, row), "{}", row.shows);
     }
     drop(tables);
 }

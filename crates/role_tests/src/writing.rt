@@ -23,7 +23,7 @@ enum Sample {
 }
 
 /// What a row shows, an APDU, and its octets in a syntax.
-const ROWS: [(&'static str, Sample, Syntax, &'static [u8]); 11] = [
+static ROWS: [(&'static str, Sample, Syntax, &'static [u8]); 11] = [
     (
         "an invocation",
         Invoke(1, 5, false),
@@ -139,7 +139,7 @@ fn is_written(
 
 #[test]
 fn apdus_are_written(rt: HostRuntime) {
-    let tables = module(&rt, rt.alloc()).expect(&rt, "memory");
+    let tables = module(&rt, rt.alloc());
     for (shows, sample, syntax, octets) in &ROWS {
         assert!(rt;
             is_written(&rt, rt.alloc(), &tables, *syntax, *sample, octets),

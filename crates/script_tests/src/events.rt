@@ -3,7 +3,7 @@
 
 use crate::refusals::{all_modes, calc};
 use dialogue::Event;
-use osi_base::Octets;
+use osi_base::{NoMemory, Octets, Side};
 use schedule_text::{Schedule, read_schedule};
 use script_lines::InvokedOperations;
 use std::alloc::Global;
@@ -117,4 +117,20 @@ fn events_are_read_and_printed_again(rt: HostRuntime) {
         assert!(rt; is_printed(&rt, rt.alloc(), &tables, row), "{}", row.0);
     }
     drop(tables);
+}
+
+/// The operations 0 and then 1 are accepted under the identifier 1.
+fn accepted_twice(alloc: Global) -> Result<InvokedOperations, NoMemory> {
+    let mut invoked = InvokedOperations::new(alloc);
+    invoked.accept(Side::A, 1, 0)?;
+    invoked.accept(Side::A, 1, 1)?;
+    Ok(invoked)
+}
+
+/// Of an identifier that comes again the later operation counts.
+#[test]
+fn the_later_operation_counts(rt: HostRuntime) {
+    let invoked = accepted_twice(rt.alloc()).expect(&rt, "memory");
+    assert!(rt; invoked.of(Side::A) == [1].as_slice());
+    drop(invoked);
 }

@@ -4,6 +4,8 @@
 #![tactic(auto)]
 
 #[cfg(test)]
+mod configs;
+#[cfg(test)]
 mod events;
 #[cfg(test)]
 mod refusals;

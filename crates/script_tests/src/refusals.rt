@@ -360,3 +360,23 @@ fn an_event_too_many(rt: HostRuntime) {
     assert!(rt; fault_of_breaks(&rt, rt.alloc(), 20_000) == None);
     assert!(rt; fault_of_breaks(&rt, rt.alloc(), 20_001) == Some(fault));
 }
+
+/// Why a schedule that is a comment of so many octets is not read, if it is not.
+fn fault_of_octets(rt: &impl Abort, alloc: Global, count: usize) -> Option<ScriptFault> {
+    let tables = calc(rt, alloc);
+    let text = Octets::from_vec(vec![in alloc; b'#'; count].expect(rt, "memory"));
+    let fault = read_schedule(alloc, all_modes(), &tables, text.as_slice()).err();
+    drop(tables);
+    fault
+}
+
+/// A schedule has at most 16,777,216 octets.
+#[test]
+fn an_octet_too_many(rt: HostRuntime) {
+    let fault = ScriptFault::At {
+        line: 1,
+        kind: ScriptKind::TooMany,
+    };
+    assert!(rt; fault_of_octets(&rt, rt.alloc(), 16_777_216) == None);
+    assert!(rt; fault_of_octets(&rt, rt.alloc(), 16_777_217) == Some(fault));
+}

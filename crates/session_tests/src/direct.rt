@@ -1,169 +1,167 @@
 //! Marks, restarts and the minor token in direct mode.
 
+use crate::exchange::State::{Awaits, Marked, Phase};
+use crate::exchange::Step::{
+    Breaks, Is, Loses, NoAlteration, OutOfPlace, PassedOver, Passes, Refused, Turn,
+};
+use crate::exchange::Word::{
+    Connect, Data, Disconnect, Finish, Give, GiveAll, Mark, MarkAck, Please, Restart, Restarted,
+    Start,
+};
 use crate::exchange::*;
-use osi_base::SessionWord;
-use session_subset::{Awaited, Session, SessionPhase, SessionRefusal};
-use std::process::Abort;
+use Side::{A, B};
+use osi_base::Side;
+use session_subset::{Awaited, SessionPhase, SessionRefusal};
 use std::test::*;
 
-/// Marks from 1 to this number.
-fn mark_up_to(rt: &impl Abort, a: &mut Session, b: &mut Session, last: u32) {
-    for number in 1..=last {
-        pass(rt, a, b, SessionWord::Mark { number });
-    }
-}
+/// Marks 1 and 2.
+const TWO_MARKS: [Step; 2] = [Passes(A, Mark(1)), Passes(A, Mark(2))];
+
+/// Behind the mark 1.
+const ONE_MARK: [Step; 3] = [
+    Is(A, Marked(1)),
+    Is(B, Marked(1)),
+    // no one asked for it
+    PassedOver(A, MarkAck(9)),
+];
 
 #[test]
-fn a_mark_goes_behind_an_empty_give(rt: HostRuntime) -> Result<(), Fail> {
-    let (mut a, mut b) = direct(&rt, rt.alloc());
-    let units = sent(&rt, &mut a, SessionWord::Mark { number: 1 });
+fn a_mark_goes_behind_an_empty_give(rt: HostRuntime) {
+    let mut both = direct(&rt, rt.alloc());
+    let units = sent(&rt, &mut both.a, said(rt.alloc(), Mark(1)));
     assert!(rt; units.len() == 2);
-    assert!(rt; is_taken(&rt, &mut b, units));
-    assert!(rt; a.state().mark == 1);
-    assert!(rt; b.state().mark == 1);
-    assert!(rt;
-        is_passed(&mut a, SessionWord::MarkAck { number: 9 }),
-        "no one asked for it"
-    );
-    Ok(())
+    assert!(rt; is_taken(&rt, &mut both.b, units));
+    go(&rt, rt.alloc(), &mut both, "one mark", &ONE_MARK);
+    drop(both);
 }
 
+const TOKENS: [Step; 6] = [
+    Passes(B, Please),
+    Refused(A, Please, SessionRefusal::HasTurn),
+    Passes(A, Give(Some(4))),
+    Turn(false, true),
+    Refused(A, Mark(1), SessionRefusal::NoTurn),
+    Passes(B, Mark(1)),
+];
+
 #[test]
-fn gives_and_asks_for_the_token(rt: HostRuntime) -> Result<(), Fail> {
-    let (mut a, mut b) = direct(&rt, rt.alloc());
-    let please = SessionWord::PleaseTokens {
-        tokens: Some(4),
-        user: None,
-    };
-    pass(&rt, &mut b, &mut a, please);
-    let please = SessionWord::PleaseTokens {
-        tokens: Some(4),
-        user: None,
-    };
-    refused(&rt, &mut a, please, SessionRefusal::HasTurn);
-    pass(
-        &rt,
-        &mut a,
-        &mut b,
-        SessionWord::GiveTokens { tokens: Some(4) },
-    );
-    assert!(rt; !a.holds_turn() && b.holds_turn());
-    refused(
-        &rt,
-        &mut a,
-        SessionWord::Mark { number: 1 },
-        SessionRefusal::NoTurn,
-    );
-    pass(&rt, &mut b, &mut a, SessionWord::Mark { number: 1 });
-    Ok(())
+fn gives_and_asks_for_the_token(rt: HostRuntime) {
+    go_direct(&rt, rt.alloc(), &TOKENS);
 }
+
+const LOWER_WON: [Step; 6] = [
+    Is(A, Awaits(Awaited::Nothing)),
+    Passes(A, Restarted(2)),
+    Is(A, Marked(1)),
+    Is(B, Marked(1)),
+    Turn(true, false),
+    Passes(A, Mark(2)),
+];
 
 /// After marks 1 and 2 A restarts to 3 and B to 2: B's wins.
 #[test]
-fn of_two_restarts_the_lower_wins(rt: HostRuntime) -> Result<(), Fail> {
-    let (mut a, mut b) = direct(&rt, rt.alloc());
-    mark_up_to(&rt, &mut a, &mut b, 2);
-    let from_a = sent(&rt, &mut a, restart(3));
-    let from_b = sent(&rt, &mut b, restart(2));
-    assert!(rt; !a.holds_turn(), "a restart is unanswered");
-    assert!(rt; !is_taken(&rt, &mut b, from_a), "it lost");
-    assert!(rt; is_taken(&rt, &mut a, from_b));
-    assert!(rt; a.state().awaited == Awaited::Nothing);
-    pass(&rt, &mut a, &mut b, restarted(2));
-    assert!(rt; a.state().mark == 1);
-    assert!(rt; b.state().mark == 1);
-    assert!(rt; a.holds_turn() && !b.holds_turn());
-    pass(&rt, &mut a, &mut b, SessionWord::Mark { number: 2 });
-    Ok(())
+fn of_two_restarts_the_lower_wins(rt: HostRuntime) {
+    let mut both = direct(&rt, rt.alloc());
+    go(&rt, rt.alloc(), &mut both, "marks", &TWO_MARKS);
+    let from_a = sent(&rt, &mut both.a, said(rt.alloc(), Restart(3)));
+    let from_b = sent(&rt, &mut both.b, said(rt.alloc(), Restart(2)));
+    assert!(rt; !both.a.holds_turn(), "a restart is unanswered");
+    assert!(rt; !is_taken(&rt, &mut both.b, from_a), "it lost");
+    assert!(rt; is_taken(&rt, &mut both.a, from_b));
+    go(&rt, rt.alloc(), &mut both, "the answer", &LOWER_WON);
+    drop(both);
 }
+
+const INITIATOR_WON: [Step; 3] = [Passes(B, Restarted(2)), Is(A, Marked(1)), Is(B, Marked(1))];
 
 /// Both restart to 2: the initiator's wins.
 #[test]
-fn on_a_tie_the_initiators_restart_wins(rt: HostRuntime) -> Result<(), Fail> {
-    let (mut a, mut b) = direct(&rt, rt.alloc());
-    mark_up_to(&rt, &mut a, &mut b, 2);
-    let from_a = sent(&rt, &mut a, restart(2));
-    let from_b = sent(&rt, &mut b, restart(2));
-    assert!(rt; !is_taken(&rt, &mut a, from_b), "it lost");
-    assert!(rt; is_taken(&rt, &mut b, from_a));
-    pass(&rt, &mut b, &mut a, restarted(2));
-    assert!(rt; a.state().mark == 1);
-    assert!(rt; b.state().mark == 1);
-    Ok(())
+fn on_a_tie_the_initiators_restart_wins(rt: HostRuntime) {
+    let mut both = direct(&rt, rt.alloc());
+    go(&rt, rt.alloc(), &mut both, "marks", &TWO_MARKS);
+    let from_a = sent(&rt, &mut both.a, said(rt.alloc(), Restart(2)));
+    let from_b = sent(&rt, &mut both.b, said(rt.alloc(), Restart(2)));
+    assert!(rt; !is_taken(&rt, &mut both.a, from_b), "it lost");
+    assert!(rt; is_taken(&rt, &mut both.b, from_a));
+    go(&rt, rt.alloc(), &mut both, "the answer", &INITIATOR_WON);
+    drop(both);
 }
 
+const TAKEN_BACK: [Step; 3] = [
+    // the first isn't answered
+    OutOfPlace(B, Restart(1)),
+    Passes(B, Restarted(1)),
+    Turn(true, false),
+];
+
 #[test]
-fn a_restart_takes_the_token_back(rt: HostRuntime) -> Result<(), Fail> {
-    let (mut a, mut b) = direct(&rt, rt.alloc());
-    pass(
+fn a_restart_takes_the_token_back(rt: HostRuntime) {
+    let mut both = direct(&rt, rt.alloc());
+    go(
         &rt,
-        &mut a,
-        &mut b,
-        SessionWord::GiveTokens { tokens: Some(4) },
+        rt.alloc(),
+        &mut both,
+        "the token",
+        &[Passes(A, Give(Some(4)))],
     );
-    let back = sent(&rt, &mut b, SessionWord::GiveTokens { tokens: Some(4) });
-    let from_a = sent(&rt, &mut a, restart(1));
-    assert!(rt; !is_taken(&rt, &mut a, back), "it is passed over");
-    assert!(rt; is_taken(&rt, &mut b, from_a));
-    assert!(rt;
-        is_out_of_place(&mut b, restart(1)),
-        "the first isn't answered"
-    );
-    pass(&rt, &mut b, &mut a, restarted(1));
-    assert!(rt; a.holds_turn() && !b.holds_turn());
-    Ok(())
+    let back = sent(&rt, &mut both.b, said(rt.alloc(), Give(Some(4))));
+    let from_a = sent(&rt, &mut both.a, said(rt.alloc(), Restart(1)));
+    assert!(rt; !is_taken(&rt, &mut both.a, back), "it is passed over");
+    assert!(rt; is_taken(&rt, &mut both.b, from_a));
+    go(&rt, rt.alloc(), &mut both, "the answer", &TAKEN_BACK);
+    drop(both);
 }
 
-#[test]
-fn while_a_restart_is_unanswered(rt: HostRuntime) -> Result<(), Fail> {
-    let (mut a, mut b) = direct(&rt, rt.alloc());
-    assert!(rt; sent(&rt, &mut b, restart(1)).len() == 2);
-    refused(&rt, &mut b, some_data(rt.alloc()), SessionRefusal::Waiting);
-    refused(&rt, &mut b, restart(1), SessionRefusal::Waiting);
-    assert!(rt; b.alteration_refusal() == Some(SessionRefusal::Waiting));
-    assert!(rt; is_passed(&mut b, some_data(rt.alloc())));
-    assert!(rt; is_passed(&mut b, SessionWord::Mark { number: 7 }));
-    assert!(rt;
-        is_out_of_place(&mut b, restarted(2)),
-        "an answer to another restart"
-    );
+const UNANSWERED: [Step; 10] = [
+    Loses(B, Restart(1), 2),
+    Refused(B, Data, SessionRefusal::Waiting),
+    Refused(B, Restart(1), SessionRefusal::Waiting),
+    NoAlteration(B, SessionRefusal::Waiting),
+    PassedOver(B, Data),
+    PassedOver(B, Mark(7)),
+    // an answer to another restart
+    OutOfPlace(B, Restarted(2)),
     // A release is heard, and answered.
-    pass(&rt, &mut a, &mut b, finish(rt.alloc()));
-    pass(&rt, &mut b, &mut a, disconnect(rt.alloc()));
-    assert!(rt; a.state().phase == SessionPhase::Over);
-    Ok(())
-}
+    Passes(A, Finish),
+    Passes(B, Disconnect),
+    Is(A, Phase(SessionPhase::Over)),
+];
 
 #[test]
-fn what_is_out_of_place(rt: HostRuntime) -> Result<(), Fail> {
-    let (mut a, mut b) = direct(&rt, rt.alloc());
-    assert!(rt;
-        is_out_of_place(&mut b, SessionWord::Mark { number: 7 }),
-        "1 is next"
-    );
-    assert!(rt;
-        is_out_of_place(&mut a, SessionWord::Mark { number: 1 }),
-        "A has the token"
-    );
-    assert!(rt; is_out_of_place(&mut b, restart(2)), "1 is next");
-    assert!(rt; is_out_of_place(&mut b, restarted(1)), "nothing was asked");
-    assert!(rt; is_out_of_place(&mut b, SessionWord::ActivityStart { activity: 1 }));
-    assert!(rt;
-        is_out_of_place(&mut a, finish(rt.alloc())),
-        "a responder doesn't release"
-    );
-    assert!(rt; is_out_of_place(&mut b, disconnect(rt.alloc())));
-    assert!(rt; is_out_of_place(&mut b, SessionWord::GiveTokensConfirm));
-    assert!(rt; is_out_of_place(&mut b, connect(rt.alloc(), 0x042A)));
-    assert!(rt; is_passed(&mut b, SessionWord::GiveTokens { tokens: None }));
-    Ok(())
+fn while_a_restart_is_unanswered(rt: HostRuntime) {
+    go_direct(&rt, rt.alloc(), &UNANSWERED);
 }
 
+const MISPLACED: [Step; 10] = [
+    // 1 is next
+    OutOfPlace(B, Mark(7)),
+    // A has the token
+    OutOfPlace(A, Mark(1)),
+    // 1 is next
+    OutOfPlace(B, Restart(2)),
+    // nothing was asked
+    OutOfPlace(B, Restarted(1)),
+    OutOfPlace(B, Start(1)),
+    // a responder doesn't release
+    OutOfPlace(A, Finish),
+    OutOfPlace(B, Disconnect),
+    OutOfPlace(B, GiveAll),
+    OutOfPlace(B, Connect(0x042A)),
+    PassedOver(B, Give(None)),
+];
+
 #[test]
-fn a_break_ends_it(rt: HostRuntime) -> Result<(), Fail> {
-    let (mut a, b) = direct(&rt, rt.alloc());
-    a.broke();
-    assert!(rt; a.state().phase == SessionPhase::Over);
-    assert!(rt; b.state().phase == SessionPhase::Up);
-    Ok(())
+fn what_is_out_of_place(rt: HostRuntime) {
+    go_direct(&rt, rt.alloc(), &MISPLACED);
+}
+
+const BROKEN: [Step; 3] = [
+    Breaks(A),
+    Is(A, Phase(SessionPhase::Over)),
+    Is(B, Phase(SessionPhase::Up)),
+];
+
+#[test]
+fn a_break_ends_it(rt: HostRuntime) {
+    go_direct(&rt, rt.alloc(), &BROKEN);
 }

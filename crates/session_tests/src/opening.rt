@@ -1,141 +1,192 @@
 //! How an association begins and ends.
 
+use crate::exchange::State::{Owes, Phase};
+use crate::exchange::Step::{
+    Breaks, Connects, Denied, Is, Loses, NoAlteration, OutOfPlace, Passes, Refused, Turn,
+};
+use crate::exchange::Word::{
+    Abort, Accept, BareAccept, Connect, Data, Disconnect, Finish, Give, Mark, Refuse, Restart,
+};
 use crate::exchange::*;
-use osi_base::{Octets, SessionWord};
-use session_subset::{Owed, Session, SessionPhase, SessionRefusal, is_acceptable};
+use Side::{A, B};
+use osi_base::Side;
+use session_subset::{Owed, SessionPhase, SessionRefusal, is_acceptable};
+use std::alloc::Global;
 use std::test::*;
 
+const RELEASED: [Step; 8] = [
+    Is(A, Phase(SessionPhase::Up)),
+    Turn(true, false),
+    Passes(A, Finish),
+    Is(A, Phase(SessionPhase::Releasing)),
+    Is(B, Owes(Owed::Release)),
+    Passes(B, Disconnect),
+    Is(A, Phase(SessionPhase::Over)),
+    Is(B, Phase(SessionPhase::Over)),
+];
+
 #[test]
-fn opens_and_releases(rt: HostRuntime) -> Result<(), Fail> {
-    let (mut a, mut b) = direct(&rt, rt.alloc());
-    assert!(rt; a.state().phase == SessionPhase::Up);
-    assert!(rt; a.state().units == b.state().units);
-    assert!(rt; a.state().units.duplex && a.state().units.resynchronize);
-    assert!(rt; !a.state().units.half_duplex && !a.state().units.activity_management);
-    assert!(rt; a.holds_turn() && !b.holds_turn());
-    pass(&rt, &mut a, &mut b, finish(rt.alloc()));
-    assert!(rt; a.state().phase == SessionPhase::Releasing);
-    assert!(rt; b.state().owed == Owed::Release);
-    pass(&rt, &mut b, &mut a, disconnect(rt.alloc()));
-    assert!(rt; a.state().phase == SessionPhase::Over);
-    assert!(rt; b.state().phase == SessionPhase::Over);
-    Ok(())
+fn opens_and_releases(rt: HostRuntime) {
+    let mut both = direct(&rt, rt.alloc());
+    let units = both.a.state().units;
+    assert!(rt; units == both.b.state().units);
+    assert!(rt; units.duplex && units.resynchronize);
+    assert!(rt; !units.half_duplex && !units.activity_management);
+    go(&rt, rt.alloc(), &mut both, "a release", &RELEASED);
+    drop(both);
 }
+
+/// A CONNECT: its requirements, version, first mark and setting of tokens.
+type Asked = (u16, Option<u8>, Option<u32>, Option<u8>);
+
+/// Whether it is acceptable in this mode.
+fn may_be_accepted(alloc: Global, reliable: bool, asked: Asked) -> bool {
+    let (requirements, version, initial, token_setting) = asked;
+    let mut connect = connecting(alloc, requirements);
+    connect.version = version;
+    connect.initial = initial;
+    connect.token_setting = token_setting;
+    let may_be = is_acceptable(reliable, &connect);
+    drop(connect);
+    may_be
+}
+
+const DUPLEX_ALONE: [Step; 6] = [
+    NoAlteration(B, SessionRefusal::NotNegotiated),
+    Refused(A, Mark(1), SessionRefusal::NotNegotiated),
+    Refused(A, Restart(1), SessionRefusal::NotNegotiated),
+    Refused(A, Give(Some(4)), SessionRefusal::NotNegotiated),
+    // its unit isn't selected
+    OutOfPlace(B, Restart(1)),
+    Passes(A, Data),
+];
 
 /// A client that wants duplex alone, 0002: no marks, no restarts, no alterations.
 #[test]
-fn a_client_of_duplex_alone(rt: HostRuntime) -> Result<(), Fail> {
-    assert!(rt; is_acceptable(false, &connecting(rt.alloc(), 0x0002)));
-    let mut a = Session::new(rt.alloc(), true, false);
-    let mut b = Session::new(rt.alloc(), false, false);
-    join(&rt, rt.alloc(), 0x0002, &mut a, &mut b);
-    assert!(rt; b.alteration_refusal() == Some(SessionRefusal::NotNegotiated));
-    let mark = SessionWord::Mark { number: 1 };
-    refused(&rt, &mut a, mark, SessionRefusal::NotNegotiated);
-    refused(&rt, &mut a, restart(1), SessionRefusal::NotNegotiated);
-    let give = SessionWord::GiveTokens { tokens: Some(4) };
-    refused(&rt, &mut a, give, SessionRefusal::NotNegotiated);
-    assert!(rt;
-        is_out_of_place(&mut b, restart(1)),
-        "its unit isn't selected"
-    );
-    pass(&rt, &mut a, &mut b, some_data(rt.alloc()));
-    Ok(())
+fn a_client_of_duplex_alone(rt: HostRuntime) {
+    assert!(rt; may_be_accepted(rt.alloc(), false, (0x0002, Some(2), None, None)));
+    let mut both = two_ends(rt.alloc(), false);
+    join(&rt, rt.alloc(), 0x0002, &mut both);
+    go(&rt, rt.alloc(), &mut both, "duplex alone", &DUPLEX_ALONE);
+    drop(both);
 }
 
-#[test]
-fn what_a_connect_must_say(rt: HostRuntime) -> Result<(), Fail> {
-    // the requirements of reliable mode, those of direct mode in its place, and none of duplex
-    assert!(rt; is_acceptable(true, &connecting(rt.alloc(), 0x0449)));
-    assert!(rt; !is_acceptable(true, &connecting(rt.alloc(), 0x042A)));
-    assert!(rt; !is_acceptable(false, &connecting(rt.alloc(), 0x0008)));
-    let mut connect = connecting(rt.alloc(), 0x042A);
-    connect.version = None;
-    assert!(rt; !is_acceptable(false, &connect), "version 2 lacks");
-    connect.version = Some(3);
-    connect.initial = Some(1);
-    connect.token_setting = Some(0xAA);
-    assert!(rt;
-        is_acceptable(false, &connect),
-        "the choice of tokens is the responder's"
-    );
-    connect.token_setting = Some(0x04);
-    assert!(rt;
-        !is_acceptable(false, &connect),
-        "a token is at the responder"
-    );
-    connect.token_setting = None;
-    connect.initial = Some(2);
-    assert!(rt;
-        !is_acceptable(false, &connect),
-        "marks begin at another number"
-    );
-    Ok(())
-}
+/// What each row shows, the mode, what is asked, and whether it is acceptable.
+const CONNECTS: [(&'static str, bool, Asked, bool); 7] = [
+    (
+        "the requirements of reliable mode",
+        true,
+        (0x0449, Some(2), None, None),
+        true,
+    ),
+    (
+        "those of direct mode in its place",
+        true,
+        (0x042A, Some(2), None, None),
+        false,
+    ),
+    (
+        "none of duplex",
+        false,
+        (0x0008, Some(2), None, None),
+        false,
+    ),
+    ("version 2 lacks", false, (0x042A, None, None, None), false),
+    (
+        "the choice of tokens is the responder's",
+        false,
+        (0x042A, Some(3), Some(1), Some(0xAA)),
+        true,
+    ),
+    (
+        "a token is at the responder",
+        false,
+        (0x042A, Some(3), Some(1), Some(0x04)),
+        false,
+    ),
+    (
+        "marks begin at another number",
+        false,
+        (0x042A, Some(3), Some(2), None),
+        false,
+    ),
+];
 
 #[test]
-fn a_refusal_ends_it(rt: HostRuntime) -> Result<(), Fail> {
-    let mut a = Session::new(rt.alloc(), true, true);
-    let mut b = Session::new(rt.alloc(), false, true);
-    pass(&rt, &mut a, &mut b, connect(rt.alloc(), 0x042A));
-    let refusal = SessionWord::Refuse {
-        transport: Some(1),
-        reason: None,
-        user: None,
-    };
-    pass(&rt, &mut b, &mut a, refusal);
-    assert!(rt; a.state().phase == SessionPhase::Over);
-    assert!(rt; b.state().phase == SessionPhase::Over);
-    Ok(())
+fn what_a_connect_must_say(rt: HostRuntime) {
+    for (shows, reliable, asked, may_be) in &CONNECTS {
+        assert!(rt;
+            may_be_accepted(rt.alloc(), *reliable, *asked) == *may_be,
+            "{shows}"
+        );
+    }
 }
 
+const REFUSAL: [Step; 4] = [
+    Passes(A, Connect(0x042A)),
+    Passes(B, Refuse),
+    Is(A, Phase(SessionPhase::Over)),
+    Is(B, Phase(SessionPhase::Over)),
+];
+
 #[test]
-fn an_accept_that_lacks_a_unit(rt: HostRuntime) -> Result<(), Fail> {
-    let mut a = Session::new(rt.alloc(), true, true);
-    assert!(rt; sent(&rt, &mut a, connect(rt.alloc(), 0x0449)).len() == 1);
+fn a_refusal_ends_it(rt: HostRuntime) {
+    let mut both = two_ends(rt.alloc(), true);
+    go(&rt, rt.alloc(), &mut both, "a refusal", &REFUSAL);
+    drop(both);
+}
+
+const LACKING: [Step; 4] = [
+    Loses(A, Connect(0x0449), 1),
     // activity management lacks, and then the version
-    assert!(rt; is_out_of_place(&mut a, accept(rt.alloc(), 0x0409)));
-    let without_version = SessionWord::Accept {
-        options: None,
-        version: None,
-        initial: None,
-        requirements: Some(0x0449),
-        user: Octets::new(rt.alloc()),
-    };
-    assert!(rt; is_out_of_place(&mut a, without_version));
-    assert!(rt;
-        is_out_of_place(&mut a, some_data(rt.alloc())),
-        "nothing stands yet"
-    );
-    Ok(())
+    OutOfPlace(A, Accept(0x0409)),
+    OutOfPlace(A, BareAccept(0x0449)),
+    // nothing stands yet
+    OutOfPlace(A, Data),
+];
+
+#[test]
+fn an_accept_that_lacks_a_unit(rt: HostRuntime) {
+    let mut both = two_ends(rt.alloc(), true);
+    go(&rt, rt.alloc(), &mut both, "an accept", &LACKING);
+    drop(both);
 }
+
+const EARLY_ABORT: [Step; 2] = [Loses(A, Abort, 0), Is(A, Phase(SessionPhase::Over))];
+
+const LATE_ABORT: [Step; 3] = [
+    Passes(A, Abort),
+    Is(A, Phase(SessionPhase::Over)),
+    Is(B, Phase(SessionPhase::Over)),
+];
 
 /// Before a CONNECT nothing is sent for an abort.
 #[test]
-fn aborts(rt: HostRuntime) -> Result<(), Fail> {
-    let mut a = Session::new(rt.alloc(), true, false);
-    assert!(rt; sent(&rt, &mut a, abort()).len() == 0);
-    assert!(rt; a.state().phase == SessionPhase::Over);
-    let (mut a, mut b) = direct(&rt, rt.alloc());
-    pass(&rt, &mut a, &mut b, abort());
-    assert!(rt; a.state().phase == SessionPhase::Over);
-    assert!(rt; b.state().phase == SessionPhase::Over);
-    Ok(())
+fn aborts(rt: HostRuntime) {
+    let mut both = two_ends(rt.alloc(), false);
+    go(&rt, rt.alloc(), &mut both, "before a CONNECT", &EARLY_ABORT);
+    drop(both);
+    go_direct(&rt, rt.alloc(), &LATE_ABORT);
 }
 
+const INITIATOR: [Step; 6] = [
+    Breaks(A),
+    Is(A, Phase(SessionPhase::Idle)),
+    Connects(A),
+    Is(A, Phase(SessionPhase::Opening)),
+    Breaks(A),
+    Is(A, Phase(SessionPhase::Over)),
+];
+
+const RESPONDER: [Step; 3] = [Connects(B), Denied(B), Is(B, Phase(SessionPhase::Over))];
+
 #[test]
-fn the_transport_connection(rt: HostRuntime) -> Result<(), Fail> {
-    let mut a = Session::new(rt.alloc(), true, false);
-    a.broke();
-    assert!(rt; a.state().phase == SessionPhase::Idle);
-    a.transport_asked();
-    assert!(rt; a.state().phase == SessionPhase::Opening);
-    a.broke();
-    assert!(rt; a.state().phase == SessionPhase::Over);
-    let mut b = Session::new(rt.alloc(), false, true);
-    b.transport_asked();
-    b.transport_refused();
-    assert!(rt; b.state().phase == SessionPhase::Over);
-    assert!(rt; !b.role().initiator && b.role().reliable);
-    Ok(())
+fn the_transport_connection(rt: HostRuntime) {
+    let mut both = two_ends(rt.alloc(), false);
+    go(&rt, rt.alloc(), &mut both, "of an initiator", &INITIATOR);
+    drop(both);
+    let mut both = two_ends(rt.alloc(), true);
+    go(&rt, rt.alloc(), &mut both, "of a responder", &RESPONDER);
+    assert!(rt; !both.b.role().initiator && both.b.role().reliable);
+    drop(both);
 }

@@ -1,214 +1,239 @@
 //! Activities, the turn and recovery in reliable mode.
 
+use crate::exchange::State::{Confirmed, Gives, Kept, Own, Peer, Phase};
+use crate::exchange::Step::{
+    Breaks, Connects, Is, Loses, NoAlteration, OutOfPlace, Passes, Refused, Turn,
+};
+use crate::exchange::Word::{
+    Accept, Connect, Data, Discard, DiscardAck, End, EndAck, Finish, GiveAll, GiveAllAck,
+    Interrupt, InterruptAck, Mark, MarkAck, Resume, Start,
+};
 use crate::exchange::*;
-use osi_base::SessionWord;
-use session_subset::{Progress, Session, SessionPhase, SessionRefusal};
-use std::alloc::Global;
-use std::process::Abort;
+use Side::{A, B};
+use osi_base::Side;
+use session_subset::{Progress, SessionPhase, SessionRefusal};
 use std::test::*;
 
-fn start(activity: u32) -> SessionWord {
-    SessionWord::ActivityStart { activity }
-}
-
-fn resume(activity: u32, mark: u32) -> SessionWord {
-    SessionWord::ActivityResume { activity, mark }
-}
-
-fn mark(number: u32) -> SessionWord {
-    SessionWord::Mark { number }
-}
-
-fn mark_answer(number: u32) -> SessionWord {
-    SessionWord::MarkAck { number }
-}
-
-fn end(number: u32) -> SessionWord {
-    SessionWord::ActivityEnd { number }
-}
-
-fn end_answer(number: u32) -> SessionWord {
-    SessionWord::ActivityEndAck { number }
-}
-
-/// Data with a mark behind it.
-fn pass_chunk(rt: &impl Abort, alloc: Global, a: &mut Session, b: &mut Session, number: u32) {
-    pass(rt, a, b, some_data(alloc));
-    pass(rt, a, b, mark(number));
-}
-
 /// A transfer of three chunks with two marks at a time, up to its end, which isn't answered.
-fn pass_transfer(rt: &impl Abort, alloc: Global, a: &mut Session, b: &mut Session) {
-    pass(rt, a, b, start(1));
-    pass_chunk(rt, alloc, a, b, 1);
-    pass_chunk(rt, alloc, a, b, 2);
-    pass(rt, b, a, mark_answer(1));
-    pass(rt, a, b, some_data(alloc));
-    pass(rt, a, b, end(3));
-}
+const TRANSFER: [Step; 8] = [
+    Passes(A, Start(1)),
+    Passes(A, Data),
+    Passes(A, Mark(1)),
+    Passes(A, Data),
+    Passes(A, Mark(2)),
+    Passes(B, MarkAck(1)),
+    Passes(A, Data),
+    Passes(A, End(3)),
+];
 
 /// The connection breaks, and A recovers the association on a new one.
-fn recover(rt: &impl Abort, alloc: Global, a: &mut Session, b: &mut Session) {
-    a.broke();
-    b.broke();
-    assert!(rt; a.state().phase == SessionPhase::Broken);
-    a.transport_asked();
-    b.transport_asked();
-    assert!(rt; a.state().phase == SessionPhase::Recovering);
-    assert!(rt; b.state().phase == SessionPhase::Broken);
-    join(rt, alloc, 0x0449, a, b);
-    assert!(rt; b.state().phase == SessionPhase::Up);
-}
+const RECOVERY: [Step; 10] = [
+    Breaks(A),
+    Breaks(B),
+    Is(A, Phase(SessionPhase::Broken)),
+    Connects(A),
+    Connects(B),
+    Is(A, Phase(SessionPhase::Recovering)),
+    Is(B, Phase(SessionPhase::Broken)),
+    Passes(A, Connect(0x0449)),
+    Passes(B, Accept(0x0449)),
+    Is(B, Phase(SessionPhase::Up)),
+];
+
+const AT_THE_END: [Step; 6] = [
+    Refused(A, Interrupt, SessionRefusal::Ending(1)),
+    NoAlteration(A, SessionRefusal::Ending(1)),
+    Passes(B, MarkAck(2)),
+    Passes(B, EndAck(3)),
+    Is(A, Own(Progress::Absent)),
+    Passes(A, Start(2)),
+];
 
 #[test]
-fn a_transfer(rt: HostRuntime) -> Result<(), Fail> {
-    let (mut a, mut b) = reliable(&rt, rt.alloc());
-    pass_transfer(&rt, rt.alloc(), &mut a, &mut b);
-    refused(&rt, &mut a, interrupt(), SessionRefusal::Ending(1));
-    assert!(rt; a.alteration_refusal() == Some(SessionRefusal::Ending(1)));
-    pass(&rt, &mut b, &mut a, mark_answer(2));
-    pass(&rt, &mut b, &mut a, end_answer(3));
-    assert!(rt; a.state().own.progress == Progress::Absent);
-    pass(&rt, &mut a, &mut b, start(2));
-    Ok(())
+fn a_transfer(rt: HostRuntime) {
+    let mut both = reliable(&rt, rt.alloc());
+    go(&rt, rt.alloc(), &mut both, "a transfer", &TRANSFER);
+    go(&rt, rt.alloc(), &mut both, "at its end", &AT_THE_END);
+    drop(both);
 }
+
+const BEFORE_A_BREAK: [Step; 8] = [
+    Passes(A, Start(1)),
+    Passes(A, Data),
+    Passes(A, Mark(1)),
+    Passes(A, Data),
+    Passes(A, Mark(2)),
+    // 1 is the lowest
+    OutOfPlace(A, MarkAck(2)),
+    Passes(B, MarkAck(1)),
+    Loses(A, End(3), 2),
+];
+
+const AFTER_A_BREAK: [Step; 9] = [
+    Is(A, Own(Progress::Suspended)),
+    Is(B, Kept(2)),
+    // that mark isn't kept
+    OutOfPlace(B, Resume(1, 3)),
+    Passes(A, Resume(1, 1)),
+    Passes(A, Data),
+    Passes(A, Mark(2)),
+    Passes(A, End(3)),
+    Passes(B, MarkAck(2)),
+    Passes(B, EndAck(3)),
+];
 
 /// A break after the end was sent and before it came: the transfer goes on from the mark that was
 /// confirmed.
 #[test]
-fn a_transfer_after_a_break(rt: HostRuntime) -> Result<(), Fail> {
-    let (mut a, mut b) = reliable(&rt, rt.alloc());
-    pass(&rt, &mut a, &mut b, start(1));
-    pass_chunk(&rt, rt.alloc(), &mut a, &mut b, 1);
-    pass_chunk(&rt, rt.alloc(), &mut a, &mut b, 2);
-    pass(&rt, &mut b, &mut a, mark_answer(1));
-    assert!(rt; sent(&rt, &mut a, end(3)).len() == 2);
-    recover(&rt, rt.alloc(), &mut a, &mut b);
-    assert!(rt; a.state().own.progress == Progress::Suspended);
-    assert!(rt; b.state().peer.marks == 2);
-    assert!(rt;
-        is_out_of_place(&mut b, resume(1, 3)),
-        "that mark isn't kept"
+fn a_transfer_after_a_break(rt: HostRuntime) {
+    let mut both = reliable(&rt, rt.alloc());
+    go(
+        &rt,
+        rt.alloc(),
+        &mut both,
+        "before the break",
+        &BEFORE_A_BREAK,
     );
-    pass(&rt, &mut a, &mut b, resume(1, 1));
-    pass_chunk(&rt, rt.alloc(), &mut a, &mut b, 2);
-    pass(&rt, &mut a, &mut b, end(3));
-    pass(&rt, &mut b, &mut a, mark_answer(2));
-    pass(&rt, &mut b, &mut a, end_answer(3));
-    Ok(())
+    go(&rt, rt.alloc(), &mut both, "the recovery", &RECOVERY);
+    go(
+        &rt,
+        rt.alloc(),
+        &mut both,
+        "after the break",
+        &AFTER_A_BREAK,
+    );
+    drop(both);
 }
+
+const ANSWERS_LOST: [Step; 2] = [Loses(B, MarkAck(2), 2), Loses(B, EndAck(3), 2)];
+
+const RESUMED: [Step; 7] = [
+    Passes(A, Resume(1, 1)),
+    Passes(A, Data),
+    Passes(A, Mark(2)),
+    Passes(A, End(3)),
+    Passes(B, MarkAck(2)),
+    Passes(B, EndAck(3)),
+    Passes(A, Start(2)),
+];
 
 /// All has come and the answer to the end is lost: the activity is resumed and ended again.
 #[test]
-fn a_completed_activity_is_resumed(rt: HostRuntime) -> Result<(), Fail> {
-    let (mut a, mut b) = reliable(&rt, rt.alloc());
-    pass_transfer(&rt, rt.alloc(), &mut a, &mut b);
-    assert!(rt; sent(&rt, &mut b, mark_answer(2)).len() == 2);
-    assert!(rt; sent(&rt, &mut b, end_answer(3)).len() == 2);
-    recover(&rt, rt.alloc(), &mut a, &mut b);
-    pass(&rt, &mut a, &mut b, resume(1, 1));
-    pass_chunk(&rt, rt.alloc(), &mut a, &mut b, 2);
-    pass(&rt, &mut a, &mut b, end(3));
-    pass(&rt, &mut b, &mut a, mark_answer(2));
-    pass(&rt, &mut b, &mut a, end_answer(3));
-    pass(&rt, &mut a, &mut b, start(2));
-    Ok(())
+fn a_completed_activity_is_resumed(rt: HostRuntime) {
+    let mut both = reliable(&rt, rt.alloc());
+    go(&rt, rt.alloc(), &mut both, "a transfer", &TRANSFER);
+    go(&rt, rt.alloc(), &mut both, "its answers", &ANSWERS_LOST);
+    go(&rt, rt.alloc(), &mut both, "the recovery", &RECOVERY);
+    go(&rt, rt.alloc(), &mut both, "after the break", &RESUMED);
+    drop(both);
 }
+
+const TURN_LOST: [Step; 2] = [Loses(A, GiveAll, 1), Turn(false, false)];
+
+const TURN_GIVEN: [Step; 8] = [
+    Turn(true, false),
+    Refused(B, GiveAll, SessionRefusal::NoTurn),
+    Passes(A, GiveAll),
+    Is(A, Gives),
+    Turn(false, true),
+    Passes(B, GiveAllAck),
+    // it is answered
+    OutOfPlace(A, GiveAllAck),
+    Passes(B, GiveAll),
+];
 
 /// A break before the turn that was given came.
 #[test]
-fn a_turn_lost_in_a_break(rt: HostRuntime) -> Result<(), Fail> {
-    let (mut a, mut b) = reliable(&rt, rt.alloc());
-    assert!(rt; sent(&rt, &mut a, SessionWord::GiveTokensConfirm).len() == 1);
-    assert!(rt; !a.holds_turn() && !b.holds_turn());
-    recover(&rt, rt.alloc(), &mut a, &mut b);
-    assert!(rt; a.holds_turn() && !b.holds_turn());
-    refused(
-        &rt,
-        &mut b,
-        SessionWord::GiveTokensConfirm,
-        SessionRefusal::NoTurn,
-    );
-    pass(&rt, &mut a, &mut b, SessionWord::GiveTokensConfirm);
-    assert!(rt; a.state().giving && b.holds_turn());
-    pass(&rt, &mut b, &mut a, SessionWord::GiveTokensAck);
-    assert!(rt;
-        is_out_of_place(&mut a, SessionWord::GiveTokensAck),
-        "it is answered"
-    );
-    pass(&rt, &mut b, &mut a, SessionWord::GiveTokensConfirm);
-    Ok(())
+fn a_turn_lost_in_a_break(rt: HostRuntime) {
+    let mut both = reliable(&rt, rt.alloc());
+    go(&rt, rt.alloc(), &mut both, "before the break", &TURN_LOST);
+    go(&rt, rt.alloc(), &mut both, "the recovery", &RECOVERY);
+    go(&rt, rt.alloc(), &mut both, "after the break", &TURN_GIVEN);
+    drop(both);
 }
+
+const BEFORE_AN_INTERRUPT: [Step; 6] = [
+    Passes(A, Start(1)),
+    Passes(A, Data),
+    Passes(A, Mark(1)),
+    Passes(A, Data),
+    Passes(A, Mark(2)),
+    Passes(B, MarkAck(1)),
+];
+
+const INTERRUPTED: [Step; 7] = [
+    Passes(B, InterruptAck),
+    Is(A, Confirmed(1)),
+    Refused(A, Start(2), SessionRefusal::ActivityOpen(1)),
+    Refused(A, Finish, SessionRefusal::ActivityOpen(1)),
+    Refused(A, Interrupt, SessionRefusal::NoActivity),
+    Passes(A, Resume(1, 1)),
+    Passes(A, Mark(2)),
+];
 
 /// Answers to marks that come after an interrupt are passed over, and the transfer goes on later.
 #[test]
-fn an_interrupt(rt: HostRuntime) -> Result<(), Fail> {
-    let (mut a, mut b) = reliable(&rt, rt.alloc());
-    pass(&rt, &mut a, &mut b, start(1));
-    pass_chunk(&rt, rt.alloc(), &mut a, &mut b, 1);
-    pass_chunk(&rt, rt.alloc(), &mut a, &mut b, 2);
-    pass(&rt, &mut b, &mut a, mark_answer(1));
-    let late = sent(&rt, &mut b, mark_answer(2));
-    pass(&rt, &mut a, &mut b, interrupt());
-    assert!(rt; !is_taken(&rt, &mut a, late), "it is passed over");
-    pass(&rt, &mut b, &mut a, SessionWord::ActivityInterruptAck);
-    assert!(rt; a.state().own.confirmed == 1);
-    refused(&rt, &mut a, start(2), SessionRefusal::ActivityOpen(1));
-    refused(
+fn an_interrupt(rt: HostRuntime) {
+    let mut both = reliable(&rt, rt.alloc());
+    go(
         &rt,
-        &mut a,
-        finish(rt.alloc()),
-        SessionRefusal::ActivityOpen(1),
+        rt.alloc(),
+        &mut both,
+        "a transfer",
+        &BEFORE_AN_INTERRUPT,
     );
-    refused(&rt, &mut a, interrupt(), SessionRefusal::NoActivity);
-    pass(&rt, &mut a, &mut b, resume(1, 1));
-    pass(&rt, &mut a, &mut b, mark(2));
-    Ok(())
+    let late = sent(&rt, &mut both.b, said(rt.alloc(), MarkAck(2)));
+    go(
+        &rt,
+        rt.alloc(),
+        &mut both,
+        "the interrupt",
+        &[Passes(A, Interrupt)],
+    );
+    assert!(rt; !is_taken(&rt, &mut both.a, late), "it is passed over");
+    go(&rt, rt.alloc(), &mut both, "its answer", &INTERRUPTED);
+    drop(both);
 }
 
 /// A discarded transfer is forgotten; its number stays.
-#[test]
-fn a_discard(rt: HostRuntime) -> Result<(), Fail> {
-    let (mut a, mut b) = reliable(&rt, rt.alloc());
-    pass(&rt, &mut a, &mut b, start(1));
-    pass_chunk(&rt, rt.alloc(), &mut a, &mut b, 1);
-    pass(&rt, &mut b, &mut a, mark_answer(1));
-    pass(&rt, &mut a, &mut b, discard());
-    assert!(rt; b.state().peer.number == 1);
-    assert!(rt; b.state().peer.marks == 0);
-    pass(&rt, &mut b, &mut a, SessionWord::ActivityDiscardAck);
-    refused(&rt, &mut a, resume(1, 0), SessionRefusal::NotSuspended);
-    pass(&rt, &mut a, &mut b, start(2));
-    Ok(())
-}
+const DISCARDED: [Step; 10] = [
+    Passes(A, Start(1)),
+    Passes(A, Data),
+    Passes(A, Mark(1)),
+    Passes(B, MarkAck(1)),
+    Passes(A, Discard),
+    Is(B, Peer(1)),
+    Is(B, Kept(0)),
+    Passes(B, DiscardAck),
+    Refused(A, Resume(1, 0), SessionRefusal::NotSuspended),
+    Passes(A, Start(2)),
+];
 
 #[test]
-fn what_the_turn_asks(rt: HostRuntime) -> Result<(), Fail> {
-    let (mut a, mut b) = reliable(&rt, rt.alloc());
-    refused(&rt, &mut b, start(1), SessionRefusal::NoTurn);
-    refused(&rt, &mut b, some_data(rt.alloc()), SessionRefusal::NoTurn);
-    refused(
-        &rt,
-        &mut a,
-        some_data(rt.alloc()),
-        SessionRefusal::NoActivity,
-    );
-    assert!(rt; b.alteration_refusal() == Some(SessionRefusal::NoTurn));
-    assert!(rt; is_out_of_place(&mut a, start(1)), "A has the turn");
-    assert!(rt;
-        is_out_of_place(&mut b, some_data(rt.alloc())),
-        "no activity is in progress"
-    );
-    pass(&rt, &mut a, &mut b, start(1));
-    refused(
-        &rt,
-        &mut a,
-        SessionWord::GiveTokensConfirm,
-        SessionRefusal::ActivityOpen(1),
-    );
-    assert!(rt; is_out_of_place(&mut b, SessionWord::GiveTokensConfirm));
-    assert!(rt; is_out_of_place(&mut b, start(2)), "one is in progress");
-    assert!(rt; is_out_of_place(&mut a, mark_answer(1)), "there is no mark");
-    assert!(rt; is_out_of_place(&mut b, finish(rt.alloc())));
-    Ok(())
+fn a_discard(rt: HostRuntime) {
+    go_reliable(&rt, rt.alloc(), &DISCARDED);
+}
+
+const TURNS: [Step; 12] = [
+    Refused(B, Start(1), SessionRefusal::NoTurn),
+    Refused(B, Data, SessionRefusal::NoTurn),
+    Refused(A, Data, SessionRefusal::NoActivity),
+    NoAlteration(B, SessionRefusal::NoTurn),
+    // A has the turn
+    OutOfPlace(A, Start(1)),
+    // no activity is in progress
+    OutOfPlace(B, Data),
+    Passes(A, Start(1)),
+    Refused(A, GiveAll, SessionRefusal::ActivityOpen(1)),
+    OutOfPlace(B, GiveAll),
+    // one is in progress
+    OutOfPlace(B, Start(2)),
+    // there is no mark
+    OutOfPlace(A, MarkAck(1)),
+    OutOfPlace(B, Finish),
+];
+
+#[test]
+fn what_the_turn_asks(rt: HostRuntime) {
+    go_reliable(&rt, rt.alloc(), &TURNS);
 }

@@ -10,7 +10,7 @@ use context_sets::{Alteration, Contexts, SetFault, SetRefusal};
 use osi_base::{Answers, Side, Syntax};
 use std::alloc::Global;
 use std::process::Abort;
-use std::test::Fail;
+use std::test::*;
 
 /// What an end does, or what then holds of it.
 #[derive(Clone, Copy)]
@@ -114,10 +114,11 @@ struct Both {
     b: Contexts,
 }
 
-fn two_ends(alloc: Global) -> Result<Both, SetFault> {
-    let a = end(alloc, true)?;
-    let b = end(alloc, false)?;
-    Ok(Both { a, b })
+fn two_ends(rt: &impl Abort, alloc: Global) -> Both {
+    Both {
+        a: end(rt, alloc, true),
+        b: end(rt, alloc, false),
+    }
 }
 
 /// One of them.
@@ -130,54 +131,63 @@ fn set_of(both: &Both, side: Side) -> &Contexts {
 
 /// Asks for an alteration while these identifiers are in use.
 fn ask(
+    rt: &impl Abort,
     alloc: Global,
     set: &mut Contexts,
     added: &[u32],
     deleted: &[u32],
     used: &[u32],
 ) -> Result<(), SetRefusal> {
-    let Alteration { added, deleted } = alteration(alloc, added, deleted)?;
-    set.propose(added, deleted, &ids(alloc, used)?)
+    let used = ids(rt, alloc, used);
+    let Alteration { added, deleted } = alteration(rt, alloc, added, deleted);
+    set.propose(added, deleted, &used)
 }
 
 /// Answers an alteration while these identifiers are in use.
 fn answer(
+    rt: &impl Abort,
     alloc: Global,
     set: &mut Contexts,
     added: &[u32],
     deleted: &[u32],
     used: &[u32],
 ) -> Result<Answers, SetFault> {
-    let asked = alteration(alloc, added, deleted)?;
-    let used = ids(alloc, used)?;
-    set.answer(&asked.added, &asked.deleted, &used, &packed_rules(alloc)?)
+    let used = ids(rt, alloc, used);
+    let rules = packed_rules(rt, alloc);
+    let asked = alteration(rt, alloc, added, deleted);
+    let answers = set.answer(&asked.added, &asked.deleted, &used, &rules);
+    drop(asked);
+    drop(rules);
+    answers
 }
 
-/// Settles what one end asked for longest.
-fn settle(
+/// Whether what one end asked for longest is settled.
+fn is_settled(
+    rt: &impl Abort,
     alloc: Global,
     asking: &mut Contexts,
     answering: &mut Contexts,
     added: &[u32],
     deleted: &[u32],
-) -> Result<(), SetFault> {
-    let answers = answer(alloc, answering, added, deleted, &[])?;
-    asking.confirm(&answers)
+) -> bool {
+    let answers = answer(rt, alloc, answering, added, deleted, &[]).expect(rt, "the answers");
+    let taken = asking.confirm(&answers);
+    drop(answers);
+    taken.is_ok()
 }
 
 /// Whether the end neither asks for the deletion of what is in use nor accepts it.
-fn is_kept(alloc: Global, set: &mut Contexts, id: u32) -> bool {
-    let asked = ask(alloc, set, &[], &[id], &[id]);
-    match answer(alloc, set, &[], &[id], &[id]) {
-        Ok(answers) => {
-            asked == Err(SetRefusal::InUse(id)) && answers.deleted.as_slice() == [1].as_slice()
-        }
-        Err(_) => false,
-    }
+fn is_kept(rt: &impl Abort, alloc: Global, set: &mut Contexts, id: u32) -> bool {
+    let asked = ask(rt, alloc, set, &[], &[id], &[id]);
+    let answers = answer(rt, alloc, set, &[], &[id], &[id]).expect(rt, "the answers");
+    let is_refused = answers.deleted.as_slice() == [1].as_slice();
+    drop(answers);
+    asked == Err(SetRefusal::InUse(id)) && is_refused
 }
 
 /// Whether an end is answered so where it asks for an alteration.
 fn ask_at(
+    rt: &impl Abort,
     alloc: Global,
     both: &mut Both,
     side: Side,
@@ -185,21 +195,22 @@ fn ask_at(
     deleted: &[u32],
 ) -> Result<(), SetRefusal> {
     match side {
-        A => ask(alloc, &mut both.a, added, deleted, &[]),
-        B => ask(alloc, &mut both.b, added, deleted, &[]),
+        A => ask(rt, alloc, &mut both.a, added, deleted, &[]),
+        B => ask(rt, alloc, &mut both.b, added, deleted, &[]),
     }
 }
 
-fn settle_from(
+fn is_settled_from(
+    rt: &impl Abort,
     alloc: Global,
     both: &mut Both,
     side: Side,
     added: &[u32],
     deleted: &[u32],
-) -> Result<(), SetFault> {
+) -> bool {
     match side {
-        A => settle(alloc, &mut both.a, &mut both.b, added, deleted),
-        B => settle(alloc, &mut both.b, &mut both.a, added, deleted),
+        A => is_settled(rt, alloc, &mut both.a, &mut both.b, added, deleted),
+        B => is_settled(rt, alloc, &mut both.b, &mut both.a, added, deleted),
     }
 }
 
@@ -212,12 +223,14 @@ fn has_module(set: &Contexts, id: u32, transfer: Syntax) -> bool {
 }
 
 /// Whether a step goes as it should.
-fn goes(alloc: Global, both: &mut Both, step: &Step) -> bool {
+fn goes(rt: &impl Abort, alloc: Global, both: &mut Both, step: &Step) -> bool {
     match step {
-        Asks(side, added, deleted, answer) => ask_at(alloc, both, *side, added, deleted) == *answer,
-        Keeps(A, id) => is_kept(alloc, &mut both.a, *id),
-        Keeps(B, id) => is_kept(alloc, &mut both.b, *id),
-        Settles(side, added, deleted) => settle_from(alloc, both, *side, added, deleted).is_ok(),
+        Asks(side, added, deleted, answer) => {
+            ask_at(rt, alloc, both, *side, added, deleted) == *answer
+        }
+        Keeps(A, id) => is_kept(rt, alloc, &mut both.a, *id),
+        Keeps(B, id) => is_kept(rt, alloc, &mut both.b, *id),
+        Settles(side, added, deleted) => is_settled_from(rt, alloc, both, *side, added, deleted),
         Has(side, id, transfer) => has_module(set_of(both, *side), *id, *transfer),
         Lacks(side, id) => set_of(both, *side).pair(*id).is_none(),
         MaySend(side, id, may) => set_of(both, *side).may_send(*id) == *may,
@@ -227,27 +240,51 @@ fn goes(alloc: Global, both: &mut Both, step: &Step) -> bool {
 }
 
 /// Each step of a row goes as it should.
-fn go(rt: &impl Abort, alloc: Global, shows: &str, steps: &[Step]) -> Result<(), Fail> {
-    let mut both = two_ends(alloc)?;
+fn go(rt: &impl Abort, alloc: Global, shows: &str, steps: &[Step]) {
+    let mut both = two_ends(rt, alloc);
     for (place, step) in steps.iter().enumerate() {
-        assert!(rt; goes(alloc, &mut both, step), "{shows}, step {place}");
+        assert!(rt; goes(rt, alloc, &mut both, step), "{shows}, step {place}");
     }
-    Ok(())
+    drop(both);
 }
 
 #[test]
-fn alterations(rt: HostRuntime) -> Result<(), Fail> {
+fn alterations(rt: HostRuntime) {
     for (shows, steps) in &ROWS {
-        go(&rt, rt.alloc(), shows, steps)?;
+        go(&rt, rt.alloc(), shows, steps);
     }
-    Ok(())
 }
 
 /// 64 contexts are the most.
 #[test]
-fn a_65th_context_is_not_asked_for(rt: HostRuntime) -> Result<(), Fail> {
-    let mut a = full_set(rt.alloc())?;
-    let answer = ask(rt.alloc(), &mut a, &[2_001], &[], &[]);
+fn a_65th_context_is_not_asked_for(rt: HostRuntime) {
+    let mut a = full_set(&rt, rt.alloc());
+    let answer = ask(&rt, rt.alloc(), &mut a, &[2_001], &[], &[]);
+    drop(a);
     assert!(rt; answer == Err(SetRefusal::SetFull));
-    Ok(())
+}
+
+/// Whether the only answer to additions is that of the local limit.
+fn is_over_the_limit(answers: &Answers) -> bool {
+    match answers.added.as_slice() {
+        [answer] => answer.result == 2 && answer.transfer.is_none() && answer.reason == Some(3),
+        _ => false,
+    }
+}
+
+/// Whether the end refuses to add one for that limit.
+fn is_refused_at_the_limit(rt: &impl Abort, alloc: Global, set: &mut Contexts) -> bool {
+    let answers = answer(rt, alloc, set, &[2], &[], &[]).expect(rt, "the answers");
+    let is_over = is_over_the_limit(&answers);
+    drop(answers);
+    is_over
+}
+
+/// The limit alone stands against 2, which is free and of the other end.
+#[test]
+fn a_65th_context_is_not_accepted(rt: HostRuntime) {
+    let mut a = full_set(&rt, rt.alloc());
+    assert!(rt; is_refused_at_the_limit(&rt, rt.alloc(), &mut a));
+    assert!(rt; a.items().len() == 64);
+    drop(a);
 }

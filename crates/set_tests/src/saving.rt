@@ -9,7 +9,7 @@ use context_sets::Contexts;
 use osi_base::{SetList, Syntax};
 use std::alloc::Global;
 use std::process::Abort;
-use std::test::Fail;
+use std::test::*;
 
 /// The transfer syntax of a set that is the module alone, or why none is answered.
 type Answer = Result<Syntax, SaveRefusal>;
@@ -108,11 +108,12 @@ const ROWS: [(&'static str, &'static [Step]); 8] = [
 ];
 
 /// An activity over the module in BER.
-fn begun(alloc: Global) -> Result<Saved, Fail> {
-    let set = only_five(alloc, Ber)?;
+fn begun(rt: &impl Abort, alloc: Global) -> Saved {
+    let set = only_five(rt, alloc, Ber);
     let mut saved = Saved::new(alloc);
-    saved.begin(&set)?;
-    Ok(saved)
+    saved.begin(&set).expect(rt, "the activity begins");
+    drop(set);
+    saved
 }
 
 /// Whether a list is the module alone, under 5, with this transfer syntax.
@@ -124,59 +125,78 @@ fn is_five(list: &SetList, transfer: Syntax) -> bool {
 }
 
 /// Whether this is the answer.
-fn is_answer(came: &Result<SetList, SaveRefusal>, wanted: &Answer) -> bool {
-    match (came, wanted) {
+fn is_answer(came: Result<SetList, SaveRefusal>, wanted: &Answer) -> bool {
+    let is_so = match (&came, wanted) {
         (Ok(list), Ok(transfer)) => is_five(list, *transfer),
         (Err(refusal), Err(other)) => *refusal == *other,
         _ => false,
-    }
+    };
+    drop(came);
+    is_so
 }
 
 /// The answer where the set of these contexts is marked.
-fn mark(alloc: Global, saved: &mut Saved, transfer: Syntax) -> Result<u32, SaveRefusal> {
-    match only_five(alloc, transfer) {
-        Ok(set) => saved.mark(&set),
-        Err(_) => Err(SaveRefusal::NoMemory),
-    }
+fn mark(
+    rt: &impl Abort,
+    alloc: Global,
+    saved: &mut Saved,
+    transfer: Syntax,
+) -> Result<u32, SaveRefusal> {
+    let set = only_five(rt, alloc, transfer);
+    let answer = saved.mark(&set);
+    drop(set);
+    answer
 }
 
 /// The answer to a resumption while the set is in BER.
-fn resume(alloc: Global, saved: &mut Saved, number: u32) -> Result<SetList, SaveRefusal> {
-    match only_five(alloc, Ber) {
-        Ok(set) => saved.resume(number, &set),
-        Err(_) => Err(SaveRefusal::NoMemory),
-    }
+fn resume(
+    rt: &impl Abort,
+    alloc: Global,
+    saved: &mut Saved,
+    number: u32,
+) -> Result<SetList, SaveRefusal> {
+    let set = only_five(rt, alloc, Ber);
+    let answer = saved.resume(number, &set);
+    drop(set);
+    answer
 }
 
 /// Whether a step goes as it should.
-fn goes(alloc: Global, saved: &mut Saved, step: &Step) -> bool {
+fn goes(rt: &impl Abort, alloc: Global, saved: &mut Saved, step: &Step) -> bool {
     match step {
-        Marks(transfer, answer) => mark(alloc, saved, *transfer) == *answer,
-        Restarts(number, answer) => is_answer(&saved.restart(*number), answer),
-        Below(number, answer) => is_answer(&saved.set_below(*number), answer),
-        Resumes(number, answer) => is_answer(&resume(alloc, saved, *number), answer),
-        Ends(answer) => is_answer(&saved.end(), answer),
-        Interrupts(answer) => is_answer(&saved.interrupt(), answer),
-        Discards(answer) => is_answer(&saved.discard(), answer),
+        Marks(transfer, answer) => mark(rt, alloc, saved, *transfer) == *answer,
+        Restarts(number, answer) => is_answer(saved.restart(*number), answer),
+        Below(number, answer) => is_answer(saved.set_below(*number), answer),
+        Resumes(number, answer) => is_answer(resume(rt, alloc, saved, *number), answer),
+        Ends(answer) => is_answer(saved.end(), answer),
+        Interrupts(answer) => is_answer(saved.interrupt(), answer),
+        Discards(answer) => is_answer(saved.discard(), answer),
         Nodes(count) => saved.nodes() == *count,
     }
 }
 
 /// Each step of a row goes as it should.
-fn go(rt: &impl Abort, alloc: Global, shows: &str, steps: &[Step]) -> Result<(), Fail> {
-    let mut saved = begun(alloc)?;
+fn go(rt: &impl Abort, alloc: Global, shows: &str, steps: &[Step]) {
+    let mut saved = begun(rt, alloc);
     for (place, step) in steps.iter().enumerate() {
-        assert!(rt; goes(alloc, &mut saved, step), "{shows}, step {place}");
+        assert!(rt; goes(rt, alloc, &mut saved, step), "{shows}, step {place}");
     }
-    Ok(())
+    drop(saved);
 }
 
 #[test]
-fn marks_and_restarts(rt: HostRuntime) -> Result<(), Fail> {
+fn marks_and_restarts(rt: HostRuntime) {
     for (shows, steps) in &ROWS {
-        go(&rt, rt.alloc(), shows, steps)?;
+        go(&rt, rt.alloc(), shows, steps);
     }
-    Ok(())
+}
+
+#[test]
+fn nothing_is_marked_before_an_activity(rt: HostRuntime) {
+    let mut saved = Saved::new(rt.alloc());
+    let answer = mark(&rt, rt.alloc(), &mut saved, Ber);
+    drop(saved);
+    assert!(rt; answer == Err(SaveRefusal::NoActivity));
 }
 
 /// Saves a set under so many numbers.
@@ -187,17 +207,32 @@ fn mark_often(saved: &mut Saved, set: &Contexts, count: u32) -> Result<(), SaveR
     Ok(())
 }
 
+/// An activity in which a set is marked 65,536 times, which are the most.
+fn marked_often(rt: &impl Abort, alloc: Global) -> Saved {
+    let set = full_set(rt, alloc);
+    let mut saved = Saved::new(alloc);
+    saved.begin(&set).expect(rt, "the activity begins");
+    mark_often(&mut saved, &set, 65_536).expect(rt, "the set is marked");
+    assert!(rt; saved.nodes() == 65_537);
+    assert!(rt; saved.mark(&set) == Err(SaveRefusal::MarksFull));
+    drop(set);
+    saved
+}
+
+/// How many contexts the set has that a restart at 2 goes back to.
+fn restarted(rt: &impl Abort, saved: &mut Saved) -> usize {
+    let list = saved.restart(2).expect(rt, "the set of the mark 1");
+    let count = list.len();
+    drop(list);
+    count
+}
+
 /// 65,536 marks are the most. Each makes a node behind that of the beginning; a restart at 2 leaves
 /// the beginning and the mark 1.
 #[test]
-fn an_unchanged_set_of_64_contexts_is_marked_65536_times(rt: HostRuntime) -> Result<(), Fail> {
-    let set = full_set(rt.alloc())?;
-    let mut saved = Saved::new(rt.alloc());
-    saved.begin(&set)?;
-    mark_often(&mut saved, &set, 65_536)?;
-    assert!(rt; saved.nodes() == 65_537);
-    assert!(rt; saved.mark(&set) == Err(SaveRefusal::MarksFull));
-    assert!(rt; saved.restart(2)?.len() == 64);
+fn an_unchanged_set_of_64_contexts_is_marked_65536_times(rt: HostRuntime) {
+    let mut saved = marked_often(&rt, rt.alloc());
+    assert!(rt; restarted(&rt, &mut saved) == 64);
     assert!(rt; saved.nodes() == 2);
-    Ok(())
+    drop(saved);
 }

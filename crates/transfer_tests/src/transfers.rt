@@ -6,6 +6,7 @@
 use osi_base::Octets;
 use rtse::{Ended, Incoming, Outgoing, RtseFault, Step};
 use std::alloc::Global;
+use std::process::Abort;
 use std::test::*;
 
 /// What is given next, in short.
@@ -30,71 +31,77 @@ fn is_given(step: &Step, given: Given) -> bool {
 }
 
 /// The octets of a transfer, of which no two neighbours are equal.
-fn transfer(alloc: Global, len: usize) -> Result<Octets, Fail> {
+fn transfer(rt: &impl Abort, alloc: Global, len: usize) -> Octets {
     let mut octets = Octets::new(alloc);
     let mut next = 0u8;
     for _ in 0..len {
-        octets.push(next)?;
+        octets.push(next).expect(rt, "memory");
         next = next.wrapping_add(1);
     }
-    Ok(octets)
+    octets
 }
 
 /// What a transfer of 3,000 octets gives up to where it waits.
-fn started(alloc: Global) -> Result<Option<Outgoing>, Fail> {
-    let octets = transfer(alloc, 3000)?;
-    if octets.len() != 3000 {
-        return Ok(None);
-    }
-    Ok(Some(Outgoing::start(alloc, 1, octets, 1, 2)))
+fn started(rt: &impl Abort, alloc: Global) -> Outgoing {
+    let octets = transfer(rt, alloc, 3000);
+    assert!(rt; octets.len() == 3000, "3,000 octets");
+    Outgoing::start(alloc, 1, octets, 1, 2)
+}
+
+/// Whether this is given next.
+fn is_next(rt: &impl Abort, outgoing: &mut Outgoing, given: Given) -> bool {
+    let step = outgoing.next().expect(rt, "memory");
+    let is_it = is_given(&step, given);
+    drop(step);
+    is_it
 }
 
 /// Whether these are given next, one after the other.
-fn all_given(outgoing: &mut Outgoing, given: &[Given]) -> Result<bool, Fail> {
+fn all_given(rt: &impl Abort, outgoing: &mut Outgoing, given: &[Given]) -> bool {
     for next in given {
-        let step = outgoing.next()?;
-        if !is_given(&step, *next) {
-            return Ok(false);
+        if !is_next(rt, outgoing, *next) {
+            return false;
         }
     }
-    Ok(true)
+    true
 }
 
 /// Three chunks with two marks between them; the window is open for the last chunk and the end
 /// once the first mark is confirmed.
 #[test]
-fn waits_at_the_window(rt: HostRuntime) -> Result<(), Fail> {
-    let mut outgoing = started(rt.alloc())?.ok_or("3,000 octets")?;
+fn waits_at_the_window(rt: HostRuntime) {
+    let mut outgoing = started(&rt, rt.alloc());
     let first = [Chunk(1024), Mark(1), Chunk(1024), Mark(2), Wait, Wait];
-    assert!(rt; all_given(&mut outgoing, &first)?);
+    assert!(rt; all_given(&rt, &mut outgoing, &first));
     let late = outgoing.confirmed(2);
     assert!(rt; late == Err(RtseFault::WrongNumber { had: 0, came: 2 }));
     assert!(rt; outgoing.confirmed(1) == Ok(()));
-    assert!(rt; all_given(&mut outgoing, &[Chunk(952), End(3), Wait])?);
-    Ok(())
+    assert!(rt; all_given(&rt, &mut outgoing, &[Chunk(952), End(3), Wait]));
+    drop(outgoing);
 }
 
 /// After a break the transfer goes on behind the mark that was confirmed.
 #[test]
-fn resumes_behind_the_confirmed_mark(rt: HostRuntime) -> Result<(), Fail> {
-    let mut outgoing = started(rt.alloc())?.ok_or("3,000 octets")?;
-    assert!(rt; all_given(&mut outgoing, &[Chunk(1024), Mark(1), Chunk(1024), Mark(2)])?);
+fn resumes_behind_the_confirmed_mark(rt: HostRuntime) {
+    let mut outgoing = started(&rt, rt.alloc());
+    let first = [Chunk(1024), Mark(1), Chunk(1024), Mark(2)];
+    assert!(rt; all_given(&rt, &mut outgoing, &first));
     assert!(rt; outgoing.confirmed(1) == Ok(()));
     assert!(rt; outgoing.resume() == 1);
     let rest = [Chunk(1024), Mark(2), Chunk(952), End(3), Wait];
-    assert!(rt; all_given(&mut outgoing, &rest)?);
+    assert!(rt; all_given(&rt, &mut outgoing, &rest));
     assert!(rt; outgoing.number() == 1);
-    Ok(())
+    drop(outgoing);
 }
 
 /// With checkpoint 0 there is one chunk.
 #[test]
-fn one_chunk_without_a_checkpoint(rt: HostRuntime) -> Result<(), Fail> {
-    let octets = transfer(rt.alloc(), 3000)?;
+fn one_chunk_without_a_checkpoint(rt: HostRuntime) {
+    let octets = transfer(&rt, rt.alloc(), 3000);
     assert!(rt; octets.len() == 3000);
     let mut outgoing = Outgoing::start(rt.alloc(), 7, octets, 0, 1);
-    assert!(rt; all_given(&mut outgoing, &[Chunk(3000), End(1), Wait])?);
-    Ok(())
+    assert!(rt; all_given(&rt, &mut outgoing, &[Chunk(3000), End(1), Wait]));
+    drop(outgoing);
 }
 
 fn whole_len(ended: Ended) -> usize {
@@ -104,57 +111,106 @@ fn whole_len(ended: Ended) -> usize {
     }
 }
 
+/// What comes of an activity, and its answer.
+#[derive(Clone, Copy)]
+enum Comes {
+    /// Its start, with its number.
+    Start(u32, Result<(), RtseFault>),
+    /// The octets at hand.
+    Part(Result<(), RtseFault>),
+    /// A mark.
+    Marked(u32, Result<(), RtseFault>),
+    /// Its resumption, with its number, at a mark.
+    Resumed(u32, u32, Result<(), RtseFault>),
+    /// Its end, with the number behind the last mark's; so many octets are handed up.
+    Ended(u32, Result<usize, RtseFault>),
+    /// It is dropped.
+    Dropped,
+    /// Nothing; its number is this one.
+    Number(u32),
+}
+
+/// Whether it goes as it should. Parts, marks and ends are of an activity that has begun.
+fn goes(incoming: &mut Incoming, octets: &[u8], comes: &Comes) -> bool {
+    match comes {
+        Comes::Start(number, answer) => incoming.started(*number) == *answer,
+        Comes::Part(answer) => incoming.number() > 0 && incoming.chunk(octets) == *answer,
+        Comes::Marked(n, answer) => incoming.number() > 0 && incoming.mark(*n) == *answer,
+        Comes::Resumed(number, n, answer) => incoming.resumed(*number, *n) == *answer,
+        Comes::Ended(n, answer) => {
+            incoming.number() > 0 && incoming.ended(*n).map(whole_len) == *answer
+        }
+        Comes::Dropped => {
+            incoming.dropped();
+            true
+        }
+        Comes::Number(number) => incoming.number() == *number,
+    }
+}
+
+/// Each step goes as it should.
+fn go(rt: &impl Abort, incoming: &mut Incoming, octets: &[u8], steps: &[Comes]) {
+    for (place, comes) in steps.iter().enumerate() {
+        assert!(rt; goes(incoming, octets, comes), "step {place}");
+    }
+}
+
 /// A transfer that is resumed at a mark is cut back to it, handed up once, and then only confirmed.
+const ONCE: [Comes; 12] = [
+    Comes::Start(2, Err(RtseFault::WrongNumber { had: 0, came: 2 })),
+    Comes::Start(1, Ok(())),
+    Comes::Number(1),
+    Comes::Part(Ok(())),
+    Comes::Marked(1, Ok(())),
+    Comes::Part(Ok(())),
+    Comes::Resumed(1, 2, Err(RtseFault::WrongNumber { had: 1, came: 2 })),
+    Comes::Resumed(1, 1, Ok(())),
+    Comes::Ended(3, Err(RtseFault::WrongNumber { had: 1, came: 3 })),
+    Comes::Ended(2, Ok(1024)),
+    Comes::Resumed(1, 1, Ok(())),
+    Comes::Ended(2, Ok(0)),
+];
+
 #[test]
-fn handed_up_once(rt: HostRuntime) -> Result<(), Fail> {
-    let octets = transfer(rt.alloc(), 1024)?;
+fn handed_up_once(rt: HostRuntime) {
+    let octets = transfer(&rt, rt.alloc(), 1024);
     let mut incoming = Incoming::new(rt.alloc());
-    assert!(rt; incoming.started(2) == Err(RtseFault::WrongNumber { had: 0, came: 2 }));
-    assert!(rt; incoming.started(1) == Ok(()));
-    assert!(rt; incoming.number() == 1);
-    assert!(rt; incoming.chunk(octets.as_slice()) == Ok(()));
-    assert!(rt; incoming.number() > 0);
-    assert!(rt; incoming.mark(1) == Ok(()));
-    assert!(rt; incoming.number() > 0);
-    assert!(rt; incoming.chunk(octets.as_slice()) == Ok(()));
-    assert!(rt; incoming.resumed(1, 2) == Err(RtseFault::WrongNumber { had: 1, came: 2 }));
-    assert!(rt; incoming.resumed(1, 1) == Ok(()));
-    assert!(rt; incoming.number() > 0);
-    assert!(rt; incoming.ended(3).err() == Some(RtseFault::WrongNumber { had: 1, came: 3 }));
-    assert!(rt; incoming.number() > 0);
-    assert!(rt; whole_len(incoming.ended(2)?) == 1024);
-    assert!(rt; incoming.resumed(1, 1) == Ok(()));
-    assert!(rt; incoming.number() > 0);
-    assert!(rt; whole_len(incoming.ended(2)?) == 0);
-    Ok(())
+    go(&rt, &mut incoming, octets.as_slice(), &ONCE);
+    drop(incoming);
 }
 
 /// Of a discarded activity its number stays; the next one may be resumed without its start.
+const NEXT: [Comes; 8] = [
+    Comes::Start(1, Ok(())),
+    Comes::Part(Ok(())),
+    Comes::Dropped,
+    Comes::Number(1),
+    Comes::Resumed(3, 0, Err(RtseFault::WrongNumber { had: 1, came: 3 })),
+    Comes::Resumed(2, 0, Ok(())),
+    Comes::Number(2),
+    Comes::Ended(1, Ok(0)),
+];
+
 #[test]
-fn dropped_and_the_next(rt: HostRuntime) -> Result<(), Fail> {
-    let octets = transfer(rt.alloc(), 100)?;
+fn dropped_and_the_next(rt: HostRuntime) {
+    let octets = transfer(&rt, rt.alloc(), 100);
     let mut incoming = Incoming::new(rt.alloc());
-    assert!(rt; incoming.started(1) == Ok(()));
-    assert!(rt; incoming.number() > 0);
-    assert!(rt; incoming.chunk(octets.as_slice()) == Ok(()));
-    incoming.dropped();
-    assert!(rt; incoming.number() == 1);
-    assert!(rt; incoming.resumed(3, 0) == Err(RtseFault::WrongNumber { had: 1, came: 3 }));
-    assert!(rt; incoming.resumed(2, 0) == Ok(()));
-    assert!(rt; incoming.number() == 2);
-    assert!(rt; whole_len(incoming.ended(1)?) == 0);
-    Ok(())
+    go(&rt, &mut incoming, octets.as_slice(), &NEXT);
+    drop(incoming);
 }
 
 /// The limit of a transfer is 262,400 octets.
 #[test]
-fn too_long(rt: HostRuntime) -> Result<(), Fail> {
-    let octets = transfer(rt.alloc(), 262_400)?;
+fn too_long(rt: HostRuntime) {
+    let octets = transfer(&rt, rt.alloc(), 262_400);
     let mut incoming = Incoming::new(rt.alloc());
-    assert!(rt; incoming.started(1) == Ok(()));
-    assert!(rt; incoming.number() > 0);
-    assert!(rt; incoming.chunk(octets.as_slice()) == Ok(()));
-    assert!(rt; incoming.number() > 0);
-    assert!(rt; incoming.chunk(&[0]) == Err(RtseFault::TooLong));
-    Ok(())
+    let first = [Comes::Start(1, Ok(())), Comes::Part(Ok(()))];
+    go(&rt, &mut incoming, octets.as_slice(), &first);
+    go(
+        &rt,
+        &mut incoming,
+        &[0],
+        &[Comes::Part(Err(RtseFault::TooLong))],
+    );
+    drop(incoming);
 }

@@ -7,5 +7,5 @@ use Rattle.layer_tests.proofs.session_units.alone.Goals as goal
 pub check-requires : goal.check-requires
 check-requires c d =
     let word = d.args.word in
-    let whole : d.push.new.self ≡ word ∷ [] = d.in_ok-push.ensures.ok ∙ ap (λ (l : List SessionWord). l ++ word ∷ []) d.new-words.ensures in
+    let whole : d.add.new.words ≡ word ∷ [] = d.add.ensures ∙ ap (λ (l : List SessionWord). l ++ word ∷ []) d.new-words.ensures in
     subst AreWritable (sym whole) (d.requires.stands, record { fields = d.requires.fields; size = omega (arith, d.requires.short, word_size word d.requires.fields) })

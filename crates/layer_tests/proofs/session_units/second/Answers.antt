@@ -8,8 +8,8 @@ use Rattle.layer_tests.proofs.session_units.second.Goals as goal
 pub check-requires : goal.check-requires
 check-requires c d =
     let word = d.args.word in
-    let first : d.push.new.self ≡ GiveTokens None ∷ [] = d.in_ok-push.ensures.ok ∙ ap (λ (l : List SessionWord). l ++ GiveTokens None ∷ []) d.new-words.ensures in
-    let whole : d.push-2.new.self ≡ GiveTokens None ∷ word ∷ [] = d.in_ok-push-2.ensures.ok ∙ ap (λ (l : List SessionWord). l ++ word ∷ []) first in
+    let first : d.add.new.words ≡ GiveTokens None ∷ [] = d.add.ensures ∙ ap (λ (l : List SessionWord). l ++ GiveTokens None ∷ []) d.new-words.ensures in
+    let whole : d.add-2.new.words ≡ GiveTokens None ∷ word ∷ [] = d.add-2.ensures ∙ ap (λ (l : List SessionWord). l ++ word ∷ []) first in
     subst AreWritable (sym whole) (
       refl,
       record { fields = tt; size = omega arith },
