@@ -2,7 +2,7 @@
 
 ghost use Rattle.std.specs.Prelude.{◌≡◌, IfOk, [], ◌∷◌};
 
-use association_words::{Fault, Message};
+use association_sends::association_words_layer::{Fault, Message};
 use dialogue::Indications;
 use osi_base::{ListOf, NoMemory};
 use std::alloc::Global;

@@ -5,14 +5,14 @@ ghost use Rattle.osi_base.specs.Limits.{most_contexts};
 ghost use Rattle.end_rules.specs.Sets.{count_added};
 ghost use Rattle.end_rules.specs.Altering.{used};
 ghost use Rattle.end_rules.specs.Policy.{answer_to_deletion, policy};
-ghost use Rattle.association_state.specs.Seen.{base_in, seen};
+ghost use Rattle.association_calls.specs.association_state.Seen.{base_in, seen};
 
+use association_calls::association_state_layer::{Body, Ground};
 use association_calls::contexts_in_use;
 use association_ground::is_among;
+use association_sends::set_rules_layer::answers_to_additions;
 use association_sets::{Alteration, count_added, is_fixed};
-use association_state::{Body, Ground};
 use osi_base::{Answers, NoMemory, Octets, pair_of};
-use set_rules::answers_to_additions;
 use std::alloc::Global;
 
 /// The answer to one deletion: rejected by the user where the context is in use or fixed.

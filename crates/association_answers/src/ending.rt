@@ -4,15 +4,15 @@ ghost use Rattle.std.specs.Prelude.{◌≡◌, ◌++◌, IfOk, OnOk, [], ◌∷�
 ghost use Rattle.dialogue.specs.declared.indication.Indication.TheVariants as indications;
 ghost use Rattle.end_rules.specs.State.{is_carrying};
 ghost use Rattle.end_rules.specs.Faults.{over, abort_of, cuts};
-ghost use Rattle.association_words.specs.Seen.{seen_fault, seen_message};
-ghost use Rattle.association_state.specs.Seen.{seen};
+ghost use Rattle.association_sends.specs.association_words.Seen.{seen_fault, seen_message};
+ghost use Rattle.association_calls.specs.association_state.Seen.{seen};
 ghost use Rattle.association_answers.specs.Reacted.{FailsAs};
 
 use crate::brought::{Messages, Reaction, one_message};
 use crate::telling::push_cuts;
+use association_calls::association_state_layer::{Body, Ground};
 use association_sends::abort_of;
-use association_state::{Body, Ground};
-use association_words::Fault;
+use association_sends::association_words_layer::Fault;
 use dialogue::{Indication, Indications, Phase};
 use osi_base::{Layer, ListOf, NoMemory, SetItem};
 use std::alloc::Global;

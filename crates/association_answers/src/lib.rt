@@ -7,6 +7,9 @@ mod choosing;
 mod ending;
 mod telling;
 
+pub use association_calls as association_calls_layer;
+pub use association_calls::{association_state_layer, open_invocations_layer};
+pub use association_sends as association_sends_layer;
 pub use brought::{Brought, Messages, Reaction, one_message};
 pub use choosing::alteration_answers;
 pub use ending::{end_association, fail_association};

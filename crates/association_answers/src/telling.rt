@@ -4,16 +4,16 @@ ghost use Rattle.std.specs.Prelude.{◌≡◌, ◌++◌, IfOk, OnOk, [], ◌∷�
 ghost use Rattle.dialogue.specs.declared.indication.Indication.TheVariants as indications;
 ghost use Rattle.end_rules.specs.Sets.{Alteration as rule_alteration};
 ghost use Rattle.end_rules.specs.Faults.{cuts, losses};
-ghost use Rattle.association_words.specs.Seen.{seen_message};
-ghost use Rattle.association_state.specs.Seen.{seen};
+ghost use Rattle.association_sends.specs.association_words.Seen.{seen_message};
+ghost use Rattle.association_calls.specs.association_state.Seen.{seen};
 ghost use Rattle.association_answers.specs.Reacted.{TakenAs};
 
 use crate::brought::{Brought, one_message};
+use association_calls::association_state_layer::Body;
+use association_calls::open_invocations_layer::tell_cuts;
+use association_sends::association_words_layer::Message;
 use association_sets::Alteration;
-use association_state::Body;
-use association_words::Message;
 use dialogue::{Indication, Indications};
-use open_invocations::tell_cuts;
 use osi_base::{ListOf, NoMemory};
 use std::alloc::Global;
 

@@ -13,8 +13,8 @@ use Rattle.end_rules.specs.Base.{Base}
 use Rattle.end_rules.specs.State.{Body, OpenCall, opened_with}
 use Rattle.end_rules.specs.Invoking.{Reply, is_stopped, operation_of, result_apdu, error_apdu, can_answer_open, can_answer, can_refuse_open, can_refuse, can_refuse_with}
 use Rattle.end_rules.specs.Requesting.{result_for, error_for, operation_opened, result_in}
-use Rattle.rose_roles.specs.declared.invoked_with.InvokedWith.{InvokedWith}
-use Rattle.open_invocations.specs.Invocations.{called_in}
+use Rattle.association_state.specs.rose_roles.declared.invoked_with.InvokedWith.{InvokedWith}
+use Rattle.association_state.specs.open_invocations.Invocations.{called_in}
 use Rattle.association_calls.specs.Replies.{IsChecked}
 
 module _ (base : Base) (body : Body) (id : ℤ) where

@@ -8,8 +8,8 @@ ghost use Rattle.association_calls.specs.Replies.{Replies};
 use crate::Reply;
 use crate::in_use::contexts_in_use;
 use crate::transfers::is_ending;
-use association_ground::{is_among, is_reliable};
-use association_sets::{
+use association_state::association_ground_layer::{is_among, is_reliable};
+use association_state::association_sets_layer::{
     Alteration, count_added, has_parity, is_bad_alteration, is_fixed, is_named_in,
 };
 use association_state::{Body, Ground};

@@ -3,11 +3,11 @@
 ghost use Rattle.std.specs.Prelude.{◌≡◌, ◌++◌, map, Some, IfOk, OnOk};
 ghost use Rattle.end_rules.specs.State.{OpenCall as seen_call, Queued as rule_queued};
 ghost use Rattle.end_rules.specs.Altering.{context_of_current, used};
-ghost use Rattle.association_pieces.specs.Sending.{seen_queued, seen_transfer, seen_sending};
+ghost use Rattle.association_state.specs.association_pieces.Sending.{seen_queued, seen_transfer, seen_sending};
 ghost use Rattle.association_state.specs.Seen.{seen};
 
+use association_state::open_invocations_layer::OpenCall;
 use association_state::{Body, Queued, Sending, Transfer};
-use open_invocations::OpenCall;
 use osi_base::{Ids, ListOf, NoMemory};
 use std::alloc::Global;
 

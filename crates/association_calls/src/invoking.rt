@@ -6,19 +6,19 @@ ghost use Rattle.end_rules.specs.Invoking.{is_stopped, is_queue_full, next_id, i
 ghost use Rattle.stub_tables.specs.Apdus.{operation_coded};
 ghost use Rattle.stub_tables.specs.Lookup.{operation_at};
 ghost use Rattle.stub_tables.specs.Codes.{is_silent};
-ghost use Rattle.open_invocations.specs.Invocations.{is_link};
+ghost use Rattle.association_state.specs.open_invocations.Invocations.{is_link};
 ghost use Rattle.association_state.specs.Seen.{base_in, seen};
 ghost use Rattle.association_calls.specs.Replies.{IsChecked, IsRefusal};
 ghost use Rattle.association_calls.specs.Rooms.{HasRoom, IsRoomy};
 
-use apdu_codec::is_too_long_with;
 use asn1_types::Val;
-use association_ground::{is_direct, is_reliable};
-use association_sets::{has_abstract, is_deleted_in};
+use association_state::apdu_codec_layer::is_too_long_with;
+use association_state::association_ground_layer::{is_direct, is_reliable};
+use association_state::association_sets_layer::{has_abstract, is_deleted_in};
+use association_state::rose_roles_layer::{invoke_apdu, is_linked_to};
 use association_state::{Body, Ground};
 use dialogue::CallRefusal;
 use osi_base::pair_of;
-use rose_roles::{invoke_apdu, is_linked_to};
 use stub_tables::{Apdu, Operation};
 
 /// How many invocations of one end may be open.

@@ -11,6 +11,8 @@ mod transfers;
 mod units;
 
 pub use altering::can_alter;
+pub use association_state as association_state_layer;
+pub use association_state::open_invocations_layer;
 use dialogue::CallRefusal;
 pub use in_use::contexts_in_use;
 pub use invoking::{Making, check_invoke};

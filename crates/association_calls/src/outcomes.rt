@@ -7,19 +7,19 @@ ghost use Rattle.stub_tables.specs.Lookup.{operation_at, error_at};
 ghost use Rattle.end_rules.specs.State.{OpenCall, opened_with};
 ghost use Rattle.end_rules.specs.Invoking.{carrier_in, lacks_carrier, operation_of, result_apdu, error_apdu, can_send_outcome, can_answer_open, can_answer, can_refuse_with, can_refuse_open, can_refuse};
 ghost use Rattle.end_rules.specs.Requesting.{result_in, error_for};
-ghost use Rattle.open_invocations.specs.Invocations.{called_in};
+ghost use Rattle.association_state.specs.open_invocations.Invocations.{called_in};
 ghost use Rattle.association_state.specs.Seen.{base_in, seen};
 ghost use Rattle.association_calls.specs.Replies.{IsChecked};
 ghost use Rattle.association_calls.specs.Outcomes.{can_send_on};
 
 use crate::invoking::{is_queue_full, is_stopped};
-use apdu_codec::is_too_long_with;
 use asn1_types::Val;
-use association_ground::is_direct;
-use association_sets::carrier;
+use association_state::apdu_codec_layer::is_too_long_with;
+use association_state::association_ground_layer::is_direct;
+use association_state::association_sets_layer::carrier;
+use association_state::rose_roles_layer::{error_apdu, result_apdu};
 use association_state::{Body, Ground};
 use dialogue::CallRefusal;
-use rose_roles::{error_apdu, result_apdu};
 use stub_tables::{Apdu, ErrorRow, Operation, Use};
 
 /// The context on which what belongs to a context travels.

@@ -5,7 +5,9 @@ ghost use Rattle.end_rules.specs.Calling.{can_call, can_by_rows};
 ghost use Rattle.association_state.specs.Seen.{base_in, seen};
 ghost use Rattle.association_calls.specs.Replies.{IsRefusal};
 
-use association_ground::{is_bare, is_dead, is_initiators, is_of_bare_mode, is_phase_for};
+use association_state::association_ground_layer::{
+    is_bare, is_dead, is_initiators, is_of_bare_mode, is_phase_for,
+};
 use association_state::{Body, Ground};
 use dialogue::{Call, CallRefusal};
 

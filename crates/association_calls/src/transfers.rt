@@ -9,7 +9,7 @@ ghost use Rattle.association_calls.specs.Replies.{Replies, IsCounted};
 
 use crate::Reply;
 use crate::marks::has_activity;
-use association_ground::{is_direct, is_reliable};
+use association_state::association_ground_layer::{is_direct, is_reliable};
 use association_state::{Body, Ground};
 use dialogue::CallRefusal;
 

@@ -4,7 +4,7 @@ ghost use Rattle.std.specs.Prelude.{◌≡◌};
 ghost use Rattle.end_rules.specs.Units.{has_units, has_marks, has_restarts, has_activities, has_typed_data, proposed_units, needed_units, selected_with, has_version_two, has_both, manages_with, has_token};
 ghost use Rattle.association_state.specs.Seen.{base_in, seen};
 
-use association_ground::{is_direct, is_reliable, proposed_units};
+use association_state::association_ground_layer::{is_direct, is_reliable, proposed_units};
 use association_state::{Body, Ground};
 use dialogue::Mode;
 use osi_base::BitString;

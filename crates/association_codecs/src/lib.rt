@@ -4,4 +4,5 @@
 
 mod codecs;
 
+pub use apdu_codec as apdu_codec_layer;
 pub use codecs::Codecs;

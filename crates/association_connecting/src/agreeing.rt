@@ -4,11 +4,11 @@ ghost use Rattle.std.specs.Prelude.{◌≡◌, IfOk};
 ghost use Rattle.std.specs.Option.{option_copied};
 ghost use Rattle.end_rules.specs.Connecting.{same_octets, has_association, rejection_of, agreed_checkpoint, agreed_with, data_named, answering_data};
 ghost use Rattle.association_connecting.specs.Agreed.{seen_agreed, names_recovery};
-ghost use Rattle.association_state.specs.Seen.{base_in, seen};
+ghost use Rattle.association_answers.specs.association_state.Seen.{base_in, seen};
 
+use association_answers::association_sends_layer::connection_data;
+use association_answers::association_state_layer::{Body, Ground};
 use association_ground::is_broken;
-use association_sends::connection_data;
-use association_state::{Body, Ground};
 use osi_base::{ConnectionData, Copied, NoMemory, Octets, Rtse};
 
 /// Agreed for transfers: the checkpoint, and the window.

@@ -6,16 +6,16 @@ ghost use Rattle.association_words.specs.Seen.{seen_message, seen_information, s
 ghost use Rattle.osi_base.specs.declared.session_word.SessionConnect.{SessionConnect};
 ghost use Rattle.association_connecting.specs.Agreed.{seen_agreed};
 ghost use Rattle.association_connecting.specs.Terms.{TermsOf};
-ghost use Rattle.association_state.specs.Seen.{base_in, seen};
+ghost use Rattle.association_answers.specs.association_state.Seen.{base_in, seen};
 
 use crate::agreeing::{Agreed, agreed_with, data_for};
 use crate::associated::{context_named, rtse_in, user_of};
 use crate::connect_faults::{has_acse, lacks_request, session_refuses, transfer_rejection};
 use crate::joining::Terms;
-use association_sends::{
+use association_answers::association_sends_layer::{
     Response, accept_message, provider_refusal, refuse_message, rtse_context, rtse_information,
 };
-use association_state::{Body, Ground};
+use association_answers::association_state_layer::{Body, Ground};
 use association_words::{Information, Message, UserInformation, Value};
 use osi_base::{AddAnswers, ListOf, NoMemory, PresentationConnect, Rtse, SessionConnect, SetItem};
 use set_rules::opening_policy;

@@ -7,8 +7,8 @@ ghost use Rattle.end_rules.specs.TakesAssociation.{is_release_request, is_releas
 ghost use Rattle.association_words.specs.Seen.{seen_fault, seen_information, seen_values};
 ghost use Rattle.association_connecting.specs.Associated.{only_one, first_fault};
 
+use association_answers::association_state_layer::Ground;
 use association_sets::has_abstract;
-use association_state::Ground;
 use association_words::{Fault, Information, Value, ValueContent};
 use osi_base::{Acse, Copied, Layer, NoMemory, Oid, Rtse, SetItem, pair_of};
 

@@ -3,13 +3,15 @@
 ghost use Rattle.std.specs.Prelude.{◌≡◌, option_map};
 ghost use Rattle.end_rules.specs.Connecting.{set_for, has_acse, has_rtse, connect_fault, has_other_initial, gives_token, session_refuses, lacks_request, presentation_refuses, transfer_rejection, is_refused};
 ghost use Rattle.association_words.specs.Seen.{seen_fault, seen_values};
-ghost use Rattle.association_state.specs.Seen.{base_in, seen};
+ghost use Rattle.association_answers.specs.association_state.Seen.{base_in, seen};
 
 use crate::agreeing::rejection_of;
 use crate::associated::{is_request, request_information_fault, rtse_in, user_of};
-use association_calls::{has_units, has_version_two, needed_units, selected_with};
+use association_answers::association_calls_layer::{
+    has_units, has_version_two, needed_units, selected_with,
+};
+use association_answers::association_state_layer::{Body, Ground};
 use association_ground::is_reliable;
-use association_state::{Body, Ground};
 use association_words::{Fault, Value};
 use osi_base::{Layer, PresentationConnect, SessionConnect, SetItem};
 use set_rules::{has_context_of, is_faulty_proposal};

@@ -4,12 +4,12 @@ ghost use Rattle.std.specs.Prelude.{◌≡◌, OnOk};
 ghost use Rattle.end_rules.specs.Connecting.{joined_with, begun_with, refused_connect};
 ghost use Rattle.association_connecting.specs.Agreed.{seen_agreed};
 ghost use Rattle.association_connecting.specs.Joined.{kept_first, stood};
-ghost use Rattle.association_state.specs.Seen.{base_in, seen};
+ghost use Rattle.association_answers.specs.association_state.Seen.{base_in, seen};
 
 use crate::agreeing::Agreed;
+use association_answers::association_state_layer::{Awaited, Body, Ground, SavedSets, Stage};
 use association_ground::is_broken;
 use association_sets::copy_set;
-use association_state::{Awaited, Body, Ground, SavedSets, Stage};
 use dialogue::{Mode, Phase};
 use osi_base::{Copied, NoMemory, SessionConnect, SetItem, SetList};
 use std::mem;

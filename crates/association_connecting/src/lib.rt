@@ -11,3 +11,5 @@ mod taking_accept;
 mod taking_connect;
 
 pub use association::{association_fault, contexts_for, take_association};
+pub use association_answers as association_answers_layer;
+pub use association_answers::association_sends_layer;

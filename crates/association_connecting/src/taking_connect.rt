@@ -5,7 +5,7 @@ ghost use Rattle.end_rules.specs.Connecting.{the_one, is_request, has_acse, set_
 ghost use Rattle.association_connecting.specs.Agreed.{seen_agreed};
 ghost use Rattle.association_connecting.specs.Terms.{TermsOf};
 ghost use Rattle.association_words.specs.Seen.{seen_values};
-ghost use Rattle.association_state.specs.Seen.{base_in, seen};
+ghost use Rattle.association_answers.specs.association_state.Seen.{base_in, seen};
 ghost use Rattle.association_answers.specs.Reacted.{TakenAs};
 
 use crate::agreeing::names_recovery;
@@ -13,10 +13,10 @@ use crate::answering::{acceptance_message, agreed_for, refusal_message};
 use crate::associated::{rtse_in, user_of};
 use crate::connect_faults::is_refused;
 use crate::joining::{Terms, begin, join, refuse};
+use association_answers::association_calls_layer::{manages_with, selected_with};
+use association_answers::association_state_layer::{Body, Ground};
 use association_answers::{Brought, one_message, push_cuts, push_losses, with_answer};
-use association_calls::{manages_with, selected_with};
 use association_ground::{is_broken, is_reliable};
-use association_state::{Body, Ground};
 use association_words::Value;
 use dialogue::{Indication, Indications};
 use osi_base::{ListOf, NoMemory, PresentationConnect, SessionConnect, SetItem};

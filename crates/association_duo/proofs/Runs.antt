@@ -16,8 +16,8 @@ use Rattle.end_rules.specs.Invoking.{Reply}
 use Rattle.end_rules.specs.Calling.{can_call}
 use Rattle.end_rules.specs.History.{Step, History, gave, broke}
 use Rattle.end_rules.specs.World.{World, Ends, base_at, other, history_of}
-use Rattle.association_line.specs.Line.{End, end_of, going_on}
-use Rattle.association_line.specs.Feeding.{Feeds, Makes}
+use Rattle.association_end.specs.association_line.Line.{End, end_of, going_on}
+use Rattle.association_end.specs.association_line.Feeding.{Feeds, Makes}
 use Rattle.association_runs.specs.Worlds.{end_at, stepping, first_octets, Runs, rests, calls, carries, breaks}
 use Rattle.association_end.specs.View.{EndView, base, Stepped, StandsFor}
 use Rattle.association_end.proofs.Histories.{same_base, stands_on}

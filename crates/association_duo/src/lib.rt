@@ -4,4 +4,6 @@
 mod end;
 mod running;
 
+pub use association_end as association_end_layer;
+pub use association_end::association_line_layer;
 pub use running::run_world;

@@ -7,7 +7,7 @@ use Rattle.end_rules.specs.Base.{Base}
 use Rattle.end_rules.specs.Messages as meant
 use Rattle.end_rules.specs.State.{Body}
 use Rattle.end_rules.specs.TakesActivities.{arrived_now, arrived_value, values_arrived, fault_in, end_fault}
-use Rattle.association_reading.specs.Transfers.{arrived_at}
+use Rattle.association_line.specs.association_reading.Transfers.{arrived_at}
 use Rattle.association_words.specs.declared.faults.Fault.{Fault}
 use Rattle.association_words.specs.declared.values.Value.{Value}
 use Rattle.association_words.specs.declared.values.Arrived.{Arrived}

@@ -2,7 +2,7 @@
 use Rattle.std.proofs.Common.{◌≡◌, [], ◌∷◌, Some, refl, subst}
 use Rattle.end_rules.specs.State.{Body}
 use Rattle.end_rules.specs.History.{broke, after_broke}
-use Rattle.association_reading.specs.Front.{nothing_came}
+use Rattle.association_line.specs.association_reading.Front.{nothing_came}
 use Rattle.association_line.specs.Line.{Line, first_size}
 use Rattle.association_end.specs.View.{EndView, base, Stepped}
 use Rattle.association_end.specs.Reacted.{with_body, with_line}

@@ -32,7 +32,7 @@ use Rattle.end_rules.specs.Calling.{is_dead, is_initiators, is_phase_for, is_of_
 use Rattle.end_rules.specs.Writing.{give_message, please_message, user_abort}
 use Rattle.end_rules.specs.Requesting.{sent_at_once, due_invoke, due_outcome, result_in, error_for, due_of_accepted, due_of, after_refused, after_call}
 use Rattle.end_rules.specs.History.{Step, called, sent, after_steps, call_steps, ByItself}
-use Rattle.association_wire.specs.Written.{request_ends}
+use Rattle.association_writing.specs.association_wire.Written.{request_ends}
 use Rattle.association_line.specs.Line.{End, after, after_all}
 use Rattle.association_line.specs.Feeding.{OwnAfter, BeginsByItself}
 use Rattle.association_requests.specs.declared.call_outcome.CallOutcome as call_outcomes

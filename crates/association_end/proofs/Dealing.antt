@@ -6,19 +6,19 @@ use Rattle.osi_base.specs.declared.fault.NoMemory.{NoMemory}
 use Rattle.dialogue.specs.declared.indication.Indication.{Indication}
 use Rattle.end_rules.specs.Messages as meant
 use Rattle.end_rules.specs.State.{Body, passes_over}
-use Rattle.association_reading.specs.Front.{Front}
+use Rattle.association_line.specs.association_reading.Front.{Front}
 use Rattle.association_line.specs.Line.{first_size}
 use Rattle.association_line.specs.Reactions.{ReactionsAreSteps}
-use Rattle.association_answers.specs.declared.brought.Reaction.{Reaction}
-use Rattle.association_answers.specs.declared.brought.Reaction.TheVariants.{Passes, Takes, Fails}
-use Rattle.association_answers.specs.Reacted.{seen_messages}
+use Rattle.association_reacting.specs.association_answers.declared.brought.Reaction.{Reaction}
+use Rattle.association_reacting.specs.association_answers.declared.brought.Reaction.TheVariants.{Passes, Takes, Fails}
+use Rattle.association_reacting.specs.association_answers.Reacted.{seen_messages}
 use Rattle.association_reacting.specs.Reacts.{ReactsAs}
 use Rattle.association_end.specs.View.{EndView, base}
 use Rattle.association_end.specs.Reacted as reacted
 use Rattle.association_end.specs.Reacted.{AllMayStand, with_body, with_line, with_came, sending, size_of_front, ReactsTo, ReactedTo, sent_for, IsOverFor, Settles, SettlesFor, Deals, TookFirst}
 use Rattle.association_words.specs.declared.words.Message.{Message}
-use Rattle.association_intake.specs.declared.front.Front as fronts
-use Rattle.association_intake.specs.Seen.{seen_front}
+use Rattle.association_meaning.specs.association_intake.declared.front.Front as fronts
+use Rattle.association_meaning.specs.association_intake.Seen.{seen_front}
 use Rattle.association_end.specs.Progress.{Keeps, Goes}
 use Rattle.association_end.proofs.Sent.{answers_stand}
 use Rattle.association_end.proofs.Dealt.{dealt}

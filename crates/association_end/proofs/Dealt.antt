@@ -10,9 +10,9 @@ use Rattle.end_rules.specs.Messages.{Message, Transport, Session, Word}
 use Rattle.end_rules.specs.State.{Body, passes_over}
 use Rattle.end_rules.specs.Reacting.{Reaction, Passes, Takes, Fails, fails as rule_fails}
 use Rattle.end_rules.specs.History.{took, passed, fault}
-use Rattle.association_reading.specs.Front.{Front, Short, OfTransport, OfSession, Faulty, Intake, first_front, front_held, first_in, without_first, behind_first}
-use Rattle.association_reading.specs.Meaning.{meaning}
-use Rattle.association_reading.specs.Reacting.{react_to, grammar_fault}
+use Rattle.association_line.specs.association_reading.Front.{Front, Short, OfTransport, OfSession, Faulty, Intake, first_front, front_held, first_in, without_first, behind_first}
+use Rattle.association_line.specs.association_reading.Meaning.{meaning}
+use Rattle.association_line.specs.association_reading.Reacting.{react_to, grammar_fault}
 use Rattle.association_line.specs.Line.{Line, after, after_all, takes_first, first_size, size_after}
 use Rattle.association_line.specs.Feeding.{word_in, message_in, taking, failing, Reads, is_over, waits, passes, takes, fails, one_passed, one_taken, one_failed}
 use Rattle.association_line.specs.Reactions.{ReactionsAreSteps, IsTaken, IsFailed}

@@ -7,7 +7,7 @@ use Rattle.dialogue.specs.declared.indication.Indication.{Indication}
 use Rattle.end_rules.specs.Base.{Base}
 use Rattle.end_rules.specs.State.{passes_over}
 use Rattle.end_rules.specs.History.{Step, fed, feed_end, ByItself}
-use Rattle.association_reading.specs.Front.{with_octets}
+use Rattle.association_line.specs.association_reading.Front.{with_octets}
 use Rattle.association_line.specs.Line.{End, after, after_all}
 use Rattle.association_line.specs.Feeding.{Reads, is_over, Begins, nothing_read, all_read, BeginsByItself}
 use Rattle.association_end.specs.View.{EndView, base, Stepped}

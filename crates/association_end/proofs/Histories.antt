@@ -2,7 +2,7 @@
 use Rattle.std.proofs.Common.{◌≡◌, List, [], ◌∷◌, ◌++◌, refl, sym, ap, ◌∙◌}
 use Rattle.end_rules.specs.Base.{Base, base_of}
 use Rattle.end_rules.specs.History.{Step, History, after_steps}
-use Rattle.association_reading.specs.Transfers.{association_spellings}
+use Rattle.association_line.specs.association_reading.Transfers.{association_spellings}
 use Rattle.association_line.specs.Line.{End, after, after_all, end_of, going_on}
 use Rattle.association_end.specs.View.{EndView, base, Stepped, StandsFor}
 

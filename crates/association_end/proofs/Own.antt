@@ -14,7 +14,7 @@ use Rattle.osi_base.specs.SetPlaces.{pair_of}
 use Rattle.end_rules.specs.Base.{Item}
 use Rattle.end_rules.specs.History.{Step, step_of, sent, encoded, ByItself, rests, goes}
 use Rattle.end_rules.specs.Requesting.{after_sent}
-use Rattle.association_wire.specs.Written.{written}
+use Rattle.association_writing.specs.association_wire.Written.{written}
 use Rattle.association_writing.specs.Room.{MayStand}
 use Rattle.association_line.specs.Line as line
 use Rattle.association_line.specs.Line.{after, after_all}

@@ -4,7 +4,7 @@ use Rattle.std.proofs.lemmas.List.{append-nil}
 use Rattle.end_rules.specs.Base.{Base}
 use Rattle.end_rules.specs.Messages.{Message, Transport, Session, TransportUnit, ConnectionRequest, ConnectionConfirm, DisconnectRequest, TransportError}
 use Rattle.end_rules.specs.History.{sent, answered, aborted}
-use Rattle.association_wire.specs.Written.{written}
+use Rattle.association_writing.specs.association_wire.Written.{written}
 use Rattle.association_writing.specs.Room.{MayStand}
 use Rattle.association_line.specs.Line.{End, Line, after, after_all, writes}
 use Rattle.association_line.specs.Reactions.{IsAnswer, AreAnswers}

@@ -10,7 +10,7 @@ use Rattle.spdu_codec.specs.Places.{user_places}
 use Rattle.osi_base.specs.declared.session_word.SessionWord.{SessionWord}
 use Rattle.osi_base.specs.declared.session_word.SessionWord.TheVariants as units
 use Rattle.std.specs.Prelude.{Result, Ok, Err}
-use Rattle.association_reading.specs.Front.{Front, OfSession, Intake, leading, start_of, fronts_of_units, fronts_of, all_fronts, with_octets, without_first, behind_first}
+use Rattle.association_line.specs.association_reading.Front.{Front, OfSession, Intake, leading, start_of, fronts_of_units, fronts_of, all_fronts, with_octets, without_first, behind_first}
 use Rattle.osi_base.specs.Limits.{IsUnitSize}
 use Rattle.association_end.specs.View.{EndView}
 use Rattle.association_end.specs.Sound.{AreMessages, HasMessages, Listens, IsSoundEnd}
@@ -18,8 +18,8 @@ use Rattle.dialogue.specs.declared.config.Phase.{Phase}
 use Rattle.dialogue.specs.declared.config.Phase.TheVariants.{Dead}
 use Rattle.end_rules.specs.State.{Body, passes_over}
 use Rattle.association_line.specs.Line.{Line}
-use Rattle.association_intake.specs.declared.front.Front as fronts
-use Rattle.association_intake.specs.Seen.{TakesFirst}
+use Rattle.association_meaning.specs.association_intake.declared.front.Front as fronts
+use Rattle.association_meaning.specs.association_intake.Seen.{TakesFirst}
 use Rattle.association_end.specs.Reacted.{with_body, with_line, with_came, TookFirst}
 
 -- ---- messages

@@ -21,16 +21,16 @@ use Rattle.end_rules.specs.InPlace.{is_in_place}
 use Rattle.end_rules.specs.Faults.{fault_at, transport_fault, session_fault}
 use Rattle.end_rules.specs.Reacting as rules
 use Rattle.end_rules.specs.Reacting.{Reaction, react, fails}
-use Rattle.association_reading.specs.Front.{OfTransport, OfSession, Faulty}
-use Rattle.association_reading.specs.Meaning.{meaning}
-use Rattle.association_reading.specs.Reacting.{contexts_read, contexts_of_unit, on_meaning, has_connection, react_to_unit, grammar_fault}
+use Rattle.association_line.specs.association_reading.Front.{OfTransport, OfSession, Faulty}
+use Rattle.association_line.specs.association_reading.Meaning.{meaning}
+use Rattle.association_line.specs.association_reading.Reacting.{contexts_read, contexts_of_unit, on_meaning, has_connection, react_to_unit, grammar_fault}
 use Rattle.association_words.specs.declared.faults.Fault as words
 use Rattle.association_words.specs.Seen.{seen_fault}
 use Rattle.association_meaning.specs.declared.basis.Halt.{Halt}
 use Rattle.association_meaning.specs.declared.basis.Halt.TheVariants as halts
 use Rattle.association_meaning.specs.Grounds.{FailsAs}
-use Rattle.association_answers.specs.declared.brought.Reaction as reactions
-use Rattle.association_takes.specs.Acts.{is_end}
+use Rattle.association_reacting.specs.association_answers.declared.brought.Reaction as reactions
+use Rattle.association_reacting.specs.association_takes.Acts.{is_end}
 use Rattle.association_reacting.specs.ActivityEnds.{is_end_word}
 use Rattle.association_reacting.specs.Reacts.{ReactsAs}
 use Rattle.association_end.specs.Reacted.{ReactsTo}

@@ -6,3 +6,4 @@ pub mod Progress
 pub mod Reacted
 pub mod Changed
 pub mod Sound
+pub use Rattle.association_line.specs as association_line

@@ -5,7 +5,7 @@ use Rattle.dialogue.specs.declared.indication.Indication.{Indication}
 use Rattle.end_rules.specs.Invoking.{Reply}
 use Rattle.end_rules.specs.ByItself.{OwnAct, next_own}
 use Rattle.end_rules.specs.History.{Step, step_of, ByItself}
-use Rattle.association_reading.specs.Front.{Intake}
+use Rattle.association_line.specs.association_reading.Front.{Intake}
 use Rattle.association_line.specs.Line.{after_all}
 use Rattle.association_line.specs.Feeding.{Reads, Begins, BeginsByItself}
 use Rattle.association_end.specs.View.{EndView, base, Stepped}

@@ -7,16 +7,16 @@ use Rattle.end_rules.specs.Base.{Base}
 use Rattle.end_rules.specs.Messages as meant
 use Rattle.end_rules.specs.State.{Body, passes_over}
 use Rattle.end_rules.specs.Reacting as rules
-use Rattle.association_wire.specs.Written.{written}
+use Rattle.association_writing.specs.association_wire.Written.{written}
 use Rattle.association_writing.specs.Room.{MayStand}
-use Rattle.association_reading.specs.Front.{Front, OfTransport, Intake, first_in, behind_first}
-use Rattle.association_reading.specs.Reacting.{react_to}
+use Rattle.association_line.specs.association_reading.Front.{Front, OfTransport, Intake, first_in, behind_first}
+use Rattle.association_line.specs.association_reading.Reacting.{react_to}
 use Rattle.association_line.specs.Line.{Line, first_size, size_of_unit}
-use Rattle.association_intake.specs.declared.front.Front as fronts
-use Rattle.association_intake.specs.Seen.{seen_front}
-use Rattle.association_answers.specs.declared.brought.Reaction.{Reaction}
-use Rattle.association_answers.specs.declared.brought.Reaction.TheVariants.{Passes, Takes, Fails}
-use Rattle.association_answers.specs.Reacted.{seen_messages}
+use Rattle.association_meaning.specs.association_intake.declared.front.Front as fronts
+use Rattle.association_meaning.specs.association_intake.Seen.{seen_front}
+use Rattle.association_reacting.specs.association_answers.declared.brought.Reaction.{Reaction}
+use Rattle.association_reacting.specs.association_answers.declared.brought.Reaction.TheVariants.{Passes, Takes, Fails}
+use Rattle.association_reacting.specs.association_answers.Reacted.{seen_messages}
 use Rattle.association_reacting.specs.Reacts.{ReactsAs}
 use Rattle.association_end.specs.View.{EndView}
 use Rattle.association_end.specs.View as view

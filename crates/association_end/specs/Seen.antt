@@ -1,9 +1,9 @@
 -- What a contract sees of the parts of an end. No public clause cites this module.
 use Rattle.std.specs.Prelude.{ℕ, List, Option, Some, None}
-use Rattle.association_reading.specs.Front.{Intake}
-use Rattle.association_state.specs.declared.basis.Ground.{Ground}
-use Rattle.association_state.specs.declared.body.Body.{Body}
-use Rattle.association_state.specs.Seen.{seen}
+use Rattle.association_line.specs.association_reading.Front.{Intake}
+use Rattle.association_reacting.specs.association_state.declared.basis.Ground.{Ground}
+use Rattle.association_reacting.specs.association_state.declared.body.Body.{Body}
+use Rattle.association_reacting.specs.association_state.Seen.{seen}
 use Rattle.association_end.specs.View.{EndView}
 
 -- what came, where it is looked at

@@ -4,7 +4,7 @@ use Rattle.osi_base.specs.Limits.{IsUnitSize}
 use Rattle.end_rules.specs.Base.{is_bare}
 use Rattle.end_rules.specs.State.{passes_over}
 use Rattle.end_config.specs.Refusing.{config_refusal}
-use Rattle.association_reading.specs.Front.{Front, Short, OfTransport, OfSession, Faulty, Intake}
+use Rattle.association_line.specs.association_reading.Front.{Front, Short, OfTransport, OfSession, Faulty, Intake}
 use Rattle.association_end.specs.View.{EndView}
 
 abbrev pub IsMessage : Front → Type 0

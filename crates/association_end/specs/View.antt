@@ -4,7 +4,7 @@ use Rattle.stub_tables.specs.declared.tables.Tables.{Tables}
 use Rattle.dialogue.specs.declared.config.Config.{Config}
 use Rattle.end_rules.specs.Base.{Base, base_of}
 use Rattle.end_rules.specs.History.{Step, History}
-use Rattle.association_reading.specs.Transfers.{association_spellings}
+use Rattle.association_line.specs.association_reading.Transfers.{association_spellings}
 use Rattle.association_line.specs.Line.{End, after_all, end_of}
 
 -- its tables, its configuration, and what it holds with its line

@@ -2,7 +2,7 @@
 
 ghost use Rattle.std.specs.Prelude.{◌≡◌, IfOk, OnOk, OnErr, MatchBool, option_map};
 ghost use Rattle.association_words.specs.Seen.{seen_message};
-ghost use Rattle.association_sends.specs.Due.{listed};
+ghost use Rattle.association_reacting.specs.association_sends.Due.{listed};
 ghost use Rattle.association_end.specs.Called.{is_memory, Answered, DiedCalled};
 ghost use Rattle.association_end.specs.Progress.{Answers};
 ghost use Rattle.association_requests.specs.Called.{sent_by};

@@ -4,12 +4,12 @@ ghost use Rattle.std.specs.Prelude.{◌≡◌, ◌≢◌, ℕ, List, [], ◌∷�
 ghost use Rattle.end_rules.specs.Base.{is_bare};
 
 use crate::dt_sizes::first_size;
-use apdu_codec::Heads;
-use association_codecs::Codecs;
 use association_ground::is_up;
-use association_intake::Intake;
+use association_meaning::apdu_codec_layer::Heads;
+use association_meaning::association_codecs_layer::Codecs;
+use association_meaning::association_intake_layer::Intake;
+use association_reacting::association_state_layer::{Body, Ground};
 use association_requests::connection_broke;
-use association_state::{Body, Ground};
 use dialogue::{Config, ConfigRefusal, Phase};
 use end_config::check_config;
 use osi_base::{NoMemory, OctetQueue, copy_front};
@@ -55,7 +55,7 @@ impl<'t> End<'t> {
     ghost use Rattle.end_rules.specs.State.{holds_turn};
     ghost use Rattle.end_rules.specs.History.{History, gave, broke};
     ghost use Rattle.association_line.specs.Line.{new_end};
-    ghost use Rattle.association_reading.specs.Transfers.{association_spellings};
+    ghost use Rattle.association_line.specs.association_reading.Transfers.{association_spellings};
     ghost use Rattle.association_end.specs.View.{EndView, Stepped, StandsFor};
 
     /// An end of direct or reliable mode with these tables and this configuration. Refused is what

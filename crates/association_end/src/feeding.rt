@@ -3,8 +3,8 @@
 ghost use Rattle.std.specs.Prelude.{◌≡◌, ℕ, List, [], ◌∷◌, None, true, false, OnOk, OnErr, MatchBool, MatchResult, option_map};
 ghost use Rattle.end_rules.specs.State.{passes_over};
 ghost use Rattle.end_rules.specs.History.{fed};
-ghost use Rattle.association_intake.specs.Seen.{seen_front};
-ghost use Rattle.association_reading.specs.Front as fronts;
+ghost use Rattle.association_meaning.specs.association_intake.Seen.{seen_front};
+ghost use Rattle.association_line.specs.association_reading.Front as fronts;
 ghost use Rattle.association_end.specs.View.{EndView, Stepped};
 ghost use Rattle.association_end.specs.Seen.{came_in};
 ghost use Rattle.association_end.specs.Sound.{IsMessage};
@@ -13,8 +13,8 @@ ghost use Rattle.association_end.specs.Progress.{Keeps, Goes, ReadAll, BeganRead
 
 use crate::end::End;
 use association_ground::passes_over;
-use association_intake::{Front, Intake};
 use association_line::reactions_are_steps;
+use association_meaning::association_intake_layer::{Front, Intake};
 use dialogue::{Indications, Phase};
 use osi_base::{ListOf, NoMemory};
 

@@ -12,4 +12,5 @@ mod reading;
 mod sending;
 mod told_and_sent;
 
+pub use association_line as association_line_layer;
 pub use end::End;

@@ -3,7 +3,7 @@
 ghost use Rattle.std.specs.Prelude.{◌≡◌, IfOk, OnErr, MatchResult, false, true};
 ghost use Rattle.osi_base.specs.Limits.{IsUnitSize};
 ghost use Rattle.end_rules.specs.State.{passes_over};
-ghost use Rattle.association_intake.specs.Seen.{seen_front, IsPlaced, TakesFirst};
+ghost use Rattle.association_meaning.specs.association_intake.Seen.{seen_front, IsPlaced, TakesFirst};
 ghost use Rattle.association_end.specs.Progress.{Keeps};
 ghost use Rattle.association_end.specs.Reacted.{TookFirst, ReactedTo, Deals, size_of_front};
 ghost use Rattle.association_end.specs.Seen.{came_in};
@@ -13,10 +13,10 @@ ghost use Rattle.association_line.specs.Line as line;
 use crate::dt_sizes::{first_size, size_with};
 use crate::end::End;
 use crate::reading::react_to;
-use association_answers::Reaction;
 use association_ground::passes_over;
-use association_intake::{Front, Intake};
 use association_line::reactions_are_steps;
+use association_meaning::association_intake_layer::{Front, Intake};
+use association_reacting::association_answers_layer::Reaction;
 use dialogue::Indications;
 use osi_base::NoMemory;
 

@@ -9,12 +9,12 @@ ghost use Rattle.end_rules.specs.Messages.{End as rule_end, OfActivities, Sessio
 ghost use Rattle.end_rules.specs.Reacting.{fails as rule_fails, react as rule_react};
 ghost use Rattle.end_rules.specs.State.{passes_over};
 ghost use Rattle.end_rules.specs.TakesActivities as activities;
-ghost use Rattle.association_reading.specs.Meaning.{meaning as rule_meaning};
-ghost use Rattle.association_reading.specs.Reacting as rules;
-ghost use Rattle.association_intake.specs.Seen.{seen_front, HasUserPlaces, IsPlaced};
+ghost use Rattle.association_line.specs.association_reading.Meaning.{meaning as rule_meaning};
+ghost use Rattle.association_line.specs.association_reading.Reacting as rules;
+ghost use Rattle.association_meaning.specs.association_intake.Seen.{seen_front, HasUserPlaces, IsPlaced};
 ghost use Rattle.association_words.specs.Seen.{seen_word, seen_activities, seen_fault, seen_value, seen_arrived};
-ghost use Rattle.association_state.specs.Seen.{base_in, seen};
-ghost use Rattle.association_takes.specs.Acts.{is_end};
+ghost use Rattle.association_reacting.specs.association_state.Seen.{base_in, seen};
+ghost use Rattle.association_reacting.specs.association_takes.Acts.{is_end};
 ghost use Rattle.association_meaning.specs.declared.basis.Halt.TheVariants as halts;
 ghost use Rattle.association_meaning.specs.Grounds.{GivesAs};
 ghost use Rattle.association_reacting.specs.ActivityEnds.{is_end_word, ArrivesAs};
@@ -22,14 +22,14 @@ ghost use Rattle.association_reacting.specs.Reacts.{ReactsAs};
 ghost use Rattle.association_end.specs.Reacted.{ReactsTo};
 ghost use Rattle.association_end.specs.Sound.{IsMessage};
 
-use association_answers::{Reaction, fail_association};
-use association_codecs::Codecs;
-use association_intake::Front;
+use association_meaning::association_codecs_layer::Codecs;
+use association_meaning::association_intake_layer::Front;
 use association_meaning::{Halt, ReadingGround, arrived_at, meaning_of_unit};
-use association_place::{is_unit_in_place, is_unit_purged};
+use association_reacting::association_answers_layer::{Reaction, fail_association};
+use association_reacting::association_place_layer::{is_unit_in_place, is_unit_purged};
+use association_reacting::association_state_layer::{Body, Ground};
 use association_reacting::{fails_on_accepted, has_connection, react, react_to_end};
 use association_sets::copy_set;
-use association_state::{Body, Ground};
 use association_words::{
     ActivityWord, Arrived, Fault, Message, TransferItem, Value, ValueContent, Word,
 };

@@ -3,12 +3,12 @@
 ghost use Rattle.std.specs.Prelude.{◌≡◌, [], ◌∷◌, IfOk, OnOk, OnErr};
 ghost use Rattle.osi_base.specs.Limits.{IsUnitSize};
 ghost use Rattle.association_words.specs.Seen.{seen_message};
-ghost use Rattle.association_answers.specs.Reacted.{seen_messages};
+ghost use Rattle.association_reacting.specs.association_answers.Reacted.{seen_messages};
 ghost use Rattle.association_writing.specs.Room.{MayStand};
 ghost use Rattle.association_end.specs.Reacted.{all_written, AllMayStand, sending};
 
 use crate::end::End;
-use association_codecs::Codecs;
+use association_meaning::association_codecs_layer::Codecs;
 use association_words::Message;
 use association_writing::write_message;
 use osi_base::{NoMemory, Octets};

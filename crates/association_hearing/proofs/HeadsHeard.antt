@@ -11,16 +11,16 @@ use Rattle.stub_tables.specs.Apdus.{argument_of, result_of, parameter_of, operat
 use Rattle.apdu_spelling.specs.declared.head.ApduHead.{ApduHead}
 use Rattle.apdu_spelling.specs.Heads as heads
 use Rattle.apdu_spelling.specs.Spellings.{room_behind, fields_in}
-use Rattle.apdu_codec.specs.declared.fault.HeadFault.{HeadFault}
-use Rattle.apdu_codec.specs.declared.fault.HeadFault.TheVariants as fault
-use Rattle.apdu_codec.specs.Refusals.{refusal_of}
-use Rattle.apdu_codec.specs.HeadsRead.{HasFields, HasNone, IsRefused}
+use Rattle.end_wire.specs.apdu_codec.declared.fault.HeadFault.{HeadFault}
+use Rattle.end_wire.specs.apdu_codec.declared.fault.HeadFault.TheVariants as fault
+use Rattle.end_wire.specs.apdu_codec.Refusals.{refusal_of}
+use Rattle.end_wire.specs.apdu_codec.HeadsRead.{HasFields, HasNone, IsRefused}
 use Rattle.rose_roles.specs.declared.apdu_taken.RoseTaken.{RoseTaken}
 use Rattle.rose_roles.specs.Heads.{room_in, said_by}
 use Rattle.rose_roles.specs.Hearing.{heard_with, refused_as, Hears}
 use Rattle.rose_roles.specs.Laws.{carried_by}
 use Rattle.rose_roles.proofs.Carrying.{always_carries}
-use Rattle.open_invocations.specs.Invocations.{SomeCarried}
+use Rattle.association_answers.specs.open_invocations.Invocations.{SomeCarried}
 use Rattle.end_rules.specs.Base.{Base, InvokeHead, ResultHead, ErrorHead}
 use Rattle.end_rules.specs.State.{Calls}
 use Rattle.end_rules.specs.Hearing.{hear}

@@ -3,14 +3,14 @@
 ghost use Rattle.std.specs.Prelude.{◌≡◌, IfOk, true};
 ghost use Rattle.end_rules.specs.Hearing.{hear, head_of_apdu, hear_result_of, code_returned, value_returned};
 ghost use Rattle.rose_roles.specs.Hearing.{heard_with};
-ghost use Rattle.association_state.specs.Seen.{base_in};
+ghost use Rattle.association_answers.specs.association_state.Seen.{base_in};
 ghost use Rattle.end_rules.specs.State.{opened_with};
 
 use crate::invocations::hear_invoke;
 use crate::outcomes::{hear_error, hear_reject, hear_result};
 use crate::places::{error_with, operation_with};
-use association_state::Ground;
-use open_invocations::Invocations;
+use association_answers::association_state_layer::Ground;
+use association_answers::open_invocations_layer::Invocations;
 use osi_base::NoMemory;
 use rose_roles::RoseTaken;
 use stub_tables::{Apdu, Returned};

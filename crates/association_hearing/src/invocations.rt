@@ -4,12 +4,12 @@ ghost use Rattle.std.specs.Prelude.{◌≡◌, IfOk, Some};
 ghost use Rattle.osi_base.specs.declared.layer_words.ProblemKind.TheVariants as kinds;
 ghost use Rattle.end_rules.specs.Hearing.{carried_in, rejected, unless_problem, invoked, invoke_problem};
 ghost use Rattle.rose_roles.specs.Hearing.{heard_with};
-ghost use Rattle.association_state.specs.Seen.{base_in};
+ghost use Rattle.association_answers.specs.association_state.Seen.{base_in};
 
 use crate::problems::invoke_problem;
 use asn1_types::Val;
-use association_state::Ground;
-use open_invocations::Invocations;
+use association_answers::association_state_layer::Ground;
+use association_answers::open_invocations_layer::Invocations;
 use osi_base::{NoMemory, ProblemKind};
 use rose_roles::{InvokedWith, RoseTaken, reject_with};
 

@@ -4,12 +4,12 @@ ghost use Rattle.std.specs.Prelude.{◌≡◌, Some, true};
 ghost use Rattle.end_rules.specs.State.{opened_with};
 ghost use Rattle.end_rules.specs.Hearing.{carried_in, hear_result_of, hear_error_of, hear_reject};
 ghost use Rattle.rose_roles.specs.Hearing.{heard_with};
-ghost use Rattle.association_state.specs.Seen.{base_in};
+ghost use Rattle.association_answers.specs.association_state.Seen.{base_in};
 
 use crate::problems::{error_problem, result_problem};
 use asn1_types::Val;
-use association_state::Ground;
-use open_invocations::Invocations;
+use association_answers::association_state_layer::Ground;
+use association_answers::open_invocations_layer::Invocations;
 use osi_base::{Problem, ProblemKind};
 use rose_roles::{RoseTaken, is_of_invocation, reject_with};
 use stub_tables::Code;

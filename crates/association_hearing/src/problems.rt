@@ -5,12 +5,12 @@ ghost use Rattle.stub_tables.specs.Lookup.{operation_at, error_at};
 ghost use Rattle.end_rules.specs.State.{opened_with};
 ghost use Rattle.end_rules.specs.Invoking.{is_linked_to, operation_of};
 ghost use Rattle.end_rules.specs.Hearing.{carried_in, is_silent_at, has_links, link_problem, argument_problem, operation_problem, invoke_problem, is_right_result, result_problem, known_error_problem, error_problem};
-ghost use Rattle.open_invocations.specs.Invocations.{is_link_back};
-ghost use Rattle.association_state.specs.Seen.{base_in};
+ghost use Rattle.association_answers.specs.open_invocations.Invocations.{is_link_back};
+ghost use Rattle.association_answers.specs.association_state.Seen.{base_in};
 
 use asn1_types::Val;
-use association_state::Ground;
-use open_invocations::Invocations;
+use association_answers::association_state_layer::Ground;
+use association_answers::open_invocations_layer::Invocations;
 use rose_roles::{has_links, is_linked_to};
 use stub_tables::{Code, Operation};
 

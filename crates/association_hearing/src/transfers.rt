@@ -5,10 +5,10 @@ ghost use Rattle.std.specs.Prelude.{◌≡◌, IfOk};
 ghost use Rattle.end_rules.specs.State.{Suspended, Transfer as rule_transfer, on_transfer, resumed_set};
 ghost use Rattle.end_rules.specs.TakesData.{part_in};
 ghost use Rattle.association_words.specs.Seen.{seen_content};
-ghost use Rattle.association_state.specs.Seen.{seen};
+ghost use Rattle.association_answers.specs.association_state.Seen.{seen};
 
+use association_answers::association_state_layer::{Body, Pieces, Progress};
 use association_sets::copy_set;
-use association_state::{Body, Pieces, Progress};
 use association_words::ValueContent;
 use osi_base::{NoMemory, SetItem, SetList};
 use std::alloc::Global;

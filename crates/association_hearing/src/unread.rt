@@ -4,11 +4,11 @@ ghost use Rattle.std.specs.Prelude.{◌≡◌, IfOk};
 ghost use Rattle.end_rules.specs.Hearing.{hear};
 ghost use Rattle.end_wire.specs.Heads.{head_at};
 ghost use Rattle.rose_roles.specs.Hearing.{heard_with};
-ghost use Rattle.association_state.specs.Seen.{base_in};
+ghost use Rattle.association_answers.specs.association_state.Seen.{base_in};
 
-use association_state::Ground;
+use association_answers::association_state_layer::Ground;
+use association_answers::open_invocations_layer::Invocations;
 use ber_spelling::{are_octets, hold_octets};
-use open_invocations::Invocations;
 use osi_base::{NoMemory, Octets, Syntax};
 use rose_roles::{RoseTaken, refused_head};
 

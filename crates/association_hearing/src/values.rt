@@ -5,19 +5,19 @@ ghost use Rattle.end_rules.specs.Hearing.{hear, head_of, syntax_of, data_on, tak
 ghost use Rattle.end_rules.specs.Requesting.{queueing};
 ghost use Rattle.rose_roles.specs.Hearing.{heard_with};
 ghost use Rattle.association_words.specs.Seen.{seen_message, seen_value, seen_values};
-ghost use Rattle.association_state.specs.Seen.{base_in, seen};
+ghost use Rattle.association_answers.specs.association_state.Seen.{base_in, seen};
 ghost use Rattle.association_hearing.specs.ValuesTaken.{TookAs, Joined};
 
 use crate::apdus::hear_apdu;
 use crate::unread::hear_unread;
+use association_answers::association_calls_layer::carrier_in;
+use association_answers::association_sends_layer::pair_copied;
+use association_answers::association_state_layer::{Body, Ground, Queued};
+use association_answers::open_invocations_layer::Invocations;
 use association_answers::{Brought, one_indication, one_message, with_indication, with_nothing};
-use association_calls::carrier_in;
 use association_ground::is_reliable;
-use association_sends::pair_copied;
-use association_state::{Body, Ground, Queued};
 use association_words::{DataWord, Message, Value, ValueContent, Values, Word, syntax_of};
 use dialogue::Indication;
-use open_invocations::Invocations;
 use osi_base::{ListOf, NoMemory, Problem, ProblemKind};
 use rose_roles::{RoseTaken, reject_with};
 use stub_tables::Apdu;

@@ -6,5 +6,6 @@ mod front;
 mod intake;
 mod packets;
 
+pub use association_reading as association_reading_layer;
 pub use front::Front;
 pub use intake::Intake;

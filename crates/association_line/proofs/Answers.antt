@@ -5,20 +5,20 @@ use Rattle.osi_base.specs.declared.layer_words.Layer.TheVariants as layers
 use Rattle.osi_base.specs.declared.layer_words.SetItem.{SetItem}
 use Rattle.dialogue.specs.declared.config.Mode.{Mode}
 use Rattle.dialogue.specs.declared.config.Mode.TheVariants.{Bare, Direct, Reliable}
-use Rattle.end_rules.specs.Base.{Base, is_reliable}
-use Rattle.end_rules.specs.Messages.{Message, TransportUnit, ConnectionRequest, ConnectionConfirm, DisconnectRequest, TransportError, Word, OfAssociation, OfData, OfMarks, OfActivities, AssociationWord, Connect, Accept, Refuse, Finish, Disconnect, Abort, AbortAccept, DataWord, Values, AlterContext, AlterContextAck, MarkWord, Mark, MarkAck, Restart, RestartAck, Give, Please, GiveConfirm, GiveAck, ActivityWord, Start, Resume, End, EndAck, Interrupt, InterruptAck, Discard, DiscardAck, DataValue}
-use Rattle.end_rules.specs.State.{Body}
-use Rattle.end_rules.specs.Invoking.{carrier_in}
-use Rattle.end_rules.specs.Hearing.{Taken, Rejecting, queued, sent_on, with_reject, take_head, take_values, head_of, hear}
-use Rattle.end_rules.specs.Faults.{abort_of}
-use Rattle.end_rules.specs.Connecting.{the_one, context_named, set_for, results_for, has_acse, lacks_request, rejecting_information, transfer_rejection, is_refused, refusal_message, acceptance_message}
-use Rattle.end_rules.specs.Writing.{refuse_message, provider_refusal}
-use Rattle.end_rules.specs.TakesTransport.{is_size, answer_to_request, answers_to_transport}
-use Rattle.end_rules.specs.TakesAssociation.{answers_to_association}
-use Rattle.end_rules.specs.TakesData.{with_parts, answers_to_data}
-use Rattle.end_rules.specs.TakesMarks.{mark_answer, answers_to_mark}
-use Rattle.end_rules.specs.TakesActivities.{answers_to_activity}
-use Rattle.end_rules.specs.Reacting.{answers_to_word}
+use Rattle.association_reading.specs.end_rules.Base.{Base, is_reliable}
+use Rattle.association_reading.specs.end_rules.Messages.{Message, TransportUnit, ConnectionRequest, ConnectionConfirm, DisconnectRequest, TransportError, Word, OfAssociation, OfData, OfMarks, OfActivities, AssociationWord, Connect, Accept, Refuse, Finish, Disconnect, Abort, AbortAccept, DataWord, Values, AlterContext, AlterContextAck, MarkWord, Mark, MarkAck, Restart, RestartAck, Give, Please, GiveConfirm, GiveAck, ActivityWord, Start, Resume, End, EndAck, Interrupt, InterruptAck, Discard, DiscardAck, DataValue}
+use Rattle.association_reading.specs.end_rules.State.{Body}
+use Rattle.association_reading.specs.end_rules.Invoking.{carrier_in}
+use Rattle.association_reading.specs.end_rules.Hearing.{Taken, Rejecting, queued, sent_on, with_reject, take_head, take_values, head_of, hear}
+use Rattle.association_reading.specs.end_rules.Faults.{abort_of}
+use Rattle.association_reading.specs.end_rules.Connecting.{the_one, context_named, set_for, results_for, has_acse, lacks_request, rejecting_information, transfer_rejection, is_refused, refusal_message, acceptance_message}
+use Rattle.association_reading.specs.end_rules.Writing.{refuse_message, provider_refusal}
+use Rattle.association_reading.specs.end_rules.TakesTransport.{is_size, answer_to_request, answers_to_transport}
+use Rattle.association_reading.specs.end_rules.TakesAssociation.{answers_to_association}
+use Rattle.association_reading.specs.end_rules.TakesData.{with_parts, answers_to_data}
+use Rattle.association_reading.specs.end_rules.TakesMarks.{mark_answer, answers_to_mark}
+use Rattle.association_reading.specs.end_rules.TakesActivities.{answers_to_activity}
+use Rattle.association_reading.specs.end_rules.Reacting.{answers_to_word}
 use Rattle.association_line.specs.Reactions.{IsAnswer, AreAnswers}
 
 pub both_answers : (xs ys : List Message) → AreAnswers xs → AreAnswers ys → AreAnswers (xs ++ ys)

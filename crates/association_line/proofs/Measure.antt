@@ -7,16 +7,16 @@ use Rattle.osi_base.specs.declared.layer_words.SetItem.{SetItem}
 use Rattle.osi_base.specs.Limits.{last_activity}
 use Rattle.dialogue.specs.declared.config.Mode.{Mode}
 use Rattle.dialogue.specs.declared.config.Mode.TheVariants.{Bare, Direct, Reliable}
-use Rattle.end_rules.specs.Base.{Base, is_reliable}
-use Rattle.end_rules.specs.Sets.{Alteration, Saved, same_name, is_deleted_in, may_send, lowest_with, carrier}
+use Rattle.association_reading.specs.end_rules.Base.{Base, is_reliable}
+use Rattle.association_reading.specs.end_rules.Sets.{Alteration, Saved, same_name, is_deleted_in, may_send, lowest_with, carrier}
 use Rattle.osi_base.specs.SetPlaces.{pair_of}
-use Rattle.end_rules.specs.Messages.{Message, Session, OfMarks, OfActivities, Mark, Start, End}
-use Rattle.end_rules.specs.State.{Body, Link, Sets, Calls, Receiving, Transfer, Encoded, Queued, Piece, Progress, Running, Ending, Suspended, is_empty, joined, highest}
-use Rattle.end_rules.specs.Invoking.{carrier_in}
-use Rattle.end_rules.specs.Requesting.{after_sent}
-use Rattle.end_rules.specs.ByItself.{OwnAct, SendsNow, EncodesOn, leads, part_size, ends_in_octets, next_of, left_of, encodes_on, next_start, next_in, next_own, item_on, encoded_as, encoding}
-use Rattle.end_rules.specs.Writing.{part_message}
-use Rattle.end_rules.specs.History.{Step, after_step, step_of, ByItself, rests, goes}
+use Rattle.association_reading.specs.end_rules.Messages.{Message, Session, OfMarks, OfActivities, Mark, Start, End}
+use Rattle.association_reading.specs.end_rules.State.{Body, Link, Sets, Calls, Receiving, Transfer, Encoded, Queued, Piece, Progress, Running, Ending, Suspended, is_empty, joined, highest}
+use Rattle.association_reading.specs.end_rules.Invoking.{carrier_in}
+use Rattle.association_reading.specs.end_rules.Requesting.{after_sent}
+use Rattle.association_reading.specs.end_rules.ByItself.{OwnAct, SendsNow, EncodesOn, leads, part_size, ends_in_octets, next_of, left_of, encodes_on, next_start, next_in, next_own, item_on, encoded_as, encoding}
+use Rattle.association_reading.specs.end_rules.Writing.{part_message}
+use Rattle.association_reading.specs.end_rules.History.{Step, after_step, step_of, ByItself, rests, goes}
 use Rattle.association_line.specs.OwnActs.{encoded_length, length_on, length_ahead, one_if, left_in, left_to_do}
 
 -- ---- small things

@@ -2,14 +2,14 @@
 use Rattle.std.proofs.Common.{◌≡◌, refl, true, false, ◌∙◌, sym, ap, List, ◌∷◌, ◌++◌, None, Ok, Err}
 use Rattle.std.specs.Prelude.{Some}
 use Rattle.dialogue.specs.declared.indication.Indication.{Indication}
-use Rattle.end_rules.specs.Base.{Base, Fault}
-use Rattle.end_rules.specs.Messages.{Message}
-use Rattle.end_rules.specs.State.{Body, passes_over}
-use Rattle.end_rules.specs.Invoking.{Reply}
-use Rattle.end_rules.specs.Calling.{can_call}
-use Rattle.end_rules.specs.ByItself.{OwnAct, next_own}
-use Rattle.end_rules.specs.Reacting.{Reaction, Passes, Takes, Fails}
-use Rattle.end_rules.specs.History.{Step, fed, passed, feed_end, after_step, step_of, ByItself, rests, goes, call_steps}
+use Rattle.association_reading.specs.end_rules.Base.{Base, Fault}
+use Rattle.association_reading.specs.end_rules.Messages.{Message}
+use Rattle.association_reading.specs.end_rules.State.{Body, passes_over}
+use Rattle.association_reading.specs.end_rules.Invoking.{Reply}
+use Rattle.association_reading.specs.end_rules.Calling.{can_call}
+use Rattle.association_reading.specs.end_rules.ByItself.{OwnAct, next_own}
+use Rattle.association_reading.specs.end_rules.Reacting.{Reaction, Passes, Takes, Fails}
+use Rattle.association_reading.specs.end_rules.History.{Step, fed, passed, feed_end, after_step, step_of, ByItself, rests, goes, call_steps}
 use Rattle.association_reading.specs.Front.{Short, Intake, first_in}
 use Rattle.association_reading.specs.Reacting.{react_to}
 use Rattle.association_line.specs.Line.{End, after, after_all}

@@ -3,15 +3,15 @@ use Rattle.std.proofs.Common.{◌≡◌, ℕ, Bool, true, false, not, ◌||◌, 
 use Rattle.osi_base.specs.declared.session_word.SessionWord.{SessionWord}
 use Rattle.osi_base.specs.declared.layer_words.SetItem.{SetItem}
 use Rattle.dialogue.specs.declared.indication.Indication.{Indication}
-use Rattle.end_rules.specs.Base.{Base, Fault, is_bare}
-use Rattle.end_rules.specs.Messages.{Message, Transport, Session, TransportUnit, Word, unit_of}
-use Rattle.end_rules.specs.State.{Body, is_joined, is_carrying, passes_over}
-use Rattle.end_rules.specs.Purging.{is_purged, is_transport_purged}
-use Rattle.end_rules.specs.InPlace.{is_in_place}
-use Rattle.end_rules.specs.Faults.{over, abort_of, transport_fault, session_fault}
-use Rattle.end_rules.specs.TakesTransport.{transport_unit_fault}
-use Rattle.end_rules.specs.Reacting.{Reaction, Passes, Takes, Fails, fails, word_fault, fault_above, contexts_of_word, on_word, on_transport, react_to_session, react_alive, react}
-use Rattle.end_rules.specs.History.{after_taken}
+use Rattle.association_reading.specs.end_rules.Base.{Base, Fault, is_bare}
+use Rattle.association_reading.specs.end_rules.Messages.{Message, Transport, Session, TransportUnit, Word, unit_of}
+use Rattle.association_reading.specs.end_rules.State.{Body, is_joined, is_carrying, passes_over}
+use Rattle.association_reading.specs.end_rules.Purging.{is_purged, is_transport_purged}
+use Rattle.association_reading.specs.end_rules.InPlace.{is_in_place}
+use Rattle.association_reading.specs.end_rules.Faults.{over, abort_of, transport_fault, session_fault}
+use Rattle.association_reading.specs.end_rules.TakesTransport.{transport_unit_fault}
+use Rattle.association_reading.specs.end_rules.Reacting.{Reaction, Passes, Takes, Fails, fails, word_fault, fault_above, contexts_of_word, on_word, on_transport, react_to_session, react_alive, react}
+use Rattle.association_reading.specs.end_rules.History.{after_taken}
 use Rattle.association_reading.specs.Front.{Front, Short, OfTransport, OfSession, Faulty}
 use Rattle.association_reading.specs.Meaning.{meaning}
 use Rattle.association_reading.specs.Reacting.{react_to, has_connection, react_to_unit, on_meaning, contexts_of_unit, grammar_fault}

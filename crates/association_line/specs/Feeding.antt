@@ -2,14 +2,14 @@
 use Rattle.std.specs.Prelude.{◌≡◌, ℕ, List, [], ◌∷◌, ◌++◌, map, true, false, Option, Some, None, Result, Ok, Err}
 use Rattle.dialogue.specs.declared.call.Call.{Call}
 use Rattle.dialogue.specs.declared.indication.Indication.{Indication}
-use Rattle.end_rules.specs.Base.{Base, Fault}
-use Rattle.end_rules.specs.Messages.{Message, Transport, Session, Word}
-use Rattle.end_rules.specs.State.{Body, passes_over}
-use Rattle.end_rules.specs.Invoking.{Reply}
-use Rattle.end_rules.specs.Calling.{can_call}
-use Rattle.end_rules.specs.ByItself.{OwnAct, next_own}
-use Rattle.end_rules.specs.Reacting.{Passes, Takes, Fails}
-use Rattle.end_rules.specs.History.{Step, fed, took, answered, passed, fault, aborted, feed_end, step_of, ByItself, call_steps, after_step}
+use Rattle.association_reading.specs.end_rules.Base.{Base, Fault}
+use Rattle.association_reading.specs.end_rules.Messages.{Message, Transport, Session, Word}
+use Rattle.association_reading.specs.end_rules.State.{Body, passes_over}
+use Rattle.association_reading.specs.end_rules.Invoking.{Reply}
+use Rattle.association_reading.specs.end_rules.Calling.{can_call}
+use Rattle.association_reading.specs.end_rules.ByItself.{OwnAct, next_own}
+use Rattle.association_reading.specs.end_rules.Reacting.{Passes, Takes, Fails}
+use Rattle.association_reading.specs.end_rules.History.{Step, fed, took, answered, passed, fault, aborted, feed_end, step_of, ByItself, call_steps, after_step}
 use Rattle.association_reading.specs.Front.{Front, Short, OfTransport, OfSession, Faulty, Intake, first_in}
 use Rattle.association_reading.specs.Meaning.{meaning}
 use Rattle.association_reading.specs.Reacting.{react_to}

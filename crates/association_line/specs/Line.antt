@@ -2,12 +2,12 @@
 -- many octets a DT of it has at most.
 use Rattle.std.specs.Prelude.{ℕ, List, [], ◌∷◌, ◌++◌, drop, Bool, true, false, if◌then◌else◌, Option, Some, None, option_map}
 use Rattle.osi_base.specs.Limits.{unit_least, unit_most}
-use Rattle.end_rules.specs.Base.{Base}
-use Rattle.end_rules.specs.Messages.{Message, Transport, Session, TransportUnit, ConnectionRequest, ConnectionConfirm, DisconnectRequest, TransportError}
-use Rattle.end_rules.specs.State.{Body, new_body, passes_over}
-use Rattle.end_rules.specs.TakesTransport.{is_size, octets_of_size}
-use Rattle.end_rules.specs.History.{Step, History, called, sent, encoded, fed, took, answered, passed, fault, aborted, feed_end, gave, broke, after_step}
-use Rattle.association_wire.specs.Written.{written}
+use Rattle.association_reading.specs.end_rules.Base.{Base}
+use Rattle.association_reading.specs.end_rules.Messages.{Message, Transport, Session, TransportUnit, ConnectionRequest, ConnectionConfirm, DisconnectRequest, TransportError}
+use Rattle.association_reading.specs.end_rules.State.{Body, new_body, passes_over}
+use Rattle.association_reading.specs.end_rules.TakesTransport.{is_size, octets_of_size}
+use Rattle.association_reading.specs.end_rules.History.{Step, History, called, sent, encoded, fed, took, answered, passed, fault, aborted, feed_end, gave, broke, after_step}
+use Rattle.association_reading.specs.association_wire.Written.{written}
 use Rattle.association_reading.specs.Front.{Intake, nothing_came, with_octets, behind_first}
 
 pub record Line : Type 0 where

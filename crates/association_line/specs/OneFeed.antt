@@ -2,8 +2,8 @@
 use Rattle.std.specs.Prelude.{◌≡◌, ℕ, List}
 use Rattle.dialogue.specs.declared.call.Call.{Call}
 use Rattle.dialogue.specs.declared.indication.Indication.{Indication}
-use Rattle.end_rules.specs.Base.{Base}
-use Rattle.end_rules.specs.History.{Step}
+use Rattle.association_reading.specs.end_rules.Base.{Base}
+use Rattle.association_reading.specs.end_rules.History.{Step}
 use Rattle.association_line.specs.Line.{End}
 use Rattle.association_line.specs.Feeding.{Feeds, Makes}
 

@@ -1,11 +1,11 @@
 -- How much is left of what an end does by itself, and that each thing that it does leaves less (X.228 7.2, 7.3).
 use Rattle.std.specs.Prelude.{◌≡◌, ℕ, ◌+◌, ◌*◌, ◌<◌, List, [], ◌∷◌, length, Bool, true, false, Option, Some, None}
-use Rattle.end_rules.specs.Base.{Base}
+use Rattle.association_reading.specs.end_rules.Base.{Base}
 use Rattle.osi_base.specs.SetPlaces.{pair_of}
-use Rattle.end_rules.specs.State.{Body, Transfer, Encoded, Queued, Progress, Running, Ending, Suspended}
-use Rattle.end_rules.specs.Invoking.{carrier_in}
-use Rattle.end_rules.specs.ByItself.{OwnAct, ends_in_octets, left_of, item_on, encoded_as, next_own}
-use Rattle.end_rules.specs.History.{Step, after_step, step_of, ByItself}
+use Rattle.association_reading.specs.end_rules.State.{Body, Transfer, Encoded, Queued, Progress, Running, Ending, Suspended}
+use Rattle.association_reading.specs.end_rules.Invoking.{carrier_in}
+use Rattle.association_reading.specs.end_rules.ByItself.{OwnAct, ends_in_octets, left_of, item_on, encoded_as, next_own}
+use Rattle.association_reading.specs.end_rules.History.{Step, after_step, step_of, ByItself}
 
 -- how many octets an encoding has
 abbrev pub encoded_length : Option Encoded → ℕ

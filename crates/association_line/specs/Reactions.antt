@@ -2,12 +2,12 @@
 -- its taking leaves; what is answered or sent for a fault is never a CR.
 use Rattle.std.specs.Prelude.{◌≡◌, List, [], ◌∷◌, Some}
 use Rattle.dialogue.specs.declared.indication.Indication.{Indication}
-use Rattle.end_rules.specs.Base.{Base, Fault}
-use Rattle.end_rules.specs.Messages.{Message, Transport, Session, TransportUnit, ConnectionRequest, ConnectionConfirm, DisconnectRequest, TransportError}
-use Rattle.end_rules.specs.State.{Body}
-use Rattle.end_rules.specs.Faults.{over}
-use Rattle.end_rules.specs.Reacting.{Takes, Fails}
-use Rattle.end_rules.specs.History.{after_taken}
+use Rattle.association_reading.specs.end_rules.Base.{Base, Fault}
+use Rattle.association_reading.specs.end_rules.Messages.{Message, Transport, Session, TransportUnit, ConnectionRequest, ConnectionConfirm, DisconnectRequest, TransportError}
+use Rattle.association_reading.specs.end_rules.State.{Body}
+use Rattle.association_reading.specs.end_rules.Faults.{over}
+use Rattle.association_reading.specs.end_rules.Reacting.{Takes, Fails}
+use Rattle.association_reading.specs.end_rules.History.{after_taken}
 use Rattle.association_reading.specs.Front.{Front}
 use Rattle.association_reading.specs.Reacting.{react_to}
 use Rattle.association_line.specs.Feeding.{message_in}

@@ -4,7 +4,7 @@ use Rattle.std.proofs.lemmas.List.{append-nil, drop_all}
 use Rattle.osi_base.specs.declared.presentation_word.Pdv.{Pdv}
 use Rattle.end_rules.specs.Base.{Fault}
 use Rattle.end_rules.specs.Messages as meant
-use Rattle.association_reading.specs.Values.{before_values, all_values, unless_fault}
+use Rattle.association_intake.specs.association_reading.Values.{before_values, all_values, unless_fault}
 use Rattle.association_words.specs.declared.values.Value.{Value}
 use Rattle.association_words.specs.Seen.{seen_value, seen_values, seen_fault}
 use Rattle.association_meaning.specs.declared.basis.Halt.{Halt}

@@ -13,11 +13,11 @@ use Rattle.osi_base.specs.declared.presentation_word.PresentationWord.{Presentat
 use Rattle.stub_tables.specs.declared.tables.Tables.{Tables}
 use Rattle.end_rules.specs.Base.{Base, Fault}
 use Rattle.end_rules.specs.Messages.{DataValue, ValueContent, Information, Accepting, AbortData, Word}
-use Rattle.association_reading.specs.declared.layer_of_values.Carriage.{Carriage}
-use Rattle.association_reading.specs.Places.{PdvPlaces}
-use Rattle.association_reading.specs.Values.{with_content, with_user, and_informed}
-use Rattle.association_reading.specs.Meaning.{with_values}
-use Rattle.association_reading.specs.Transfers.{arrived_as}
+use Rattle.association_intake.specs.association_reading.declared.layer_of_values.Carriage.{Carriage}
+use Rattle.association_intake.specs.association_reading.Places.{PdvPlaces}
+use Rattle.association_intake.specs.association_reading.Values.{with_content, with_user, and_informed}
+use Rattle.association_intake.specs.association_reading.Meaning.{with_values}
+use Rattle.association_intake.specs.association_reading.Transfers.{arrived_as}
 use Rattle.association_meaning.specs.declared.basis.Halt.{Halt}
 use Rattle.association_meaning.specs.declared.basis.Halt.TheVariants.{Faulty, NoMemory}
 use Rattle.association_meaning.specs.Grounds.{FailsAs, GivesAs}

@@ -9,7 +9,7 @@ use Rattle.rtse_apdus.specs.Reading.{rtse_at}
 use Rattle.end_rules.specs.Base.{Fault}
 use Rattle.end_rules.specs.Messages as meant
 use Rattle.end_rules.specs.Connecting.{is_on_rtse}
-use Rattle.association_reading.specs.Values as reading
+use Rattle.association_intake.specs.association_reading.Values as reading
 use Rattle.association_words.specs.declared.values.Information.{Information}
 use Rattle.association_words.specs.declared.values.Information.TheVariants.{Transferring, Other}
 use Rattle.association_words.specs.declared.values.ValueContent.{ValueContent}

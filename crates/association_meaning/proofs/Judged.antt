@@ -12,12 +12,12 @@ use Rattle.osi_base.specs.SetPlaces.{pair_of}
 use Rattle.end_rules.specs.Messages as meant
 use Rattle.pdv_places.specs.declared.places.PdvField.{PdvField}
 use Rattle.pdv_places.specs.Seen.{place_in}
-use Rattle.association_reading.specs.declared.layer_of_values.Carriage.{Carriage}
-use Rattle.association_reading.specs.Places.{PdvPlaces}
-use Rattle.association_reading.specs.Contexts.{name_carried, invalid_at, pdv_fault, form_fault, first_fault}
-use Rattle.association_reading.specs.Values.{unless_fault, all_values, value_in, values_under}
-use Rattle.association_reading.specs.Association.{is_left, fault_unless_left, value_or_left, left_values, unasked_value, unasked_values}
-use Rattle.association_reading.specs.Transfers.{unless_wrong, arrived_under}
+use Rattle.association_intake.specs.association_reading.declared.layer_of_values.Carriage.{Carriage}
+use Rattle.association_intake.specs.association_reading.Places.{PdvPlaces}
+use Rattle.association_intake.specs.association_reading.Contexts.{name_carried, invalid_at, pdv_fault, form_fault, first_fault}
+use Rattle.association_intake.specs.association_reading.Values.{unless_fault, all_values, value_in, values_under}
+use Rattle.association_intake.specs.association_reading.Association.{is_left, fault_unless_left, value_or_left, left_values, unasked_value, unasked_values}
+use Rattle.association_intake.specs.association_reading.Transfers.{unless_wrong, arrived_under}
 use Rattle.association_meaning.specs.declared.contexts.Wrong.{Wrong}
 use Rattle.association_meaning.specs.declared.basis.Halt.{Halt}
 use Rattle.association_meaning.specs.Grounds.{FailsAs}

@@ -15,11 +15,11 @@ use Rattle.presentation_pdus.specs.Units.{ppdu_at}
 use Rattle.end_rules.specs.Base.{Base, Fault}
 use Rattle.end_rules.specs.State.{Body}
 use Rattle.end_rules.specs.Messages.{DataValue, Accepting, ProviderReason, UserValues, Word, OfAssociation, Finish, Disconnect, Abort, OfData, Values, OfMarks, Please}
-use Rattle.association_reading.specs.declared.layer_of_values.Carriage.{Carriage}
-use Rattle.association_reading.specs.declared.layer_of_values.Carriage.TheVariants as carriage
-use Rattle.association_reading.specs.Places.{pdv_places}
-use Rattle.association_reading.specs.Association.{abort_values}
-use Rattle.association_reading.specs.Meaning as reading
+use Rattle.association_intake.specs.association_reading.declared.layer_of_values.Carriage.{Carriage}
+use Rattle.association_intake.specs.association_reading.declared.layer_of_values.Carriage.TheVariants as carriage
+use Rattle.association_intake.specs.association_reading.Places.{pdv_places}
+use Rattle.association_intake.specs.association_reading.Association.{abort_values}
+use Rattle.association_intake.specs.association_reading.Meaning as reading
 use Rattle.association_words.specs.Seen.{natural}
 use Rattle.association_meaning.specs.Steps.{read_unit}
 use Rattle.association_meaning.specs.Words.{connect_in, connected, accept_in, accepted, reject_in, refused, refused_with, as_values, abort_of, with_abort, aborted_with, data_in, under, pleaded_with, meant, restarted_with, restart_acked_with, unit_meant}

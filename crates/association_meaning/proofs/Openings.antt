@@ -8,8 +8,8 @@ use Rattle.end_rules.specs.Base.{Base, Fault}
 use Rattle.end_rules.specs.Messages.{DataValue}
 use Rattle.end_rules.specs.Policy.{is_faulty_proposal}
 use Rattle.end_rules.specs.Connecting.{set_for, set_accepted}
-use Rattle.association_reading.specs.Places.{PdvPlaces}
-use Rattle.association_reading.specs.Association.{stands, accept_values, connect_values}
+use Rattle.association_intake.specs.association_reading.Places.{PdvPlaces}
+use Rattle.association_intake.specs.association_reading.Association.{stands, accept_values, connect_values}
 use Rattle.association_meaning.specs.Steps.{values_for, accepted_values}
 
 abbrev Values : Type 0

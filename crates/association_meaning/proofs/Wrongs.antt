@@ -9,8 +9,8 @@ use Rattle.end_rules.specs.Faults.{fault_if, or_fault}
 use Rattle.pdv_places.specs.declared.places.PdvField.{PdvField}
 use Rattle.pdv_places.specs.declared.places.PdvField.TheVariants as fields
 use Rattle.pdv_places.specs.Seen.{place_in, places_at}
-use Rattle.association_reading.specs.Places.{PdvPlaces}
-use Rattle.association_reading.specs.Contexts.{is_named, is_form, is_carried, invalid_at, pdv_fault, form_fault, first_place, other_places, first_fault}
+use Rattle.association_intake.specs.association_reading.Places.{PdvPlaces}
+use Rattle.association_intake.specs.association_reading.Contexts.{is_named, is_form, is_carried, invalid_at, pdv_fault, form_fault, first_place, other_places, first_fault}
 use Rattle.association_meaning.specs.declared.contexts.Wrong.{Wrong}
 use Rattle.association_meaning.specs.Steps.{wrong_if, or_wrong, form_wrong, pdv_wrong, wrong_at, first_wrong, told_wrong}
 

@@ -3,7 +3,7 @@ use Rattle.std.specs.Prelude.{◌≡◌, Result, Ok, Err}
 use Rattle.stub_tables.specs.declared.tables.Tables.{Tables}
 use Rattle.dialogue.specs.declared.config.Config.{Config}
 use Rattle.end_rules.specs.Base.{Base, Fault, base_of}
-use Rattle.association_reading.specs.Transfers.{association_spellings}
+use Rattle.association_intake.specs.association_reading.Transfers.{association_spellings}
 use Rattle.association_words.specs.Seen.{seen_fault}
 use Rattle.association_meaning.specs.declared.basis.Halt.{Halt}
 use Rattle.association_meaning.specs.declared.basis.Halt.TheVariants.{Faulty, NoMemory}

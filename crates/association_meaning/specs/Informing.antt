@@ -8,8 +8,8 @@ use Rattle.rtse_apdus.specs.Reading.{rtse_at}
 use Rattle.end_rules.specs.Base.{Fault}
 use Rattle.end_rules.specs.Messages as meant
 use Rattle.end_rules.specs.Connecting.{is_on_rtse}
-use Rattle.association_reading.specs.Values.{unreadable_rtse}
-use Rattle.association_reading.specs.Association.{is_aarq, is_acceptance, is_response, is_abort}
+use Rattle.association_intake.specs.association_reading.Values.{unreadable_rtse}
+use Rattle.association_intake.specs.association_reading.Association.{is_aarq, is_acceptance, is_response, is_abort}
 use Rattle.association_words.specs.declared.values.Information.{Information}
 use Rattle.association_words.specs.Seen.{seen_information}
 use Rattle.association_meaning.specs.declared.user_information.AcseKind.{AcseKind}

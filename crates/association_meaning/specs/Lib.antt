@@ -3,3 +3,4 @@ pub mod Printed
 pub mod Steps
 pub mod Informing
 pub mod Words
+pub use Rattle.association_intake.specs as association_intake

@@ -22,12 +22,12 @@ use Rattle.end_rules.specs.Messages.{DataValue}
 use Rattle.pdv_places.specs.declared.places.PdvField.{PdvField}
 use Rattle.pdv_places.specs.declared.places.PdvField.TheVariants as fields
 use Rattle.pdv_places.specs.Seen.{place_in, places_at}
-use Rattle.association_reading.specs.declared.layer_of_values.Carriage.TheVariants as carriage
-use Rattle.association_reading.specs.Places.{PdvPlaces}
-use Rattle.association_reading.specs.Contexts.{is_named, is_form, is_carried, invalid_at, pdv_fault}
-use Rattle.association_reading.specs.Values.{values_under, and_informed}
-use Rattle.association_reading.specs.Association.{is_left, is_aarq, is_acceptance, left_values}
-use Rattle.association_reading.specs.Transfers.{unless_wrong, arrived_under}
+use Rattle.association_intake.specs.association_reading.declared.layer_of_values.Carriage.TheVariants as carriage
+use Rattle.association_intake.specs.association_reading.Places.{PdvPlaces}
+use Rattle.association_intake.specs.association_reading.Contexts.{is_named, is_form, is_carried, invalid_at, pdv_fault}
+use Rattle.association_intake.specs.association_reading.Values.{values_under, and_informed}
+use Rattle.association_intake.specs.association_reading.Association.{is_left, is_aarq, is_acceptance, left_values}
+use Rattle.association_intake.specs.association_reading.Transfers.{unless_wrong, arrived_under}
 use Rattle.association_meaning.specs.declared.contexts.Wrong.{Wrong}
 
 -- ---- units of the presentation

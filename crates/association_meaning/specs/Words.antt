@@ -18,12 +18,12 @@ use Rattle.stub_tables.specs.declared.tables.Tables.{Tables}
 use Rattle.end_rules.specs.Base.{Base, Fault}
 use Rattle.end_rules.specs.Faults.{invalid_ppdu}
 use Rattle.end_rules.specs.Messages.{DataValue, Accepting, AbortData, NoData, ProviderReason, UserValues, Word, OfAssociation, Connect, Accept, Refuse, Finish, Disconnect, Abort, AbortAccept, OfData, Values, OfMarks, Mark, MarkAck, Restart, RestartAck, Give, Please, GiveConfirm, GiveAck, OfActivities, Start, Resume, End, EndAck, Interrupt, InterruptAck, Discard, DiscardAck}
-use Rattle.association_reading.specs.declared.layer_of_values.Carriage.{Carriage}
-use Rattle.association_reading.specs.declared.layer_of_values.Carriage.TheVariants as carriage
-use Rattle.association_reading.specs.Places.{PdvPlaces, pdv_places}
-use Rattle.association_reading.specs.Values.{values_under}
-use Rattle.association_reading.specs.Association.{connect_values, accept_values, refuse_values, abort_values}
-use Rattle.association_reading.specs.Meaning.{with_values, typed_meaning, restart_meaning, restart_ack_meaning, carried_by_data, accepting}
+use Rattle.association_intake.specs.association_reading.declared.layer_of_values.Carriage.{Carriage}
+use Rattle.association_intake.specs.association_reading.declared.layer_of_values.Carriage.TheVariants as carriage
+use Rattle.association_intake.specs.association_reading.Places.{PdvPlaces, pdv_places}
+use Rattle.association_intake.specs.association_reading.Values.{values_under}
+use Rattle.association_intake.specs.association_reading.Association.{connect_values, accept_values, refuse_values, abort_values}
+use Rattle.association_intake.specs.association_reading.Meaning.{with_values, typed_meaning, restart_meaning, restart_ack_meaning, carried_by_data, accepting}
 use Rattle.association_words.specs.Seen.{natural}
 use Rattle.association_meaning.specs.Steps.{read_unit}
 

@@ -3,8 +3,8 @@
 ghost use Rattle.std.specs.Prelude.{◌≡◌};
 ghost use Rattle.std.specs.Option.{option_copied};
 ghost use Rattle.osi_base.specs.OctetPlaces.{HasPlaces};
-ghost use Rattle.association_reading.specs.Places.{pdv_places};
-ghost use Rattle.association_reading.specs.Contexts as reading;
+ghost use Rattle.association_intake.specs.association_reading.Places.{pdv_places};
+ghost use Rattle.association_intake.specs.association_reading.Contexts as reading;
 ghost use Rattle.association_meaning.specs.Grounds.{GivesAs};
 ghost use Rattle.association_meaning.specs.Steps as steps;
 

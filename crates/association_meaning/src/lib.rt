@@ -13,6 +13,9 @@ mod units;
 mod user_information;
 mod values;
 
+pub use association_codecs as association_codecs_layer;
+pub use association_codecs::apdu_codec_layer;
+pub use association_intake as association_intake_layer;
 pub use basis::{Halt, ReadingGround};
 pub use transfers::arrived_at;
 pub use units::meaning_of_unit;

@@ -2,9 +2,9 @@
 
 ghost use Rattle.std.specs.Prelude.{◌≡◌};
 ghost use Rattle.end_rules.specs.Base as rules;
-ghost use Rattle.association_reading.specs.Contexts as reading;
+ghost use Rattle.association_intake.specs.association_reading.Contexts as reading;
 
-use association_reading::Carriage;
+use association_intake::association_reading_layer::Carriage;
 use stub_tables::Tables;
 
 /// The name of association control (X.227 11).

@@ -5,8 +5,8 @@ ghost use Rattle.std.specs.Prelude.{◌≡◌, [], IfOk};
 ghost use Rattle.osi_base.specs.OctetPlaces.{HasPlaces};
 ghost use Rattle.presentation_pdus.specs.declared.place.PpduPlace.TheVariants as places;
 ghost use Rattle.presentation_pdus.specs.Units.{ppdu_at};
-ghost use Rattle.association_reading.specs.Meaning as reading;
-ghost use Rattle.association_reading.specs.Places.{pdv_places};
+ghost use Rattle.association_intake.specs.association_reading.Meaning as reading;
+ghost use Rattle.association_intake.specs.association_reading.Places.{pdv_places};
 ghost use Rattle.association_words.specs.Seen.{seen_values, seen_accepting, seen_abort, seen_word};
 ghost use Rattle.association_meaning.specs.Grounds.{association_base, GivesAs};
 ghost use Rattle.association_intake.specs.Seen.{HasUserPlaces};
@@ -18,7 +18,7 @@ use crate::basis::{Halt, ReadingGround, fault_at, misplaced};
 use crate::contexts::Carrier;
 use crate::values::values_under;
 use association_ground::is_reliable;
-use association_reading::Carriage;
+use association_intake::association_reading_layer::Carriage;
 use association_words::{AbortData, Accepting, AssociationWord, DataWord, MarkWord, Values, Word};
 use osi_base::{
     Copied, Layer, ListOf, NoMemory, Octets, Pdv, Pdvs, PresentationAccept, PresentationConnect,

@@ -4,7 +4,7 @@
 ghost use Rattle.std.specs.Prelude.{◌≡◌, Some, option_map};
 ghost use Rattle.spdu_codec.specs.Places.{user_of};
 ghost use Rattle.end_rules.specs.State.{Body};
-ghost use Rattle.association_reading.specs.Meaning as reading;
+ghost use Rattle.association_intake.specs.association_reading.Meaning as reading;
 ghost use Rattle.association_words.specs.Seen.{seen_accepting, seen_word};
 ghost use Rattle.association_meaning.specs.Grounds.{association_base, GivesAs};
 ghost use Rattle.association_meaning.specs.Words as words;

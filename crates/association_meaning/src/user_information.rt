@@ -5,7 +5,7 @@ ghost use Rattle.std.specs.Prelude.{◌≡◌, ◌<◌, ◌∷◌, [], Ok, vec_l
 ghost use Rattle.rtse_apdus.specs.Reading.{rtse_at};
 ghost use Rattle.association_meaning.specs.declared.user_information.AcseKind.TheVariants as kinds;
 ghost use Rattle.end_rules.specs.Connecting.{is_on_rtse};
-ghost use Rattle.association_reading.specs.Values as reading;
+ghost use Rattle.association_intake.specs.association_reading.Values as reading;
 ghost use Rattle.association_words.specs.Seen.{seen_information, seen_value, seen_values};
 ghost use Rattle.association_meaning.specs.Grounds.{association_base, GivesAs};
 ghost use Rattle.association_meaning.specs.Informing.{kind_of, seen_items, seen_item_read};

@@ -3,8 +3,8 @@
 ghost use Rattle.std.specs.Prelude.{◌≡◌, IfOk};
 ghost use Rattle.std.specs.Option.{option_copied};
 ghost use Rattle.osi_base.specs.OctetPlaces.{HasPlaces};
-ghost use Rattle.association_reading.specs.Places.{pdv_places};
-ghost use Rattle.association_reading.specs.Values as reading;
+ghost use Rattle.association_intake.specs.association_reading.Places.{pdv_places};
+ghost use Rattle.association_intake.specs.association_reading.Values as reading;
 ghost use Rattle.association_words.specs.Seen.{seen_value, seen_values};
 ghost use Rattle.association_meaning.specs.Grounds.{GivesAs};
 
@@ -12,7 +12,7 @@ use crate::basis::{Halt, ReadingGround};
 use crate::contexts::{Carrier, check, first_wrong};
 use crate::layer_apdus::content_by;
 use crate::names::name_carried;
-use association_reading::Carriage;
+use association_intake::association_reading_layer::Carriage;
 use association_words::{Value, Values};
 use osi_base::{Copied, ListOf, NoMemory, Pair, Pdv, SetItem, pair_of};
 use std::alloc::Global;

@@ -1,5 +1,5 @@
 -- The association and its connection, as the rules of one end see it.
-use Rattle.end_rules.specs.State as rules
+use Rattle.association_sets.specs.end_rules.State as rules
 use Rattle.association_pieces.specs.declared.link.Stage.{Stage}
 use Rattle.association_pieces.specs.declared.link.Stage.TheVariants.{Unused, Asked, Joined, Carrying}
 use Rattle.association_pieces.specs.declared.link.Awaited.{Awaited}

@@ -1,7 +1,7 @@
 -- Lists at their newest end.
 use Rattle.std.specs.Prelude.{ℕ, List, [], ◌∷◌, Bool, true, false, nat_eq, nat_lt, Option, Some, None}
-use Rattle.end_rules.specs.Sets.{Saved}
-use Rattle.end_rules.specs.State.{Piece, Octets, Marked}
+use Rattle.association_sets.specs.end_rules.Sets.{Saved}
+use Rattle.association_sets.specs.end_rules.State.{Piece, Octets, Marked}
 
 abbrev pub first_of : {X : Type 0} → List X → Option X
 first_of [] = None

@@ -1,7 +1,7 @@
 -- A piece as it is kept, as the rules of one end see it.
 use Rattle.std.specs.Prelude.{◌<◌}
 use Rattle.osi_base.specs.Limits.{most_32}
-use Rattle.end_rules.specs.State as rules
+use Rattle.association_sets.specs.end_rules.State as rules
 use Rattle.association_pieces.specs.declared.piece.PieceNode.{PieceNode}
 use Rattle.association_pieces.specs.declared.piece.PieceNode.TheVariants.{Octets, Marked}
 

@@ -1,7 +1,7 @@
 -- What one piece of a transfer is.
 use Rattle.std.specs.Prelude.{ℕ, List, [], Bool, false, nat_eq}
 use Rattle.osi_base.specs.declared.layer_words.SetItem.{SetItem}
-use Rattle.end_rules.specs.State.{Piece, Octets, Marked}
+use Rattle.association_sets.specs.end_rules.State.{Piece, Octets, Marked}
 
 abbrev pub is_mark : ℕ → Piece → Bool
 is_mark n (Octets octets) = false

@@ -1,5 +1,5 @@
 -- The sets, and what an end receives, as the rules of one end see them.
-use Rattle.end_rules.specs.State as rules
+use Rattle.association_sets.specs.end_rules.State as rules
 use Rattle.association_pieces.specs.declared.sets.Sets.{Sets}
 use Rattle.association_pieces.specs.declared.receiving.Receiving.{Receiving}
 

@@ -1,7 +1,7 @@
 -- What an end sends by transfers, as the rules of one end see it.
 use Rattle.std.specs.Prelude.{map, option_map}
 use Rattle.stub_tables.specs.declared.apdu.Apdu.{Apdu}
-use Rattle.end_rules.specs.State as rules
+use Rattle.association_sets.specs.end_rules.State as rules
 use Rattle.association_pieces.specs.declared.sending.Progress.{Progress}
 use Rattle.association_pieces.specs.declared.sending.Progress.TheVariants.{Running, Ending, Suspended}
 use Rattle.association_pieces.specs.declared.sending.Queued.{Queued}

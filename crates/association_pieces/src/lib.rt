@@ -11,6 +11,8 @@ mod sending;
 mod sets;
 mod stack;
 
+pub use association_sets as association_sets_layer;
+pub use association_sets::association_ground_layer;
 pub use link::{Awaited, Link, Stage};
 pub use piece::Piece;
 pub use pieces::Pieces;

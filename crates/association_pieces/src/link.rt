@@ -1,7 +1,7 @@
 //! The association and its connection.
 
 ghost use Rattle.std.specs.Prelude.{◌≡◌};
-ghost use Rattle.end_rules.specs.State.{is_free, is_unused, is_asked, is_joined, is_carrying, is_restarting};
+ghost use Rattle.association_sets.specs.end_rules.State.{is_free, is_unused, is_asked, is_joined, is_carrying, is_restarting};
 ghost use Rattle.association_pieces.specs.Link.{seen_stage, seen_awaited};
 
 use dialogue::Phase;

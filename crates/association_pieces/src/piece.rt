@@ -2,8 +2,8 @@
 
 ghost use Rattle.std.specs.Prelude.{◌≡◌, ◌<◌, [], ◌∷◌, IfOk, OnOk};
 ghost use Rattle.osi_base.specs.Limits.{most_32};
-ghost use Rattle.end_rules.specs.State.{Octets as octets_piece, Marked as marked_piece};
-ghost use Rattle.end_rules.specs.ByItself.{ends_in_octets};
+ghost use Rattle.association_sets.specs.end_rules.State.{Octets as octets_piece, Marked as marked_piece};
+ghost use Rattle.association_sets.specs.end_rules.ByItself.{ends_in_octets};
 ghost use Rattle.association_pieces.specs.Pieces.{is_mark, octets_in, set_in, number_in};
 
 use osi_base::{NoMemory, Octets, SetItem, SetList};
@@ -23,7 +23,7 @@ pub struct Piece {
 }
 
 impl Model for Piece {
-    ghost use Rattle.end_rules.specs.State.{Piece as seen_piece};
+    ghost use Rattle.association_sets.specs.end_rules.State.{Piece as seen_piece};
 
     ghost Value = { seen_piece };
 

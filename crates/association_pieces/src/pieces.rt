@@ -2,8 +2,8 @@
 
 ghost use Rattle.std.specs.Prelude.{◌≡◌, ◌<◌, [], ◌∷◌, suc, length, reverse, IfOk, OnOk};
 ghost use Rattle.osi_base.specs.Limits.{most_32};
-ghost use Rattle.end_rules.specs.State.{Octets as octets_piece, Marked as marked_piece, joined, highest, newest_set, from_mark, up_to};
-ghost use Rattle.end_rules.specs.ByItself.{ends_in_octets};
+ghost use Rattle.association_sets.specs.end_rules.State.{Octets as octets_piece, Marked as marked_piece, joined, highest, newest_set, from_mark, up_to};
+ghost use Rattle.association_sets.specs.end_rules.ByItself.{ends_in_octets};
 ghost use Rattle.association_pieces.specs.NewestEnd.{starts_at, front_octets};
 
 use crate::piece::Piece;
@@ -25,7 +25,7 @@ pub struct Pieces {
 impl Model for Pieces {
     ghost use Rattle.std.specs.Prelude.{◌≡◌, ◌<◌, List, length};
     ghost use Rattle.osi_base.specs.Limits.{most_32};
-    ghost use Rattle.end_rules.specs.State.{Piece as seen_piece, joined, highest};
+    ghost use Rattle.association_sets.specs.end_rules.State.{Piece as seen_piece, joined, highest};
 
     ghost Value = { List seen_piece };
 

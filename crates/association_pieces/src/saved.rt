@@ -1,7 +1,7 @@
 //! The sets that marks saved.
 
 ghost use Rattle.std.specs.Prelude.{◌≡◌, [], ◌∷◌, suc, nat_lt, slice_get, IfOk, OnOk};
-ghost use Rattle.end_rules.specs.Sets.{below, newest, next_number};
+ghost use Rattle.association_sets.specs.end_rules.Sets.{below, newest, next_number};
 ghost use Rattle.association_pieces.specs.NewestEnd.{starts_below, rest};
 
 use crate::stack::Stack;
@@ -19,7 +19,7 @@ pub struct SavedSet {
 impl Model for SavedSet {
     ghost use Rattle.std.specs.Prelude.{◌<◌};
     ghost use Rattle.osi_base.specs.Limits.{most_32};
-    ghost use Rattle.end_rules.specs.Sets.{Saved};
+    ghost use Rattle.association_sets.specs.end_rules.Sets.{Saved};
 
     ghost Value = { Saved };
 
@@ -69,7 +69,7 @@ pub struct SavedSets {
 
 impl Model for SavedSets {
     ghost use Rattle.std.specs.Prelude.{List};
-    ghost use Rattle.end_rules.specs.Sets.{Saved};
+    ghost use Rattle.association_sets.specs.end_rules.Sets.{Saved};
 
     ghost Value = { List Saved };
 

@@ -1,7 +1,7 @@
 //! What an end sends by transfers.
 
 ghost use Rattle.std.specs.Prelude.{◌≡◌, [], ◌∷◌, MatchOption};
-ghost use Rattle.end_rules.specs.State.{is_running, is_ending, is_suspended};
+ghost use Rattle.association_sets.specs.end_rules.State.{is_running, is_ending, is_suspended};
 ghost use Rattle.association_pieces.specs.Sending.{seen_progress};
 
 use crate::pieces::Pieces;

@@ -7,12 +7,12 @@ ghost use Rattle.end_rules.specs.InPlace.{may_begin, may_start, may_resume_at, m
 ghost use Rattle.association_words.specs.Seen.{seen_activities};
 ghost use Rattle.association_pieces.specs.Link.{seen_awaited};
 ghost use Rattle.association_pieces.specs.Seen.{seen_receiving};
-ghost use Rattle.association_state.specs.Seen.{base_in, seen};
+ghost use Rattle.association_calls.specs.association_state.Seen.{base_in, seen};
 
 use crate::association::is_peers;
+use association_calls::association_state_layer::{Awaited, Body, Ground, Receiving};
 use association_calls::has_activities;
 use association_ground::is_up;
-use association_state::{Awaited, Body, Ground, Receiving};
 use association_words::ActivityWord;
 
 /// Whether an activity may begin.

@@ -5,11 +5,11 @@ ghost use Rattle.end_rules.specs.Messages.{unit_of_association};
 ghost use Rattle.end_rules.specs.InPlace.{is_peers, asked_to_open, may_connect, may_accept, may_finish, awaits_release, may_abort, is_in_place};
 ghost use Rattle.association_words.specs.Seen.{seen_association};
 ghost use Rattle.association_pieces.specs.Link.{seen_awaited};
-ghost use Rattle.association_state.specs.Seen.{base_in, seen};
+ghost use Rattle.association_calls.specs.association_state.Seen.{base_in, seen};
 
+use association_calls::association_state_layer::{Awaited, Body, Ground};
 use association_calls::{has_units, has_version_two, needed_units, selected_with};
 use association_ground::{is_opening, is_reliable, is_up};
-use association_state::{Awaited, Body, Ground};
 use association_words::{Accepting, AssociationWord};
 
 /// Whether the end is up, and the peer has the turn.

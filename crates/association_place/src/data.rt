@@ -4,11 +4,11 @@ ghost use Rattle.std.specs.Prelude.{◌≡◌};
 ghost use Rattle.end_rules.specs.Messages.{unit_of_data};
 ghost use Rattle.end_rules.specs.InPlace.{may_send_data, may_send_typed, is_in_place};
 ghost use Rattle.association_words.specs.Seen.{seen_data};
-ghost use Rattle.association_state.specs.Seen.{base_in, seen};
+ghost use Rattle.association_calls.specs.association_state.Seen.{base_in, seen};
 
+use association_calls::association_state_layer::{Body, Ground};
 use association_calls::has_typed_data;
 use association_ground::{is_reliable, is_up};
-use association_state::{Body, Ground};
 use association_words::DataWord;
 
 /// Whether DT may come: in reliable mode the peer has the turn and its activity is in progress.

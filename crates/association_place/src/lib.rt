@@ -10,6 +10,7 @@ mod purging;
 mod units;
 mod words;
 
+pub use association_calls::association_state_layer;
 pub use purging::{is_purged, is_transport_purged, is_unit_purged};
 pub use units::is_unit_in_place;
 pub use words::is_in_place;

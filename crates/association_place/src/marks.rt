@@ -6,12 +6,12 @@ ghost use Rattle.end_rules.specs.InPlace.{next_coming, may_mark, is_next_confirm
 ghost use Rattle.association_words.specs.Seen.{seen_marks};
 ghost use Rattle.association_pieces.specs.Link.{seen_awaited};
 ghost use Rattle.association_pieces.specs.Sending.{seen_transfer};
-ghost use Rattle.association_state.specs.Seen.{base_in, seen};
+ghost use Rattle.association_calls.specs.association_state.Seen.{base_in, seen};
 
 use crate::association::is_peers;
+use association_calls::association_state_layer::{Awaited, Body, Ground, Transfer};
 use association_calls::{has_marks, has_restarts, has_token};
 use association_ground::{is_direct, is_reliable, is_up};
-use association_state::{Awaited, Body, Ground, Transfer};
 use association_words::MarkWord;
 
 /// The most marks that are kept.

@@ -6,7 +6,7 @@ ghost use Rattle.end_rules.specs.Purging.{wins_against, ends_all, settles_restar
 ghost use Rattle.association_words.specs.Seen.{seen_word};
 ghost use Rattle.association_pieces.specs.Link.{seen_awaited};
 
-use association_state::Awaited;
+use association_calls::association_state_layer::Awaited;
 use association_words::{ActivityWord, AssociationWord, MarkWord, Word};
 use osi_base::SessionWord;
 

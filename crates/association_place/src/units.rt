@@ -2,7 +2,7 @@
 
 ghost use Rattle.std.specs.Prelude.{◌≡◌};
 ghost use Rattle.end_rules.specs.InPlace.{may_accept, is_in_place};
-ghost use Rattle.association_state.specs.Seen.{base_in, seen};
+ghost use Rattle.association_calls.specs.association_state.Seen.{base_in, seen};
 
 use crate::activities::{
     awaits_discard, awaits_interrupt, is_receiving, may_confirm_end, may_end, may_resume, may_start,
@@ -14,8 +14,8 @@ use crate::data::{may_send_data, may_send_typed};
 use crate::marks::{
     awaits_restart, may_confirm_mark, may_give, may_give_all, may_mark, may_please, may_restart,
 };
+use association_calls::association_state_layer::{Body, Ground};
 use association_ground::is_up;
-use association_state::{Body, Ground};
 use association_words::Accepting;
 use osi_base::SessionWord;
 

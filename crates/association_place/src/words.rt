@@ -4,13 +4,13 @@ ghost use Rattle.std.specs.Prelude.{◌≡◌};
 ghost use Rattle.end_rules.specs.Messages.{unit_of};
 ghost use Rattle.end_rules.specs.InPlace.{is_in_place};
 ghost use Rattle.association_words.specs.Seen.{seen_word};
-ghost use Rattle.association_state.specs.Seen.{base_in, seen};
+ghost use Rattle.association_calls.specs.association_state.Seen.{base_in, seen};
 
 use crate::activities::is_activity_in_place;
 use crate::association::is_association_in_place;
 use crate::data::is_data_in_place;
 use crate::marks::is_mark_in_place;
-use association_state::{Body, Ground};
+use association_calls::association_state_layer::{Body, Ground};
 use association_words::Word;
 
 /// Whether a unit of the session may stand where it comes: the phase, the functional units, the

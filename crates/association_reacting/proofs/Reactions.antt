@@ -16,11 +16,11 @@ use Rattle.end_rules.specs.TakesTransport.{transport_unit_fault}
 use Rattle.end_rules.specs.TakesActivities.{activity_fault}
 use Rattle.end_rules.specs.Reacting as rules
 use Rattle.end_rules.specs.Reacting.{fault_above, word_fault, fails, on_word, react_to_word, on_transport, react_to_transport, react_to_session, react_alive, react}
-use Rattle.association_reading.specs.Reacting.{has_connection}
-use Rattle.association_answers.specs.declared.brought.Brought.{Brought}
-use Rattle.association_answers.specs.declared.brought.Reaction.{Reaction}
-use Rattle.association_answers.specs.declared.brought.Reaction.TheVariants as reaction
-use Rattle.association_answers.specs.Reacted.{TakenAs, FailsAs}
+use Rattle.association_place.specs.association_reading.Reacting.{has_connection}
+use Rattle.association_connecting.specs.association_answers.declared.brought.Brought.{Brought}
+use Rattle.association_connecting.specs.association_answers.declared.brought.Reaction.{Reaction}
+use Rattle.association_connecting.specs.association_answers.declared.brought.Reaction.TheVariants as reaction
+use Rattle.association_connecting.specs.association_answers.Reacted.{TakenAs, FailsAs}
 use Rattle.association_takes.specs.Acts.{is_end}
 use Rattle.association_reacting.specs.Reacts.{TakesSo, ReactsAs}
 

@@ -7,7 +7,7 @@ use Rattle.end_rules.specs.TakesActivities.{handed_up, end_fault}
 use Rattle.association_words.specs.declared.faults.Fault.{Fault}
 use Rattle.association_words.specs.declared.values.Value.{Value}
 use Rattle.association_words.specs.Seen.{seen_fault, seen_value}
-use Rattle.association_sends.specs.Due.{listed}
+use Rattle.association_connecting.specs.association_sends.Due.{listed}
 use Rattle.association_takes.specs.Acts.{is_end}
 
 abbrev pub is_end_word : Word → Bool

@@ -5,15 +5,15 @@ ghost use Rattle.std.specs.Prelude.{◌≡◌, IfOk, false};
 ghost use Rattle.end_rules.specs.Base.{is_bare};
 ghost use Rattle.end_rules.specs.Messages.{End as rule_end, OfActivities, Session};
 ghost use Rattle.end_rules.specs.Reacting.{on_word, word_fault, react_to_word, react};
-ghost use Rattle.association_state.specs.Seen.{base_in, seen};
+ghost use Rattle.association_place.specs.association_state.Seen.{base_in, seen};
 ghost use Rattle.association_reacting.specs.ActivityEnds.{ArrivesAs};
 ghost use Rattle.association_reacting.specs.Reacts.{ReactsAs};
 
 use crate::faults::{fails_on_accepted, has_connection};
-use association_answers::Reaction;
+use association_connecting::association_answers_layer::Reaction;
 use association_ground::passes_over;
+use association_place::association_state_layer::{Body, Ground};
 use association_place::{is_in_place, is_purged};
-use association_state::{Body, Ground};
 use association_takes::end_taken;
 use association_words::{ActivityWord, Fault, Value, Word};
 use osi_base::{Layer, NoMemory};

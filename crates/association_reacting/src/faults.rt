@@ -2,17 +2,17 @@
 
 ghost use Rattle.std.specs.Prelude.{◌≡◌, IfOk, false, option_map};
 ghost use Rattle.end_rules.specs.Reacting.{fails as rule_fails, fault_above, word_fault};
-ghost use Rattle.association_reading.specs.Reacting.{has_connection};
+ghost use Rattle.association_place.specs.association_reading.Reacting.{has_connection};
 ghost use Rattle.association_words.specs.Seen.{seen_fault, seen_word};
-ghost use Rattle.association_state.specs.Seen.{base_in, seen};
+ghost use Rattle.association_place.specs.association_state.Seen.{base_in, seen};
 ghost use Rattle.association_reacting.specs.ActivityEnds.{is_end_word};
 ghost use Rattle.association_reacting.specs.Reacts.{ReactsAs};
 
-use association_answers::{Reaction, fail_association};
+use association_connecting::association_answers_layer::{Reaction, fail_association};
 use association_connecting::association_fault;
+use association_place::association_state_layer::{Body, Ground};
 use association_place::is_in_place;
 use association_sets::copy_set;
-use association_state::{Body, Ground};
 use association_takes::{data_fault, mark_fault};
 use association_words::{Fault, Word};
 use osi_base::{Layer, NoMemory};

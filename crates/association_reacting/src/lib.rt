@@ -8,6 +8,9 @@ mod faults;
 mod reacting;
 mod taking;
 
+pub use association_connecting::{association_answers_layer, association_sends_layer};
+pub use association_place as association_place_layer;
+pub use association_place::association_state_layer;
 pub use ending::react_to_end;
 pub use faults::{fails_on_accepted, has_connection};
 pub use reacting::react;

@@ -3,16 +3,16 @@
 ghost use Rattle.std.specs.Prelude.{◌≡◌, IfOk, OnOk, None, false};
 ghost use Rattle.end_rules.specs.Reacting.{fails as rule_fails, word_fault, on_word, after_word, answers_to_word, shown_of_word, contexts_of_word};
 ghost use Rattle.association_words.specs.Seen.{seen_fault, seen_word};
-ghost use Rattle.association_state.specs.Seen.{base_in, seen};
-ghost use Rattle.association_answers.specs.Reacted.{TakenAs};
+ghost use Rattle.association_place.specs.association_state.Seen.{base_in, seen};
+ghost use Rattle.association_connecting.specs.association_answers.Reacted.{TakenAs};
 ghost use Rattle.association_reacting.specs.ActivityEnds.{is_end_word};
 ghost use Rattle.association_reacting.specs.Reacts.{ReactsAs};
 
 use crate::faults::word_fault;
-use association_answers::{Brought, Reaction, fail_association};
+use association_connecting::association_answers_layer::{Brought, Reaction, fail_association};
 use association_connecting::{contexts_for, take_association};
+use association_place::association_state_layer::{Body, Ground};
 use association_sets::copy_set;
-use association_state::{Body, Ground};
 use association_takes::{take_activity, take_data, take_mark};
 use association_words::{Fault, Word};
 use osi_base::{NoMemory, SetList};

@@ -24,14 +24,14 @@ use Rattle.presentation_pdus.specs.declared.place.PpduFault.{PpduFault}
 use Rattle.presentation_pdus.specs.Words.{written_ppdu}
 use Rattle.presentation_pdus.specs.Units.{ppdu_at}
 use Rattle.stub_tables.specs.declared.tables.Tables.{Tables}
-use Rattle.end_rules.specs.Base.{Base, Fault, acse_name, is_reliable}
+use Rattle.association_wire.specs.end_rules.Base.{Base, Fault, acse_name, is_reliable}
 use Rattle.osi_base.specs.SetPlaces.{pair_of}
-use Rattle.end_rules.specs.State.{Body}
-use Rattle.end_rules.specs.Faults.{or_fault}
-use Rattle.end_rules.specs.Messages.{Information, Transferring, Other, ValueContent, Association, DataValue, Accepting, UserValues, ProviderReason, Word, OfAssociation, Connect, Accept, Refuse, Abort}
-use Rattle.end_rules.specs.Writing.{acse_pair}
-use Rattle.end_rules.specs.Connecting.{set_for, set_accepted, has_acse}
-use Rattle.end_rules.specs.Policy.{is_faulty_proposal}
+use Rattle.association_wire.specs.end_rules.State.{Body}
+use Rattle.association_wire.specs.end_rules.Faults.{or_fault}
+use Rattle.association_wire.specs.end_rules.Messages.{Information, Transferring, Other, ValueContent, Association, DataValue, Accepting, UserValues, ProviderReason, Word, OfAssociation, Connect, Accept, Refuse, Abort}
+use Rattle.association_wire.specs.end_rules.Writing.{acse_pair}
+use Rattle.association_wire.specs.end_rules.Connecting.{set_for, set_accepted, has_acse}
+use Rattle.association_wire.specs.end_rules.Policy.{is_faulty_proposal}
 use Rattle.association_wire.specs.Values.{with_user as user_put, external_of, pdv_of, pdvs_of}
 use Rattle.association_reading.specs.declared.layer_of_values.Carriage.TheVariants as carriage
 use Rattle.association_reading.specs.Places.{PdvPlaces, pdv_places}

@@ -25,7 +25,7 @@ use Rattle.spdu_codec.specs.Reading.{UnitFault, units_at}
 use Rattle.spdu_codec.specs.Places.{user_places}
 use Rattle.spdu_codec.proofs.WireLaws.{all_again}
 use Rattle.spdu_codec.proofs.RoundLaws.{written_are}
-use Rattle.end_rules.specs.Messages.{unit_of}
+use Rattle.association_wire.specs.end_rules.Messages.{unit_of}
 use Rattle.association_wire.specs.Units.{user_octets}
 
 -- a TSDU that was written is handed up whole

@@ -6,7 +6,7 @@ use Rattle.acse.specs.Fields.{acse_at}
 use Rattle.acse.specs.Written.{written_acse}
 use Rattle.acse.proofs.PlainLaws.{written_acse_is_read}
 use Rattle.rtse_apdus.proofs.RtseLaws.{written_rtse_is_read}
-use Rattle.end_rules.specs.Messages.{Association, ValueContent, DataValue, NoData, ProviderReason, UserValues, Word, OfAssociation, Connect, Accept, Refuse, Finish, Disconnect, Abort, AbortAccept, OfData, Values, AlterContext, AlterContextAck, OfMarks, Mark, MarkAck, Restart, RestartAck, Give, Please, GiveConfirm, GiveAck, OfActivities, Start, Resume, End, EndAck, Interrupt, InterruptAck, Discard, DiscardAck}
+use Rattle.association_wire.specs.end_rules.Messages.{Association, ValueContent, DataValue, NoData, ProviderReason, UserValues, Word, OfAssociation, Connect, Accept, Refuse, Finish, Disconnect, Abort, AbortAccept, OfData, Values, AlterContext, AlterContextAck, OfMarks, Mark, MarkAck, Restart, RestartAck, Give, Please, GiveConfirm, GiveAck, OfActivities, Start, Resume, End, EndAck, Interrupt, InterruptAck, Discard, DiscardAck}
 use Rattle.association_wire.specs.Values.{with_user as user_put, content_octets, in_form, pdv_of, pdvs_of}
 use Rattle.association_reading.specs.Values.{without_user, associated, acse_content, rtse_content, content_under, with_content, value_by, value_in, before_values, all_values, unless_fault, values_under}
 use Rattle.association_reading.specs.Laws.{AssociationIsReadBack, TransferWordsAreReadBack, SessionWordsAreReadBack, IsWrittenIn, AlterationsAreReadBack, IsMeant, AreMeantIn, DataAreReadBack, RemoteIsReadBack}
@@ -29,12 +29,12 @@ use Rattle.presentation_pdus.specs.declared.place.PpduFault.{PpduFault}
 use Rattle.presentation_pdus.specs.Words.{written_ppdu}
 use Rattle.ppdu_laws.proofs.UnitsBack.{written_ppdu_is_read}
 use Rattle.presentation_pdus.specs.Units.{ppdu_at}
-use Rattle.end_rules.specs.Base.{Base, Fault, HeardHead}
-use Rattle.end_rules.specs.Hearing.{syntax_of}
+use Rattle.association_wire.specs.end_rules.Base.{Base, Fault, HeardHead}
+use Rattle.association_wire.specs.end_rules.Hearing.{syntax_of}
 use Rattle.end_wire.specs.Heads.{apdu_of}
 use Rattle.osi_base.specs.SetPlaces.{pair_of}
-use Rattle.end_rules.specs.Faults.{or_fault}
-use Rattle.end_rules.specs.State.{Body}
+use Rattle.association_wire.specs.end_rules.Faults.{or_fault}
+use Rattle.association_wire.specs.end_rules.State.{Body}
 use Rattle.end_wire.specs.Values.{content_of}
 use Rattle.end_wire.proofs.ContentLaws.{said_is, spelled_said}
 use Rattle.association_reading.specs.declared.layer_of_values.Carriage.{Carriage}

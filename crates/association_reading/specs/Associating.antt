@@ -11,13 +11,13 @@ use Rattle.osi_base.specs.declared.presentation_word.PresentationWord.TheVariant
 use Rattle.acse.specs.Written.{IsWritable as IsWritableAcse}
 use Rattle.rtse_apdus.specs.Written.{IsWritable as IsWritableRtse}
 use Rattle.presentation_pdus.specs.declared.place.PpduPlace.TheVariants as place
-use Rattle.end_rules.specs.Base.{Base, is_reliable}
+use Rattle.association_wire.specs.end_rules.Base.{Base, is_reliable}
 use Rattle.osi_base.specs.SetPlaces.{pair_of}
-use Rattle.end_rules.specs.State.{Body}
-use Rattle.end_rules.specs.Messages.{Information, Transferring, Other, Association, DataValue, Accepting, ProviderReason, UserValues, Word, OfAssociation, Connect, Accept, Refuse, Abort, unit_of}
-use Rattle.end_rules.specs.Policy.{is_faulty_proposal}
-use Rattle.end_rules.specs.Writing.{acse_pair}
-use Rattle.end_rules.specs.Connecting.{is_on_rtse, set_for, set_accepted, has_acse}
+use Rattle.association_wire.specs.end_rules.State.{Body}
+use Rattle.association_wire.specs.end_rules.Messages.{Information, Transferring, Other, Association, DataValue, Accepting, ProviderReason, UserValues, Word, OfAssociation, Connect, Accept, Refuse, Abort, unit_of}
+use Rattle.association_wire.specs.end_rules.Policy.{is_faulty_proposal}
+use Rattle.association_wire.specs.end_rules.Writing.{acse_pair}
+use Rattle.association_wire.specs.end_rules.Connecting.{is_on_rtse, set_for, set_accepted, has_acse}
 use Rattle.association_wire.specs.Values.{with_user as user_put, pdvs_of}
 use Rattle.association_wire.specs.Written.{with_user}
 use Rattle.association_wire.specs.Units.{user_octets}

@@ -13,13 +13,13 @@ use Rattle.osi_base.specs.declared.presentation_word.PresentationAccept.{Present
 use Rattle.osi_base.specs.declared.presentation_word.PresentationReject.{PresentationReject}
 use Rattle.fixed_tables.specs.declared.pdu.PduFault.{PduFault}
 use Rattle.acse.specs.Fields.{acse_at}
-use Rattle.end_rules.specs.Base.{Base, Fault, acse_name, is_reliable}
-use Rattle.end_rules.specs.Sets.{same_name, accepted_set, fit_proposals}
+use Rattle.association_wire.specs.end_rules.Base.{Base, Fault, acse_name, is_reliable}
+use Rattle.association_wire.specs.end_rules.Sets.{same_name, accepted_set, fit_proposals}
 use Rattle.osi_base.specs.SetPlaces.{pair_of}
-use Rattle.end_rules.specs.Messages.{ValueContent, Unread, DataValue}
-use Rattle.end_rules.specs.Policy.{is_faulty_proposal}
-use Rattle.end_rules.specs.Writing.{proposals, acse_pair}
-use Rattle.end_rules.specs.Connecting.{Associated, is_request, is_accepting, set_for, set_accepted, has_acse, has_rtse}
+use Rattle.association_wire.specs.end_rules.Messages.{ValueContent, Unread, DataValue}
+use Rattle.association_wire.specs.end_rules.Policy.{is_faulty_proposal}
+use Rattle.association_wire.specs.end_rules.Writing.{proposals, acse_pair}
+use Rattle.association_wire.specs.end_rules.Connecting.{Associated, is_request, is_accepting, set_for, set_accepted, has_acse, has_rtse}
 use Rattle.association_reading.specs.declared.layer_of_values.Carriage.TheVariants as carriage
 use Rattle.association_reading.specs.Places.{PdvPlaces}
 use Rattle.association_reading.specs.Contexts.{pdv_fault, form_fault, first_fault}

@@ -10,9 +10,9 @@ use Rattle.osi_base.specs.declared.presentation_word.Pdv.{Pdv}
 use Rattle.osi_base.specs.declared.presentation_word.PdvContent.{PdvContent}
 use Rattle.osi_base.specs.declared.presentation_word.PdvContent.TheVariants as forms
 use Rattle.stub_tables.specs.declared.tables.Tables.{Tables}
-use Rattle.end_rules.specs.Base.{Fault, acse_name, rtse_name}
-use Rattle.end_rules.specs.Sets.{same_name}
-use Rattle.end_rules.specs.Faults.{fault_at, fault_if, or_fault}
+use Rattle.association_wire.specs.end_rules.Base.{Fault, acse_name, rtse_name}
+use Rattle.association_wire.specs.end_rules.Sets.{same_name}
+use Rattle.association_wire.specs.end_rules.Faults.{fault_at, fault_if, or_fault}
 use Rattle.association_reading.specs.declared.layer_of_values.Carriage.{Carriage}
 use Rattle.association_reading.specs.declared.layer_of_values.Carriage.TheVariants as carriage
 use Rattle.association_reading.specs.Places.{PdvPlaces}

@@ -13,7 +13,7 @@ use Rattle.tpkt.specs.Reader.{nothing, reading}
 use Rattle.spdu_codec.specs.declared.places.UserPlaces.{UserPlaces}
 use Rattle.spdu_codec.specs.Reading.{UnitFault, units_at}
 use Rattle.spdu_codec.specs.Places.{user_places}
-use Rattle.end_rules.specs.Messages.{TransportUnit, ConnectionRequest, ConnectionConfirm, DisconnectRequest, TransportError}
+use Rattle.association_wire.specs.end_rules.Messages.{TransportUnit, ConnectionRequest, ConnectionConfirm, DisconnectRequest, TransportError}
 
 pub data Front : Type 0 where
   -- less than a message

@@ -7,7 +7,7 @@ use Rattle.osi_base.specs.declared.rtse_word.Rtse.TheVariants as rtse
 use Rattle.tpkt.specs.Wire.{IsTwo}
 use Rattle.tpkt.specs.Written.{HasRoom}
 use Rattle.association_wire.specs.Written.{request_ends, confirm_ends, written_unit, with_user, session_units, tsdu_of, written}
-use Rattle.end_rules.specs.Messages.{Association, Plea, Part, TransportUnit, ConnectionRequest, ConnectionConfirm, DisconnectRequest, Remote, DataValue, NoData, Word, OfAssociation, Refuse, Finish, Disconnect, Abort, AbortAccept, OfData, Values, AlterContext, AlterContextAck, OfMarks, Mark, MarkAck, Restart, RestartAck, Give, Please, GiveConfirm, GiveAck, OfActivities, Session, unit_of}
+use Rattle.association_wire.specs.end_rules.Messages.{Association, Plea, Part, TransportUnit, ConnectionRequest, ConnectionConfirm, DisconnectRequest, Remote, DataValue, NoData, Word, OfAssociation, Refuse, Finish, Disconnect, Abort, AbortAccept, OfData, Values, AlterContext, AlterContextAck, OfMarks, Mark, MarkAck, Restart, RestartAck, Give, Please, GiveConfirm, GiveAck, OfActivities, Session, unit_of}
 use Rattle.association_reading.specs.Front.{Short, OfTransport, OfSession, first_in, with_octets, nothing_came}
 use Rattle.association_reading.specs.Values.{without_user, content_under}
 use Rattle.std.specs.Prelude.{◌≡◌, ℕ, ◌<◌, ◌≤◌, List, [], ◌∷◌, ◌++◌, length, true, Option, Some, None, Ok}
@@ -28,10 +28,10 @@ use Rattle.spdu_codec.specs.Written.{AreWritable}
 use Rattle.presentation_pdus.specs.declared.place.PpduPlace.{PpduPlace}
 use Rattle.presentation_pdus.specs.declared.place.PpduPlace.TheVariants as place
 use Rattle.ppdu_laws.specs.Written.{IsWritable as IsWritablePpdu}
-use Rattle.end_rules.specs.Base.{Base, rtse_name}
-use Rattle.end_rules.specs.Sets.{same_name}
+use Rattle.association_wire.specs.end_rules.Base.{Base, rtse_name}
+use Rattle.association_wire.specs.end_rules.Sets.{same_name}
 use Rattle.osi_base.specs.SetPlaces.{pair_of}
-use Rattle.end_rules.specs.State.{Body}
+use Rattle.association_wire.specs.end_rules.State.{Body}
 use Rattle.association_wire.specs.Values.{content_octets, pdvs_of}
 use Rattle.association_wire.specs.Units.{user_octets}
 use Rattle.association_reading.specs.declared.layer_of_values.Carriage.{Carriage}

@@ -12,10 +12,10 @@ use Rattle.presentation_pdus.specs.declared.place.PpduPlace.TheVariants as place
 use Rattle.presentation_pdus.specs.declared.place.PpduFault.{PpduFault}
 use Rattle.presentation_pdus.specs.declared.place.PpduFault.TheVariants as why
 use Rattle.presentation_pdus.specs.Units.{ppdu_at}
-use Rattle.end_rules.specs.Base.{Base, Fault, is_reliable}
-use Rattle.end_rules.specs.Messages.{DataValue, Accepting, NoData, ProviderReason, UserValues, Word, OfAssociation, Connect, Accept, Refuse, Finish, Disconnect, Abort, AbortAccept, OfData, Values, AlterContext, AlterContextAck, OfMarks, Mark, MarkAck, Restart, RestartAck, Give, Please, GiveConfirm, GiveAck, OfActivities, Start, Resume, End, EndAck, Interrupt, InterruptAck, Discard, DiscardAck}
-use Rattle.end_rules.specs.State.{Body}
-use Rattle.end_rules.specs.Faults.{fault_at, invalid_ppdu}
+use Rattle.association_wire.specs.end_rules.Base.{Base, Fault, is_reliable}
+use Rattle.association_wire.specs.end_rules.Messages.{DataValue, Accepting, NoData, ProviderReason, UserValues, Word, OfAssociation, Connect, Accept, Refuse, Finish, Disconnect, Abort, AbortAccept, OfData, Values, AlterContext, AlterContextAck, OfMarks, Mark, MarkAck, Restart, RestartAck, Give, Please, GiveConfirm, GiveAck, OfActivities, Start, Resume, End, EndAck, Interrupt, InterruptAck, Discard, DiscardAck}
+use Rattle.association_wire.specs.end_rules.State.{Body}
+use Rattle.association_wire.specs.end_rules.Faults.{fault_at, invalid_ppdu}
 use Rattle.association_reading.specs.declared.layer_of_values.Carriage.{Carriage}
 use Rattle.association_reading.specs.declared.layer_of_values.Carriage.TheVariants as carriage
 use Rattle.association_reading.specs.Places.{pdv_places}

@@ -11,14 +11,14 @@ use Rattle.osi_base.specs.declared.presentation_word.PresentationWord.TheVariant
 use Rattle.presentation_pdus.specs.declared.place.PpduPlace.TheVariants as place
 use Rattle.presentation_pdus.specs.declared.place.PpduFault.{PpduFault}
 use Rattle.presentation_pdus.specs.Units.{ppdu_at}
-use Rattle.end_rules.specs.Base.{Base, Fault}
-use Rattle.end_rules.specs.Messages.{Word, Transport, Session}
-use Rattle.end_rules.specs.State.{Body, is_joined, is_carrying, passes_over}
-use Rattle.end_rules.specs.Purging.{is_purged}
-use Rattle.end_rules.specs.InPlace.{is_in_place}
-use Rattle.end_rules.specs.Connecting.{set_for}
-use Rattle.end_rules.specs.Faults.{fault_at, transport_fault, session_fault}
-use Rattle.end_rules.specs.Reacting.{Reaction, Passes, fails, react}
+use Rattle.association_wire.specs.end_rules.Base.{Base, Fault}
+use Rattle.association_wire.specs.end_rules.Messages.{Word, Transport, Session}
+use Rattle.association_wire.specs.end_rules.State.{Body, is_joined, is_carrying, passes_over}
+use Rattle.association_wire.specs.end_rules.Purging.{is_purged}
+use Rattle.association_wire.specs.end_rules.InPlace.{is_in_place}
+use Rattle.association_wire.specs.end_rules.Connecting.{set_for}
+use Rattle.association_wire.specs.end_rules.Faults.{fault_at, transport_fault, session_fault}
+use Rattle.association_wire.specs.end_rules.Reacting.{Reaction, Passes, fails, react}
 use Rattle.association_reading.specs.Front.{Front, Short, OfTransport, OfSession, Faulty}
 use Rattle.association_reading.specs.Meaning.{meaning}
 

@@ -8,10 +8,10 @@ use Rattle.osi_base.specs.declared.presentation_word.Pdv.{Pdv}
 use Rattle.fixed_tables.specs.declared.pdu.PduFault.{PduFault}
 use Rattle.rtse_apdus.specs.Transfer.{transfer_at, written_transfer}
 use Rattle.stub_tables.specs.declared.tables.Tables.{Tables}
-use Rattle.end_rules.specs.Base.{Item, Fault, Arrived, Whole, Raw, Spellings}
+use Rattle.association_wire.specs.end_rules.Base.{Item, Fault, Arrived, Whole, Raw, Spellings}
 use Rattle.osi_base.specs.SetPlaces.{pair_of}
-use Rattle.end_rules.specs.Messages.{ValueContent, Remote, Unread, Association, Plea, Part, DataValue}
-use Rattle.end_rules.specs.Faults.{acse_fault, rtse_fault}
+use Rattle.association_wire.specs.end_rules.Messages.{ValueContent, Remote, Unread, Association, Plea, Part, DataValue}
+use Rattle.association_wire.specs.end_rules.Faults.{acse_fault, rtse_fault}
 use Rattle.end_wire.specs.Values.{spellings_with}
 use Rattle.association_wire.specs.Values.{pdv_of}
 use Rattle.association_reading.specs.declared.layer_of_values.Carriage.TheVariants as carriage

@@ -15,12 +15,12 @@ use Rattle.fixed_tables.specs.declared.pdu.PduFault.TheVariants as why
 use Rattle.acse.specs.Fields.{acse_at}
 use Rattle.rtse_apdus.specs.Reading.{rtse_at}
 use Rattle.stub_tables.specs.declared.tables.Tables.{Tables}
-use Rattle.end_rules.specs.Base.{Base, Fault, rtse_name, is_reliable}
-use Rattle.end_rules.specs.Sets.{same_name}
+use Rattle.association_wire.specs.end_rules.Base.{Base, Fault, rtse_name, is_reliable}
+use Rattle.association_wire.specs.end_rules.Sets.{same_name}
 use Rattle.osi_base.specs.SetPlaces.{pair_of}
-use Rattle.end_rules.specs.Messages.{Information, Transferring, Other, ValueContent, Unread, Association, Plea, Part, DataValue}
-use Rattle.end_rules.specs.Connecting.{is_on_rtse}
-use Rattle.end_rules.specs.Faults.{fault_at, acse_fault, rtse_fault}
+use Rattle.association_wire.specs.end_rules.Messages.{Information, Transferring, Other, ValueContent, Unread, Association, Plea, Part, DataValue}
+use Rattle.association_wire.specs.end_rules.Connecting.{is_on_rtse}
+use Rattle.association_wire.specs.end_rules.Faults.{fault_at, acse_fault, rtse_fault}
 use Rattle.end_wire.specs.Values.{content_at}
 use Rattle.association_reading.specs.declared.layer_of_values.Carriage.{Carriage}
 use Rattle.association_reading.specs.declared.layer_of_values.Carriage.TheVariants as carriage

@@ -4,10 +4,10 @@ ghost use Rattle.std.specs.Prelude.{◌≡◌, [], ◌∷◌, Some, None, Ok, Er
 ghost use Rattle.osi_base.specs.declared.syntax.Syntax.TheVariants.{Ber, Packed};
 ghost use Rattle.osi_base.specs.declared.layer_words.Layer.TheVariants as layers;
 ghost use Rattle.dialogue.specs.declared.config.Mode.TheVariants.{Direct};
-ghost use Rattle.end_rules.specs.Messages.{Mark, Please, Restart, RestartAck, OfMarks, Session};
-ghost use Rattle.end_rules.specs.TakesTransport.{answer_to_request};
-ghost use Rattle.end_rules.specs.Writing.{connection_request, finish_message, disconnect_message, user_abort, provider_abort, session_abort, give_message, please_message};
-ghost use Rattle.end_rules.specs.Faults.{fault_at, session_fault};
+ghost use Rattle.association_wire.specs.end_rules.Messages.{Mark, Please, Restart, RestartAck, OfMarks, Session};
+ghost use Rattle.association_wire.specs.end_rules.TakesTransport.{answer_to_request};
+ghost use Rattle.association_wire.specs.end_rules.Writing.{connection_request, finish_message, disconnect_message, user_abort, provider_abort, session_abort, give_message, please_message};
+ghost use Rattle.association_wire.specs.end_rules.Faults.{fault_at, session_fault};
 ghost use Rattle.association_wire.specs.Cases as row;
 ghost use Rattle.association_reading.specs.Cases as case;
 

@@ -11,9 +11,11 @@ pub use cases::{
     faulty_values_are_told, marks_are_read, namesakes_are_told_apart, release_is_read,
     values_are_read,
 };
+pub use end_wire::apdu_codec_layer;
 pub use laws::{
     alterations_are_read_back, associations_are_read_back, beginnings_are_short,
     data_are_read_back, layers_are_read_back, remote_is_read_back, session_words_are_read_back,
     transport_units_stand_first, written_stands_first,
 };
 pub use layer_of_values::Carriage;
+pub use presentation_pdus as presentation_pdus_layer;

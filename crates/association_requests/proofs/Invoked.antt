@@ -15,7 +15,7 @@ use Rattle.end_rules.specs.Invoking.{Reply, next_id, invoke_apdu}
 use Rattle.end_rules.specs.Hearing.{is_silent_at}
 use Rattle.end_rules.specs.Requesting.{sent_at_once, handed_in, invoking, after_invoke, due_invoke, due_of_accepted}
 use Rattle.end_rules.specs.History.{sent, after_steps}
-use Rattle.association_calls.specs.Rooms.{HasRoom}
+use Rattle.association_hearing.specs.association_calls.Rooms.{HasRoom}
 use Rattle.association_requests.specs.declared.call_outcome.CallOutcome.{CallOutcome}
 use Rattle.association_requests.specs.Called.{sent_by, after_made, MadeAs}
 use Rattle.association_requests.proofs.Outcomes.{nothing_more, whatever_is_open}

@@ -18,9 +18,9 @@ use Rattle.end_rules.specs.State.{Body, Calls, OpenCall, opened_with}
 use Rattle.end_rules.specs.Invoking.{Reply, carrier_in, is_stopped, operation_of, can_answer_open, can_answer, can_refuse_open, can_refuse}
 use Rattle.end_rules.specs.Requesting.{sent_at_once, handed_in, answering, after_outcome, due_outcome, result_in, error_for}
 use Rattle.end_rules.specs.History.{sent, after_steps}
-use Rattle.rose_roles.specs.declared.invoked_with.InvokedWith as rose
-use Rattle.open_invocations.specs.Invocations.{called_in}
-use Rattle.association_calls.specs.Replies.{IsChecked}
+use Rattle.association_hearing.specs.rose_roles.declared.invoked_with.InvokedWith as rose
+use Rattle.association_hearing.specs.open_invocations.Invocations.{called_in}
+use Rattle.association_hearing.specs.association_calls.Replies.{IsChecked}
 use Rattle.association_requests.specs.declared.call_outcome.CallOutcome.{CallOutcome}
 use Rattle.association_requests.specs.Called.{sent_by, MadeAs, Makes}
 

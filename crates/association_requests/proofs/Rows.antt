@@ -11,7 +11,7 @@ use Rattle.end_rules.specs.Invoking.{Reply}
 use Rattle.end_rules.specs.Calling.{is_of_bare_mode, can_by_rows, can_call}
 use Rattle.end_rules.specs.Requesting.{due_of, after_accepted, due_of_accepted}
 use Rattle.end_rules.specs.History.{called, sent, after_steps, call_steps}
-use Rattle.association_calls.specs.Replies.{Replies}
+use Rattle.association_hearing.specs.association_calls.Replies.{Replies}
 use Rattle.association_requests.specs.declared.call_outcome.CallOutcome.{CallOutcome}
 use Rattle.association_requests.specs.Called.{sent_by, CalledAs, MadeAs, Makes, IsDue}
 

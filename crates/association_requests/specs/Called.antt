@@ -11,7 +11,7 @@ use Rattle.end_rules.specs.Calling.{can_call}
 use Rattle.end_rules.specs.Requesting.{due_of, after_accepted, due_of_accepted}
 use Rattle.end_rules.specs.History.{sent, after_steps, call_steps}
 use Rattle.association_words.specs.Seen.{seen_message}
-use Rattle.association_sends.specs.Due.{listed}
+use Rattle.association_hearing.specs.association_sends.Due.{listed}
 use Rattle.association_requests.specs.declared.call_outcome.CallOutcome.{CallOutcome}
 
 -- what was sent

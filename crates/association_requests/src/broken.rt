@@ -2,11 +2,11 @@
 
 ghost use Rattle.std.specs.Prelude.{◌≡◌};
 ghost use Rattle.end_rules.specs.History.{broken_phase, after_broke};
-ghost use Rattle.association_state.specs.Seen.{base_in, seen};
+ghost use Rattle.association_hearing.specs.association_state.Seen.{base_in, seen};
 
 use association_ground::is_reliable;
+use association_hearing::association_state_layer::{Awaited, Body, Ground, Stage};
 use association_hearing::suspend;
-use association_state::{Awaited, Body, Ground, Stage};
 use dialogue::{Mode, Phase};
 
 /// The phase after a break (this project's own rule).

@@ -10,18 +10,18 @@ ghost use Rattle.end_rules.specs.TakesMarks.{restored_set};
 ghost use Rattle.end_rules.specs.Writing.{give_message, please_message, finish_message, user_abort, connection_request};
 ghost use Rattle.end_rules.specs.Requesting.{due_of_accepted};
 ghost use Rattle.association_words.specs.Seen.{seen_message, seen_marks, seen_activities};
-ghost use Rattle.association_state.specs.Seen.{base_in, seen};
+ghost use Rattle.association_hearing.specs.association_state.Seen.{base_in, seen};
 ghost use Rattle.association_requests.specs.Called.{IsDue};
 
 use crate::call_outcome::CallOutcome;
-use association_calls::{
+use association_hearing::association_calls_layer::{
     can_alter, can_give, can_mark, can_please, can_release, can_restart, can_resume, can_stop,
 };
-use association_sends::{
+use association_hearing::association_sends_layer::{
     connection_request, finish_message, give_message, please_message, user_abort,
 };
+use association_hearing::association_state_layer::{Body, Ground};
 use association_sets::{Alteration, restored_list};
-use association_state::{Body, Ground};
 use association_words::{ActivityWord, DataWord, MarkWord, Message, Word};
 use dialogue::{Call, CallRefusal};
 use osi_base::{Copied, Ids, ListOf, NoMemory, Proposals};

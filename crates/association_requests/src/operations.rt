@@ -11,17 +11,19 @@ ghost use Rattle.end_rules.specs.Hearing.{is_silent_at};
 ghost use Rattle.end_rules.specs.Invoking.{next_id, can_invoke, can_answer, can_refuse};
 ghost use Rattle.end_rules.specs.Requesting.{handed_in, sent_at_once, invoking, after_outcome, due_outcome};
 ghost use Rattle.association_words.specs.Seen.{seen_message};
-ghost use Rattle.open_invocations.specs.Invocations.{is_link};
-ghost use Rattle.association_sends.specs.Due.{listed};
-ghost use Rattle.association_state.specs.Seen.{base_in, seen};
-ghost use Rattle.association_calls.specs.Rooms.{HasRoom};
+ghost use Rattle.association_hearing.specs.open_invocations.Invocations.{is_link};
+ghost use Rattle.association_hearing.specs.association_sends.Due.{listed};
+ghost use Rattle.association_hearing.specs.association_state.Seen.{base_in, seen};
+ghost use Rattle.association_hearing.specs.association_calls.Rooms.{HasRoom};
 ghost use Rattle.association_requests.specs.Called.{Makes, sent_by};
 
 use crate::call_outcome::CallOutcome;
 use asn1_types::Val;
-use association_calls::{Making, carrier_in, check_answer, check_invoke, check_refuse};
+use association_hearing::association_calls_layer::{
+    Making, carrier_in, check_answer, check_invoke, check_refuse,
+};
+use association_hearing::association_state_layer::{Body, Ground};
 use association_hearing::{data_on, queue_apdu};
-use association_state::{Body, Ground};
 use association_words::Message;
 use dialogue::{CallRefusal, Mode};
 use osi_base::NoMemory;

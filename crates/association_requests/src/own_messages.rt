@@ -5,13 +5,13 @@ ghost use Rattle.std.specs.Prelude.{◌≡◌, length, take, Some, IfOk, option_
 ghost use Rattle.end_rules.specs.Messages.{OfMarks, OfActivities, Session, Mark, End};
 ghost use Rattle.end_rules.specs.ByItself.{SendsNow, encodes_on, leads, part_size, is_window_full, left_of, next_of, next_start, next_in, next_own};
 ghost use Rattle.association_pieces.specs.Sending.{seen_encoded, seen_transfer};
-ghost use Rattle.association_state.specs.Seen.{base_in, seen};
+ghost use Rattle.association_hearing.specs.association_state.Seen.{base_in, seen};
 ghost use Rattle.association_requests.specs.Acts.{seen_act};
 
-use association_calls::carrier_in;
 use association_ground::{is_reliable, is_up};
-use association_sends::part_message;
-use association_state::{Body, Encoded, Ground, Transfer};
+use association_hearing::association_calls_layer::carrier_in;
+use association_hearing::association_sends_layer::part_message;
+use association_hearing::association_state_layer::{Body, Encoded, Ground, Transfer};
 use association_words::{ActivityWord, MarkWord, Message, Word};
 use osi_base::{NoMemory, Octets};
 

@@ -6,13 +6,13 @@ ghost use Rattle.end_rules.specs.TakesData.{parts_in};
 ghost use Rattle.end_rules.specs.Requesting.{begun, resumed, mark_sent, values_sent, after_sent_association, after_sent_data, after_sent_mark, after_sent_activity, after_sent_word, after_sent_transport, after_sent};
 ghost use Rattle.association_words.specs.Seen.{seen_message, seen_values, seen_word, seen_association, seen_data, seen_marks, seen_activities, seen_transport};
 ghost use Rattle.association_pieces.specs.Sending.{seen_queued, seen_transfer, seen_sending};
-ghost use Rattle.association_state.specs.Seen.{seen};
+ghost use Rattle.association_hearing.specs.association_state.Seen.{seen};
 
-use association_hearing::{part_in, set_resumed};
-use association_sets::{Alteration, copy_set};
-use association_state::{
+use association_hearing::association_state_layer::{
     Awaited, Body, Ground, Pieces, Progress, Queued, Sending, Stage, Transfer, take_next,
 };
+use association_hearing::{part_in, set_resumed};
+use association_sets::{Alteration, copy_set};
 use association_words::{
     ActivityWord, AssociationWord, DataWord, MarkWord, Message, TransportUnit, Value, Word,
 };

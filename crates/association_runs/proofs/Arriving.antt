@@ -4,21 +4,21 @@ use Rattle.std.specs.Prelude.{Bool, Some}
 use Rattle.osi_base.specs.declared.layer_words.Side.{Side}
 use Rattle.osi_base.specs.declared.layer_words.Side.TheVariants.{A, B}
 use Rattle.dialogue.specs.declared.indication.Indication.{Indication}
-use Rattle.end_rules.specs.Messages.{Message, Session, OfActivities, End}
-use Rattle.end_rules.specs.State.{Body}
-use Rattle.end_rules.specs.Requesting.{due_of}
-use Rattle.end_rules.specs.ByItself.{OwnAct, SendsNow, EncodesOn}
-use Rattle.end_rules.specs.Reacting.{Takes, react}
-use Rattle.end_rules.specs.TakesActivities.{arrived_now}
-use Rattle.end_rules.specs.History.{Step, called, sent, took, answered, step_of}
-use Rattle.end_rules.specs.World.{World, Ends, body_at}
+use Rattle.end_model.specs.end_rules.Messages.{Message, Session, OfActivities, End}
+use Rattle.end_model.specs.end_rules.State.{Body}
+use Rattle.end_model.specs.end_rules.Requesting.{due_of}
+use Rattle.end_model.specs.end_rules.ByItself.{OwnAct, SendsNow, EncodesOn}
+use Rattle.end_model.specs.end_rules.Reacting.{Takes, react}
+use Rattle.end_model.specs.end_rules.TakesActivities.{arrived_now}
+use Rattle.end_model.specs.end_rules.History.{Step, called, sent, took, answered, step_of}
+use Rattle.end_model.specs.end_rules.World.{World, Ends, body_at}
 use Rattle.agreement.specs.Sets.{Role}
 use Rattle.agreement.specs.Sets.Role.{Initiator, Responder}
 use Rattle.end_model.specs.Sharing.{side_of}
 use Rattle.end_model.specs.Pairs as pairs
 use Rattle.end_model.specs.Pairs.{Common, Two, coming_to}
-use Rattle.reliable_model.specs.Goes.{Ledger, Deeds}
-use Rattle.reliable_model.specs.Transfers.{ArrivesWhole, IsNewest, IsOf, item_of}
+use Rattle.outcome_laws.specs.reliable_model.Goes.{Ledger, Deeds}
+use Rattle.outcome_laws.specs.reliable_model.Transfers.{ArrivesWhole, IsNewest, IsOf, item_of}
 use Rattle.outcome_laws.specs.Deals.{Dealings}
 use Rattle.association_runs.specs.Worlds.{stepping}
 use Rattle.association_runs.specs.Sides.{ends_for}

@@ -1,11 +1,11 @@
 -- No step of a run is a fault or an abort of an end by itself.
 use Rattle.std.proofs.Common.{List, [], ◌∷◌, map, Ok}
 use Rattle.osi_base.specs.declared.layer_words.Side.{Side}
-use Rattle.end_rules.specs.Messages.{Message}
-use Rattle.end_rules.specs.Requesting.{due_of}
-use Rattle.end_rules.specs.ByItself.{OwnAct, SendsNow, EncodesOn}
-use Rattle.end_rules.specs.History.{Step, called, sent, took, answered, fault, aborted, step_of}
-use Rattle.end_rules.specs.World.{World}
+use Rattle.end_model.specs.end_rules.Messages.{Message}
+use Rattle.end_model.specs.end_rules.Requesting.{due_of}
+use Rattle.end_model.specs.end_rules.ByItself.{OwnAct, SendsNow, EncodesOn}
+use Rattle.end_model.specs.end_rules.History.{Step, called, sent, took, answered, fault, aborted, step_of}
+use Rattle.end_model.specs.end_rules.World.{World}
 use Rattle.end_model.specs.Sharing.{side_of}
 use Rattle.end_model.specs.Pairs.{Common, base_at}
 use Rattle.run_laws.specs.Laws.{IsFaultless, NothingFails}

@@ -6,19 +6,19 @@ use Rattle.osi_base.specs.declared.layer_words.Side.TheVariants.{A, B}
 use Rattle.dialogue.specs.declared.event.Event.{Event}
 use Rattle.dialogue.specs.declared.event.Entry.{Entry}
 use Rattle.dialogue.specs.declared.indication.Indication.{Indication}
-use Rattle.end_rules.specs.Messages.{Message}
-use Rattle.end_rules.specs.State.{passes_over}
-use Rattle.end_rules.specs.History.{Step, fed, feed_end, gave, broke, after_broke, ByItself}
-use Rattle.end_rules.specs.World.{World}
+use Rattle.end_model.specs.end_rules.Messages.{Message}
+use Rattle.end_model.specs.end_rules.State.{passes_over}
+use Rattle.end_model.specs.end_rules.History.{Step, fed, feed_end, gave, broke, after_broke, ByItself}
+use Rattle.end_model.specs.end_rules.World.{World}
 use Rattle.agreement.specs.Sets.{Role}
 use Rattle.agreement.specs.Sets.Role.{Initiator, Responder}
 use Rattle.end_model.specs.Sharing.{side_of}
 use Rattle.end_model.specs.Pairs.{Common, base_at, Two, body_at, coming_to, both_broke}
-use Rattle.reliable_model.specs.Goes.{Ledger, Goes}
-use Rattle.reliable_model.specs.Goes as goes_
+use Rattle.outcome_laws.specs.reliable_model.Goes.{Ledger, Goes}
+use Rattle.outcome_laws.specs.reliable_model.Goes as goes_
 use Rattle.outcome_laws.specs.Deals.{Dealings, on_dealt, loses}
 use Rattle.outcome_laws.specs.Deals as deals_
-use Rattle.association_reading.specs.Front.{Intake, with_octets}
+use Rattle.association_line.specs.association_reading.Front.{Intake, with_octets}
 use Rattle.association_worlds.specs.Lines.{more_came}
 use Rattle.osi_base.specs.Limits.{IsUnitSize}
 use Rattle.association_worlds.specs.Ways.{Way}

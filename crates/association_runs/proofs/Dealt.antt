@@ -3,20 +3,20 @@ use Rattle.std.proofs.Common.{◌≡◌, refl, ◌∙◌, sym, ap, List, [], ◌
 use Rattle.std.specs.Prelude.{Option, ℤ}
 use Rattle.osi_base.specs.declared.layer_words.Side.TheVariants.{A, B}
 use Rattle.dialogue.specs.declared.call.Call.{Call}
-use Rattle.end_rules.specs.Messages.{Message}
-use Rattle.end_rules.specs.State.{Body}
-use Rattle.end_rules.specs.Requesting.{due_of}
-use Rattle.end_rules.specs.ByItself.{OwnAct, SendsNow, EncodesOn}
-use Rattle.end_rules.specs.Reacting.{Reaction, react}
-use Rattle.end_rules.specs.History.{Step, called, sent, took, answered, passed, broke, step_of}
-use Rattle.end_rules.specs.World.{World, Ends, body_at}
+use Rattle.end_model.specs.end_rules.Messages.{Message}
+use Rattle.end_model.specs.end_rules.State.{Body}
+use Rattle.end_model.specs.end_rules.Requesting.{due_of}
+use Rattle.end_model.specs.end_rules.ByItself.{OwnAct, SendsNow, EncodesOn}
+use Rattle.end_model.specs.end_rules.Reacting.{Reaction, react}
+use Rattle.end_model.specs.end_rules.History.{Step, called, sent, took, answered, passed, broke, step_of}
+use Rattle.end_model.specs.end_rules.World.{World, Ends, body_at}
 use Rattle.agreement.specs.Sets.{Role, other}
 use Rattle.agreement.specs.Sets.Role.{Initiator, Responder}
 use Rattle.end_model.specs.Sharing.{side_of}
 use Rattle.end_model.specs.Pairs as pairs
 use Rattle.end_model.specs.Pairs.{Common, Two, coming_to}
 use Rattle.end_model.specs.Acting.{apdus_of}
-use Rattle.reliable_model.specs.Goes.{Ledger}
+use Rattle.outcome_laws.specs.reliable_model.Goes.{Ledger}
 use Rattle.outcome_laws.specs.Deals.{Dealings, Dealt, dealt_of, on_dealt, calls_so, asked_by, gets, stays, takes_so, meets, loses}
 use Rattle.run_laws.specs.Showing.{shown_in}
 use Rattle.association_runs.specs.Worlds.{stepping}

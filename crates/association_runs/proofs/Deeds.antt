@@ -11,21 +11,21 @@ use Rattle.dialogue.specs.declared.call.Call.{Call}
 use Rattle.dialogue.specs.declared.call.Call.TheVariants as the_calls
 use Rattle.dialogue.specs.declared.config.Mode.{Mode}
 use Rattle.dialogue.specs.declared.config.Mode.TheVariants.{Bare, Direct, Reliable}
-use Rattle.end_rules.specs.Base.{Base}
-use Rattle.end_rules.specs.Messages.{Message, Transport, Session, OfAssociation, OfData, OfMarks, OfActivities, Start, Resume, End, EndAck, Interrupt, InterruptAck, Discard, DiscardAck}
-use Rattle.end_rules.specs.State.{Body, OpenCall, is_carrying, opened_with}
-use Rattle.end_rules.specs.Invoking.{carrier_in}
-use Rattle.end_rules.specs.Writing.{user_abort, give_message, please_message}
-use Rattle.end_rules.specs.Requesting.{sent_at_once, due_invoke, due_outcome, result_in, error_for, due_of}
-use Rattle.end_rules.specs.ByItself.{OwnAct, SendsNow, EncodesOn}
-use Rattle.end_rules.specs.History.{Step, called, sent, encoded, took, answered, passed, broke, step_of}
-use Rattle.end_rules.specs.World.{World, Ends, body_at, shared_at}
+use Rattle.end_model.specs.end_rules.Base.{Base}
+use Rattle.end_model.specs.end_rules.Messages.{Message, Transport, Session, OfAssociation, OfData, OfMarks, OfActivities, Start, Resume, End, EndAck, Interrupt, InterruptAck, Discard, DiscardAck}
+use Rattle.end_model.specs.end_rules.State.{Body, OpenCall, is_carrying, opened_with}
+use Rattle.end_model.specs.end_rules.Invoking.{carrier_in}
+use Rattle.end_model.specs.end_rules.Writing.{user_abort, give_message, please_message}
+use Rattle.end_model.specs.end_rules.Requesting.{sent_at_once, due_invoke, due_outcome, result_in, error_for, due_of}
+use Rattle.end_model.specs.end_rules.ByItself.{OwnAct, SendsNow, EncodesOn}
+use Rattle.end_model.specs.end_rules.History.{Step, called, sent, encoded, took, answered, passed, broke, step_of}
+use Rattle.end_model.specs.end_rules.World.{World, Ends, body_at, shared_at}
 use Rattle.agreement.specs.Sets.{Role, other}
 use Rattle.agreement.specs.Sets.Role.{Initiator, Responder}
 use Rattle.end_model.specs.Sharing.{side_of}
 use Rattle.end_model.specs.Pairs as pairs
 use Rattle.end_model.specs.Pairs.{Common, Two}
-use Rattle.reliable_model.specs.Goes.{Ledger, Deeds, BothDeeds, deeds_of, on_deeds, more_deeds, started_by, encoded_by, deeds_taken}
+use Rattle.outcome_laws.specs.reliable_model.Goes.{Ledger, Deeds, BothDeeds, deeds_of, on_deeds, more_deeds, started_by, encoded_by, deeds_taken}
 use Rattle.outcome_laws.specs.Deals.{Dealings}
 use Rattle.association_runs.specs.Sides.{ends_for}
 use Rattle.association_runs.specs.Worlds.{stepping}

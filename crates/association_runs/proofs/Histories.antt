@@ -2,11 +2,11 @@
 use Rattle.std.proofs.Common.{◌≡◌, refl, ◌∙◌, sym, ap, List, [], ◌∷◌, ◌++◌}
 use Rattle.osi_base.specs.declared.layer_words.Side.{Side}
 use Rattle.osi_base.specs.declared.layer_words.Side.TheVariants.{A, B}
-use Rattle.end_rules.specs.Base.{Base}
-use Rattle.end_rules.specs.State.{Body}
-use Rattle.end_rules.specs.History.{Step, History, body_of, after_step}
-use Rattle.end_rules.specs.World.{World, Ends, base_at, body_at, history_of, Shared, shared_after, shared_at}
-use Rattle.end_rules.specs.World as sides
+use Rattle.end_model.specs.end_rules.Base.{Base}
+use Rattle.end_model.specs.end_rules.State.{Body}
+use Rattle.end_model.specs.end_rules.History.{Step, History, body_of, after_step}
+use Rattle.end_model.specs.end_rules.World.{World, Ends, base_at, body_at, history_of, Shared, shared_after, shared_at}
+use Rattle.end_model.specs.end_rules.World as sides
 use Rattle.agreement.specs.Sets.{Role, other}
 use Rattle.agreement.specs.Sets.Role.{Initiator, Responder}
 use Rattle.end_model.specs.Pairs as pairs

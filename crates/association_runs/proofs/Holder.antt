@@ -4,22 +4,22 @@ use Rattle.std.specs.Prelude.{Option, Some, ℤ}
 use Rattle.osi_base.specs.declared.layer_words.Side.TheVariants.{A, B}
 use Rattle.dialogue.specs.declared.call.Call.{Call}
 use Rattle.dialogue.specs.declared.indication.Indication.{Indication}
-use Rattle.end_rules.specs.Messages.{Message}
-use Rattle.end_rules.specs.State.{Body, holds_turn}
-use Rattle.end_rules.specs.Calling.{can_call}
-use Rattle.end_rules.specs.Requesting.{due_of}
-use Rattle.end_rules.specs.ByItself.{OwnAct, next_own}
-use Rattle.end_rules.specs.Reacting.{Takes, react}
-use Rattle.end_rules.specs.History.{Step, called, sent, encoded, fed, took, answered, passed, fault, aborted, feed_end, gave, broke, after_step, step_of, after_taken}
-use Rattle.end_rules.specs.World.{World, body_at}
+use Rattle.end_model.specs.end_rules.Messages.{Message}
+use Rattle.end_model.specs.end_rules.State.{Body, holds_turn}
+use Rattle.end_model.specs.end_rules.Calling.{can_call}
+use Rattle.end_model.specs.end_rules.Requesting.{due_of}
+use Rattle.end_model.specs.end_rules.ByItself.{OwnAct, next_own}
+use Rattle.end_model.specs.end_rules.Reacting.{Takes, react}
+use Rattle.end_model.specs.end_rules.History.{Step, called, sent, encoded, fed, took, answered, passed, fault, aborted, feed_end, gave, broke, after_step, step_of, after_taken}
+use Rattle.end_model.specs.end_rules.World.{World, body_at}
 use Rattle.agreement.specs.Sets.{Role}
 use Rattle.agreement.specs.Sets.Role.{Initiator, Responder}
 use Rattle.end_model.specs.Requests.{after_called}
 use Rattle.end_model.specs.Sharing.{side_of}
 use Rattle.end_model.specs.Pairs as pairs
 use Rattle.end_model.specs.Pairs.{Common, Two, coming_to, stepped, both_broke}
-use Rattle.reliable_model.specs.Goes.{Ledger, first_ledger, after_sending, after_own, after_taking, own_messages, Goes}
-use Rattle.reliable_model.specs.Goes as goes_
+use Rattle.outcome_laws.specs.reliable_model.Goes.{Ledger, first_ledger, after_sending, after_own, after_taking, own_messages, Goes}
+use Rattle.outcome_laws.specs.reliable_model.Goes as goes_
 use Rattle.outcome_laws.specs.Deals.{Dealings}
 use Rattle.run_laws.specs.Laws.{AtEachMoment, OneHolder}
 use Rattle.association_line.specs.Line.{End, after, after_all}

@@ -13,13 +13,13 @@ use Rattle.dialogue.specs.declared.config.Mode.{Mode}
 use Rattle.dialogue.specs.declared.config.Mode.TheVariants.{Bare, Direct, Reliable}
 use Rattle.dialogue.specs.declared.config.Phase.{Phase}
 use Rattle.dialogue.specs.declared.config.Phase.TheVariants as phases
-use Rattle.end_rules.specs.Base.{Base, is_reliable}
-use Rattle.end_rules.specs.Messages.{Message}
-use Rattle.end_rules.specs.State.{Body, Link, OpenCall, is_up, is_restarting, holds_turn, opened_with, is_carrying, cut_all}
-use Rattle.end_rules.specs.Invoking.{Reply, carrier_in, invoke_apdu}
-use Rattle.end_rules.specs.Writing.{user_abort}
-use Rattle.end_rules.specs.Requesting.{handed_in, invoking, after_invoke, after_outcome, answering, result_in, error_for, after_accepted, after_refused, after_call, sent_at_once, due_invoke, due_outcome, due_of}
-use Rattle.end_rules.specs.History.{Step, called, sent, encoded, fed, took, answered, passed, fault, aborted, feed_end, gave, broke, after_step, broken_phase, off_line, after_broke}
+use Rattle.end_model.specs.end_rules.Base.{Base, is_reliable}
+use Rattle.end_model.specs.end_rules.Messages.{Message}
+use Rattle.end_model.specs.end_rules.State.{Body, Link, OpenCall, is_up, is_restarting, holds_turn, opened_with, is_carrying, cut_all}
+use Rattle.end_model.specs.end_rules.Invoking.{Reply, carrier_in, invoke_apdu}
+use Rattle.end_model.specs.end_rules.Writing.{user_abort}
+use Rattle.end_model.specs.end_rules.Requesting.{handed_in, invoking, after_invoke, after_outcome, answering, result_in, error_for, after_accepted, after_refused, after_call, sent_at_once, due_invoke, due_outcome, due_of}
+use Rattle.end_model.specs.end_rules.History.{Step, called, sent, encoded, fed, took, answered, passed, fault, aborted, feed_end, gave, broke, after_step, broken_phase, off_line, after_broke}
 
 and-first : (a b : Bool) → (a && b) ≡ true → a ≡ true
 and-first true b h = refl

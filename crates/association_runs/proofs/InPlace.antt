@@ -3,17 +3,17 @@ use Rattle.std.proofs.Common.{◌≡◌, refl, sym, subst, List, [], ◌∷◌, 
 use Rattle.std.specs.Prelude.{Option, Some}
 use Rattle.std.proofs.lemmas.List.{append-nil}
 use Rattle.osi_base.specs.declared.layer_words.Side.TheVariants.{A, B}
-use Rattle.end_rules.specs.Messages.{Message}
-use Rattle.end_rules.specs.Requesting.{due_of}
-use Rattle.end_rules.specs.ByItself.{OwnAct, SendsNow, EncodesOn}
-use Rattle.end_rules.specs.History.{Step, called, sent, took, answered, passed, broke, step_of}
-use Rattle.end_rules.specs.World.{World, Ends}
+use Rattle.end_model.specs.end_rules.Messages.{Message}
+use Rattle.end_model.specs.end_rules.Requesting.{due_of}
+use Rattle.end_model.specs.end_rules.ByItself.{OwnAct, SendsNow, EncodesOn}
+use Rattle.end_model.specs.end_rules.History.{Step, called, sent, took, answered, passed, broke, step_of}
+use Rattle.end_model.specs.end_rules.World.{World, Ends}
 use Rattle.agreement.specs.Sets.{Role}
 use Rattle.agreement.specs.Sets.Role.{Initiator, Responder}
 use Rattle.end_model.specs.Sharing.{side_of}
 use Rattle.end_model.specs.Pairs as pairs
 use Rattle.end_model.specs.Pairs.{Common, Two, coming_to}
-use Rattle.reliable_model.specs.Goes.{Ledger}
+use Rattle.outcome_laws.specs.reliable_model.Goes.{Ledger}
 use Rattle.outcome_laws.specs.Deals.{Dealings}
 use Rattle.run_laws.specs.Passing.{sent_in, Passed, as_read, at_sending, on_connection, sendings, read_in, readings, AreInPlace, TakenInPlace}
 use Rattle.run_laws.specs.Laws.{AtEachMoment}

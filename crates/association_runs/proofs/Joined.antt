@@ -6,15 +6,15 @@ use Rattle.std.proofs.Math.Seq.{take-length}
 use Rattle.osi_base.specs.declared.layer_words.Side.{Side}
 use Rattle.dialogue.specs.declared.call.Call.{Call}
 use Rattle.dialogue.specs.declared.call.CallRefusal.{CallRefusal}
-use Rattle.end_rules.specs.Base.{Base}
-use Rattle.end_rules.specs.Messages.{Message}
-use Rattle.end_rules.specs.State.{Body}
-use Rattle.end_rules.specs.Invoking.{Reply}
-use Rattle.end_rules.specs.Calling.{can_call}
-use Rattle.end_rules.specs.Requesting.{due_of}
-use Rattle.end_rules.specs.ByItself.{OwnAct, SendsNow, EncodesOn, next_own}
-use Rattle.end_rules.specs.History.{Step, called, sent, encoded, answered, feed_end, after_step, step_of, call_steps, ByItself, rests, goes}
-use Rattle.end_rules.specs.World.{World, Shared, shared_after, shared_at}
+use Rattle.end_model.specs.end_rules.Base.{Base}
+use Rattle.end_model.specs.end_rules.Messages.{Message}
+use Rattle.end_model.specs.end_rules.State.{Body}
+use Rattle.end_model.specs.end_rules.Invoking.{Reply}
+use Rattle.end_model.specs.end_rules.Calling.{can_call}
+use Rattle.end_model.specs.end_rules.Requesting.{due_of}
+use Rattle.end_model.specs.end_rules.ByItself.{OwnAct, SendsNow, EncodesOn, next_own}
+use Rattle.end_model.specs.end_rules.History.{Step, called, sent, encoded, answered, feed_end, after_step, step_of, call_steps, ByItself, rests, goes}
+use Rattle.end_model.specs.end_rules.World.{World, Shared, shared_after, shared_at}
 use Rattle.tpkt.specs.Reader.{ReaderProgress, nothing}
 use Rattle.tpkt.proofs.StreamLaws.{nothing_read}
 use Rattle.agreement.specs.Sets.{Role, other}
@@ -23,13 +23,13 @@ use Rattle.end_model.specs.Requests.{after_called}
 use Rattle.end_model.specs.Sharing.{side_of, shared_all_sent, shared_all_answered}
 use Rattle.end_model.specs.Acting.{apdus_of}
 use Rattle.end_model.specs.Pairs.{Common, base_at, Two, two_new, body_at, coming_to, stepped}
-use Rattle.reliable_model.specs.Goes.{Ledger, first_ledger, after_sending, after_own, after_taking, own_messages, Goes}
-use Rattle.reliable_model.specs.Goes as goes_
+use Rattle.outcome_laws.specs.reliable_model.Goes.{Ledger, first_ledger, after_sending, after_own, after_taking, own_messages, Goes}
+use Rattle.outcome_laws.specs.reliable_model.Goes as goes_
 use Rattle.outcome_laws.specs.Deals.{Dealings, dealt_of, on_dealt, calls_so, asked_by, gets, stays, takes_so, meets, loses, nothing_dealt, Deals}
 use Rattle.outcome_laws.specs.Deals as deals_
-use Rattle.association_wire.specs.Written.{written}
-use Rattle.association_reading.specs.Front.{all_fronts}
-use Rattle.said_words.specs.Calls.{IsCall, Speaks}
+use Rattle.association_line.specs.association_wire.Written.{written}
+use Rattle.association_line.specs.association_reading.Front.{all_fronts}
+use Rattle.association_worlds.specs.said_words.Calls.{IsCall, Speaks}
 use Rattle.osi_base.specs.Limits.{IsUnitSize}
 use Rattle.association_worlds.specs.Ways.{IsWay, Way}
 use Rattle.association_worlds.specs.Laws.{IsMeant, IsHeard}

@@ -1,17 +1,17 @@
 -- What is kept between the moments of two ends whose lines are octets and what two ends with messages reach: each step of an end
 -- with its octets is a step of the messages that these octets are.
 use Rattle.std.proofs.Common.{◌≡◌, refl, ◌∙◌, sym, ap, subst, ℕ, List, ◌++◌}
-use Rattle.end_rules.specs.Messages.{Message}
-use Rattle.end_rules.specs.State.{Body}
-use Rattle.end_rules.specs.History.{Step}
-use Rattle.end_rules.specs.World.{World, shared_at}
+use Rattle.end_model.specs.end_rules.Messages.{Message}
+use Rattle.end_model.specs.end_rules.State.{Body}
+use Rattle.end_model.specs.end_rules.History.{Step}
+use Rattle.end_model.specs.end_rules.World.{World, shared_at}
 use Rattle.agreement.specs.Sets.{Role, other}
 use Rattle.agreement.specs.Sets.Role.{Initiator, Responder}
 use Rattle.end_model.specs.Sharing.{side_of}
 use Rattle.end_model.specs.Pairs.{Common, base_at, Two, body_at, coming_to, stepped}
-use Rattle.reliable_model.specs.Goes.{Ledger}
+use Rattle.outcome_laws.specs.reliable_model.Goes.{Ledger}
 use Rattle.outcome_laws.specs.Deals.{Dealings, Deals}
-use Rattle.said_words.specs.Calls.{Speaks}
+use Rattle.association_worlds.specs.said_words.Calls.{Speaks}
 use Rattle.association_worlds.specs.Lines.{written_all}
 use Rattle.osi_base.specs.Limits.{IsUnitSize}
 use Rattle.association_worlds.specs.Ways.{AreCarried, Way}

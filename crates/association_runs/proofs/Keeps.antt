@@ -4,21 +4,21 @@ use Rattle.std.specs.Prelude.{Option, Some, ℤ}
 use Rattle.osi_base.specs.declared.layer_words.Side.TheVariants.{A, B}
 use Rattle.dialogue.specs.declared.call.Call.{Call}
 use Rattle.dialogue.specs.declared.indication.Indication.{Indication}
-use Rattle.end_rules.specs.Messages.{Message}
-use Rattle.end_rules.specs.State.{Body}
-use Rattle.end_rules.specs.Calling.{can_call}
-use Rattle.end_rules.specs.Requesting.{due_of}
-use Rattle.end_rules.specs.ByItself.{OwnAct, next_own}
-use Rattle.end_rules.specs.Reacting.{Passes, Takes, react}
-use Rattle.end_rules.specs.History.{Step, called, sent, fed, passed, feed_end, gave, broke, after_step, step_of}
-use Rattle.end_rules.specs.World.{World}
+use Rattle.end_model.specs.end_rules.Messages.{Message}
+use Rattle.end_model.specs.end_rules.State.{Body}
+use Rattle.end_model.specs.end_rules.Calling.{can_call}
+use Rattle.end_model.specs.end_rules.Requesting.{due_of}
+use Rattle.end_model.specs.end_rules.ByItself.{OwnAct, next_own}
+use Rattle.end_model.specs.end_rules.Reacting.{Passes, Takes, react}
+use Rattle.end_model.specs.end_rules.History.{Step, called, sent, fed, passed, feed_end, gave, broke, after_step, step_of}
+use Rattle.end_model.specs.end_rules.World.{World}
 use Rattle.agreement.specs.Sets.{Role}
 use Rattle.agreement.specs.Sets.Role.{Initiator}
 use Rattle.end_model.specs.Requests.{after_called}
 use Rattle.end_model.specs.Sharing.{side_of}
 use Rattle.end_model.specs.Acting.{apdus_of}
 use Rattle.end_model.specs.Pairs.{Common, base_at, Two, two_new, body_at, coming_to, stepped, both_broke}
-use Rattle.reliable_model.specs.Goes.{Ledger, first_ledger, after_sending, after_own, after_taking, own_messages}
+use Rattle.outcome_laws.specs.reliable_model.Goes.{Ledger, first_ledger, after_sending, after_own, after_taking, own_messages}
 use Rattle.outcome_laws.specs.Deals.{Dealings, on_dealt, calls_so, asked_by, gets, stays, takes_so, meets, loses, nothing_dealt}
 use Rattle.association_line.specs.Feeding.{taking}
 use Rattle.association_runs.specs.Worlds.{stepping}

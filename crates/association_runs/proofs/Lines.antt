@@ -4,12 +4,12 @@ use Rattle.std.specs.Prelude.{Bool, ◌&&◌, nat_le, ◌^◌, Option, Some, if�
 use Rattle.std.proofs.Math.Pow.{pow_mono}
 use Rattle.std.proofs.lemmas.Bool.Decides.{nat_tests}
 use Rattle.std.proofs.lemmas.List.{append-nil}
-use Rattle.end_rules.specs.Base.{Base}
-use Rattle.end_rules.specs.Messages.{Message, Transport, Session, ConnectionRequest, ConnectionConfirm, DisconnectRequest, TransportError, TransportUnit}
-use Rattle.end_rules.specs.State.{Body}
-use Rattle.end_rules.specs.History.{sent, answered}
+use Rattle.end_model.specs.end_rules.Base.{Base}
+use Rattle.end_model.specs.end_rules.Messages.{Message, Transport, Session, ConnectionRequest, ConnectionConfirm, DisconnectRequest, TransportError, TransportUnit}
+use Rattle.end_model.specs.end_rules.State.{Body}
+use Rattle.end_model.specs.end_rules.History.{sent, answered}
 use Rattle.end_model.specs.Requests.{sent_all}
-use Rattle.association_wire.specs.Written.{written}
+use Rattle.association_line.specs.association_wire.Written.{written}
 use Rattle.association_line.specs.Line.{Line, End, after, after_all, first_size, size_named, size_of_unit, size_after}
 use Rattle.association_worlds.specs.Lines.{written_all}
 use Rattle.osi_base.specs.Limits.{IsUnitSize}

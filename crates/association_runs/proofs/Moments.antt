@@ -3,9 +3,9 @@ use Rattle.std.proofs.Common.{◌≡◌, refl, ◌∙◌, sym, ap, subst, List, 
 use Rattle.std.specs.Prelude.{Option, Some}
 use Rattle.std.proofs.lemmas.List.{append-nil}
 use Rattle.osi_base.specs.declared.layer_words.Side.TheVariants.{A, B}
-use Rattle.end_rules.specs.Messages.{Message}
-use Rattle.end_rules.specs.History.{Step, sent, answered, broke}
-use Rattle.end_rules.specs.World.{World, Ends}
+use Rattle.end_model.specs.end_rules.Messages.{Message}
+use Rattle.end_model.specs.end_rules.History.{Step, sent, answered, broke}
+use Rattle.end_model.specs.end_rules.World.{World, Ends}
 use Rattle.agreement.specs.Sets.{Role, other}
 use Rattle.agreement.specs.Sets.Role.{Initiator, Responder}
 use Rattle.end_model.specs.Sharing.{side_of}

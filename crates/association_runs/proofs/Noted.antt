@@ -20,22 +20,22 @@ use Rattle.dialogue.specs.declared.config.Mode.{Mode}
 use Rattle.dialogue.specs.declared.config.Mode.TheVariants.{Bare, Direct, Reliable}
 use Rattle.dialogue.specs.declared.indication.Indication.{Indication}
 use Rattle.dialogue.specs.declared.indication.Indication.TheVariants as indications
-use Rattle.end_rules.specs.Base.{Base, HeardHead, is_reliable}
-use Rattle.end_rules.specs.Sets.{Alteration}
-use Rattle.end_rules.specs.Messages.{ValueContent, Remote, DataValue, Message, Transport, Session, Word, OfAssociation, OfData, OfMarks, OfActivities, TransportUnit, ConnectionRequest, ConnectionConfirm, DisconnectRequest, TransportError}
-use Rattle.end_rules.specs.Messages.{AssociationWord, Connect, Accept, Refuse, Finish, Disconnect, Abort, AbortAccept, Values, AlterContext, AlterContextAck}
-use Rattle.end_rules.specs.Messages.{MarkWord, Mark, MarkAck, Restart, RestartAck, Give, Please, GiveConfirm, GiveAck, ActivityWord, Start, Resume, End, EndAck, Interrupt, InterruptAck, Discard, DiscardAck}
-use Rattle.end_rules.specs.State.{Body, OpenCall, Calls, is_empty, is_broken, opened_with, close, post_order}
-use Rattle.end_rules.specs.Faults.{cut_of, cuts, losses}
-use Rattle.end_rules.specs.Writing.{is_recovering}
-use Rattle.end_rules.specs.Invoking.{carrier_in}
-use Rattle.end_rules.specs.Hearing.{Rejecting, Heard, rejected, told, unless_problem, first_problem, problem_if, is_right, invoke_problem, invoked, is_place, is_right_result, result_problem, hear_result_of, known_error_problem, error_problem, error_told, hear_error_of, is_of_invocation, hear_reject, hear, carried_in, code_returned, value_returned, value_in, head_of_apdu, sent_on, queued, with_reject, take_head, head_of, take_values}
-use Rattle.end_rules.specs.Connecting.{is_refused, recovers_in, shown_opening}
-use Rattle.end_rules.specs.TakesAssociation.{aborted_by_peer, shown_of_association}
-use Rattle.end_rules.specs.TakesTransport.{shown_of_transport}
-use Rattle.end_rules.specs.TakesData.{with_parts, values_taken, shown_settled, shown_of_data}
-use Rattle.end_rules.specs.TakesMarks.{mark_shown, shown_turn, priority_in, shown_plea, shown_please, shown_of_mark}
-use Rattle.end_rules.specs.TakesActivities.{invocation_in, shown_cut, received, handed_up, shown_of_activity}
+use Rattle.end_model.specs.end_rules.Base.{Base, HeardHead, is_reliable}
+use Rattle.end_model.specs.end_rules.Sets.{Alteration}
+use Rattle.end_model.specs.end_rules.Messages.{ValueContent, Remote, DataValue, Message, Transport, Session, Word, OfAssociation, OfData, OfMarks, OfActivities, TransportUnit, ConnectionRequest, ConnectionConfirm, DisconnectRequest, TransportError}
+use Rattle.end_model.specs.end_rules.Messages.{AssociationWord, Connect, Accept, Refuse, Finish, Disconnect, Abort, AbortAccept, Values, AlterContext, AlterContextAck}
+use Rattle.end_model.specs.end_rules.Messages.{MarkWord, Mark, MarkAck, Restart, RestartAck, Give, Please, GiveConfirm, GiveAck, ActivityWord, Start, Resume, End, EndAck, Interrupt, InterruptAck, Discard, DiscardAck}
+use Rattle.end_model.specs.end_rules.State.{Body, OpenCall, Calls, is_empty, is_broken, opened_with, close, post_order}
+use Rattle.end_model.specs.end_rules.Faults.{cut_of, cuts, losses}
+use Rattle.end_model.specs.end_rules.Writing.{is_recovering}
+use Rattle.end_model.specs.end_rules.Invoking.{carrier_in}
+use Rattle.end_model.specs.end_rules.Hearing.{Rejecting, Heard, rejected, told, unless_problem, first_problem, problem_if, is_right, invoke_problem, invoked, is_place, is_right_result, result_problem, hear_result_of, known_error_problem, error_problem, error_told, hear_error_of, is_of_invocation, hear_reject, hear, carried_in, code_returned, value_returned, value_in, head_of_apdu, sent_on, queued, with_reject, take_head, head_of, take_values}
+use Rattle.end_model.specs.end_rules.Connecting.{is_refused, recovers_in, shown_opening}
+use Rattle.end_model.specs.end_rules.TakesAssociation.{aborted_by_peer, shown_of_association}
+use Rattle.end_model.specs.end_rules.TakesTransport.{shown_of_transport}
+use Rattle.end_model.specs.end_rules.TakesData.{with_parts, values_taken, shown_settled, shown_of_data}
+use Rattle.end_model.specs.end_rules.TakesMarks.{mark_shown, shown_turn, priority_in, shown_plea, shown_please, shown_of_mark}
+use Rattle.end_model.specs.end_rules.TakesActivities.{invocation_in, shown_cut, received, handed_up, shown_of_activity}
 use Rattle.outcome_laws.specs.Deals.{Asked}
 use Rattle.outcome_laws.specs.Outcomes.{IsIn as IsAmong, value_of}
 use Rattle.outcome_laws.proofs.Open.{asked_in, Once, Found, found}

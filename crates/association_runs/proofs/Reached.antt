@@ -1,6 +1,6 @@
 -- The laws of every run, each by what is kept of it.
 use Rattle.std.proofs.Common.{◌∙◌}
-use Rattle.end_rules.specs.World.{World}
+use Rattle.end_model.specs.end_rules.World.{World}
 use Rattle.end_model.specs.Pairs.{Common}
 use Rattle.run_laws.specs.Passing.{TakenInPlace}
 use Rattle.run_laws.specs.Laws.{AtEachMoment, NothingFails, OneHolder}
@@ -18,7 +18,7 @@ use Rattle.association_runs.proofs.Arriving.{whole-keeps}
 use Rattle.association_runs.proofs.Shown.{each-carry-shows}
 use Rattle.association_runs.proofs.Keeps.{Keeps}
 use Rattle.end_model.specs.Pairs.{Two}
-use Rattle.reliable_model.specs.Goes.{Ledger}
+use Rattle.outcome_laws.specs.reliable_model.Goes.{Ledger}
 use Rattle.outcome_laws.specs.Deals.{Dealings}
 
 -- two things that are kept are kept together

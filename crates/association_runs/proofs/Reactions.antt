@@ -2,14 +2,14 @@
 use Rattle.std.proofs.Common.{◌≡◌, refl, subst, true, false, None}
 use Rattle.std.specs.Prelude.{Bool, not, ◌||◌, if◌then◌else◌, Option, Some, List}
 use Rattle.dialogue.specs.declared.indication.Indication.{Indication}
-use Rattle.end_rules.specs.Base.{Base, Fault, is_bare}
-use Rattle.end_rules.specs.Messages.{Message, Transport, Session, Word, TransportUnit, unit_of}
-use Rattle.end_rules.specs.State.{Body, passes_over, is_joined, is_carrying}
-use Rattle.end_rules.specs.Purging.{is_purged, is_transport_purged}
-use Rattle.end_rules.specs.Faults.{transport_fault}
-use Rattle.end_rules.specs.TakesTransport.{transport_unit_fault}
-use Rattle.end_rules.specs.Reacting.{Reaction, Passes, Takes, Fails, fails, fault_above, word_fault, on_word, react_to_word, on_transport, react_to_session, react_alive, react}
-use Rattle.end_rules.specs.History.{after_taken}
+use Rattle.end_model.specs.end_rules.Base.{Base, Fault, is_bare}
+use Rattle.end_model.specs.end_rules.Messages.{Message, Transport, Session, Word, TransportUnit, unit_of}
+use Rattle.end_model.specs.end_rules.State.{Body, passes_over, is_joined, is_carrying}
+use Rattle.end_model.specs.end_rules.Purging.{is_purged, is_transport_purged}
+use Rattle.end_model.specs.end_rules.Faults.{transport_fault}
+use Rattle.end_model.specs.end_rules.TakesTransport.{transport_unit_fault}
+use Rattle.end_model.specs.end_rules.Reacting.{Reaction, Passes, Takes, Fails, fails, fault_above, word_fault, on_word, react_to_word, on_transport, react_to_session, react_alive, react}
+use Rattle.end_model.specs.end_rules.History.{after_taken}
 
 -- the body of a taking is this
 abbrev Leaves : Body → Reaction → Type 0

@@ -14,15 +14,15 @@ use Rattle.dialogue.specs.declared.call.Call.{Call}
 use Rattle.dialogue.specs.declared.call.Call.TheVariants as the_calls
 use Rattle.dialogue.specs.declared.call.CallRefusal.{CallRefusal}
 use Rattle.dialogue.specs.declared.call.CallRefusal.TheVariants as refusals
-use Rattle.end_rules.specs.Base.{Base, is_bare, is_direct, is_reliable}
-use Rattle.end_rules.specs.Sets.{Alteration, next_number, is_deleted_in, is_named_in, has_parity, is_fixed, is_among}
+use Rattle.end_model.specs.end_rules.Base.{Base, is_bare, is_direct, is_reliable}
+use Rattle.end_model.specs.end_rules.Sets.{Alteration, next_number, is_deleted_in, is_named_in, has_parity, is_fixed, is_among}
 use Rattle.osi_base.specs.SetPlaces.{pair_of}
-use Rattle.end_rules.specs.State.{Body, OpenCall, is_free, is_none, is_empty, is_current, is_ending, is_suspended, opened_with, opens_of}
-use Rattle.end_rules.specs.Units.{has_marks, has_restarts, has_token}
-use Rattle.end_rules.specs.Invoking.{Reply, invoke_apdu, result_apdu, error_apdu, is_stopped, is_queue_full, is_on_module, is_too_long, next_id, is_linked_to, link_refusal, linking_refusal, can_send_invoke, unless_refused, can_invoke_operation, lacks_carrier, can_send_outcome, can_answer_open, operation_of, can_refuse_open}
-use Rattle.end_rules.specs.Altering.{used, is_bad, addition_refusal, deletion_refusal, or_else, additions_refusal, deletions_refusal, is_set_full, alteration_refusal, can_alter}
-use Rattle.end_rules.specs.Calling.{can_mark, has_activity, can_give, can_please, can_restart, can_stop, can_resume, can_release, can_by_rows, is_dead, is_initiators, is_phase_for, is_of_bare_mode, can_call}
-use Rattle.end_rules.specs.Requesting.{after_refused}
+use Rattle.end_model.specs.end_rules.State.{Body, OpenCall, is_free, is_none, is_empty, is_current, is_ending, is_suspended, opened_with, opens_of}
+use Rattle.end_model.specs.end_rules.Units.{has_marks, has_restarts, has_token}
+use Rattle.end_model.specs.end_rules.Invoking.{Reply, invoke_apdu, result_apdu, error_apdu, is_stopped, is_queue_full, is_on_module, is_too_long, next_id, is_linked_to, link_refusal, linking_refusal, can_send_invoke, unless_refused, can_invoke_operation, lacks_carrier, can_send_outcome, can_answer_open, operation_of, can_refuse_open}
+use Rattle.end_model.specs.end_rules.Altering.{used, is_bad, addition_refusal, deletion_refusal, or_else, additions_refusal, deletions_refusal, is_set_full, alteration_refusal, can_alter}
+use Rattle.end_model.specs.end_rules.Calling.{can_mark, has_activity, can_give, can_please, can_restart, can_stop, can_resume, can_release, can_by_rows, is_dead, is_initiators, is_phase_for, is_of_bare_mode, can_call}
+use Rattle.end_model.specs.end_rules.Requesting.{after_refused}
 
 abbrev NotMemory : CallRefusal → Type 0
 NotMemory refusals.NoMemory = ⊥

@@ -9,24 +9,24 @@ use Rattle.dialogue.specs.declared.event.Entry.{Entry}
 use Rattle.dialogue.specs.declared.event.Entry.TheVariants as entries
 use Rattle.dialogue.specs.declared.call.Call.{Call}
 use Rattle.dialogue.specs.declared.indication.Indication.{Indication}
-use Rattle.end_rules.specs.Base.{Base}
-use Rattle.end_rules.specs.Messages.{Message}
-use Rattle.end_rules.specs.State.{Body}
-use Rattle.end_rules.specs.Invoking.{Reply}
-use Rattle.end_rules.specs.Calling.{can_call}
-use Rattle.end_rules.specs.Requesting.{due_of}
-use Rattle.end_rules.specs.ByItself.{OwnAct, SendsNow, EncodesOn}
-use Rattle.end_rules.specs.Reacting.{Takes, react}
-use Rattle.end_rules.specs.History.{Step, sent, fed, took, answered, passed, feed_end, gave, broke, step_of, ByItself, rests, goes, call_steps}
-use Rattle.end_rules.specs.World.{World, Ends, body_at}
+use Rattle.end_model.specs.end_rules.Base.{Base}
+use Rattle.end_model.specs.end_rules.Messages.{Message}
+use Rattle.end_model.specs.end_rules.State.{Body}
+use Rattle.end_model.specs.end_rules.Invoking.{Reply}
+use Rattle.end_model.specs.end_rules.Calling.{can_call}
+use Rattle.end_model.specs.end_rules.Requesting.{due_of}
+use Rattle.end_model.specs.end_rules.ByItself.{OwnAct, SendsNow, EncodesOn}
+use Rattle.end_model.specs.end_rules.Reacting.{Takes, react}
+use Rattle.end_model.specs.end_rules.History.{Step, sent, fed, took, answered, passed, feed_end, gave, broke, step_of, ByItself, rests, goes, call_steps}
+use Rattle.end_model.specs.end_rules.World.{World, Ends, body_at}
 use Rattle.agreement.specs.Sets.{Role, other}
 use Rattle.agreement.specs.Sets.Role.{Initiator, Responder}
 use Rattle.end_model.specs.Sharing.{side_of}
 use Rattle.end_model.specs.Pairs.{Common, Two, base_at}
-use Rattle.reliable_model.specs.Goes.{Ledger}
+use Rattle.outcome_laws.specs.reliable_model.Goes.{Ledger}
 use Rattle.outcome_laws.specs.Deals.{Dealings}
-use Rattle.association_reading.specs.Front.{Intake, first_in}
-use Rattle.association_reading.specs.Reacting.{react_to}
+use Rattle.association_line.specs.association_reading.Front.{Intake, first_in}
+use Rattle.association_line.specs.association_reading.Reacting.{react_to}
 use Rattle.association_worlds.specs.Laws.{IsMeant}
 use Rattle.run_laws.specs.Showing.{shown_in, behind_newest, showing_on, showings, shown_to, carries_to, EachCarryShows}
 use Rattle.association_line.specs.Line.{End, after, after_all}

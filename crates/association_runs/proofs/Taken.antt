@@ -4,26 +4,26 @@ use Rattle.std.proofs.Common.{◌≡◌, refl, ◌∙◌, sym, ap, subst, List, 
 use Rattle.std.specs.Prelude.{Option, Some, option_map}
 use Rattle.std.proofs.lemmas.List.{append-nil}
 use Rattle.dialogue.specs.declared.indication.Indication.{Indication}
-use Rattle.end_rules.specs.Base.{Base, Fault}
-use Rattle.end_rules.specs.Messages.{Message, Session, Transport, unit_of}
-use Rattle.end_rules.specs.State.{Body}
-use Rattle.end_rules.specs.Reacting.{Reaction, Passes, Takes, Fails, react}
-use Rattle.end_rules.specs.History.{Step, took, passed, after_taken}
-use Rattle.end_rules.specs.World.{World, shared_at}
+use Rattle.end_model.specs.end_rules.Base.{Base, Fault}
+use Rattle.end_model.specs.end_rules.Messages.{Message, Session, Transport, unit_of}
+use Rattle.end_model.specs.end_rules.State.{Body}
+use Rattle.end_model.specs.end_rules.Reacting.{Reaction, Passes, Takes, Fails, react}
+use Rattle.end_model.specs.end_rules.History.{Step, took, passed, after_taken}
+use Rattle.end_model.specs.end_rules.World.{World, shared_at}
 use Rattle.spdu_codec.specs.Places.{user_places}
 use Rattle.spdu_codec.specs.Written.{stands_alone}
 use Rattle.agreement.specs.Sets.{Role, other}
 use Rattle.end_model.specs.Sharing.{side_of, shared_all_answered}
 use Rattle.end_model.specs.Pairs.{Common, base_at, Two, body_at, coming_to, stepped}
-use Rattle.reliable_model.specs.Goes.{Ledger, after_taking, Goes}
-use Rattle.reliable_model.specs.Goes as goes_
+use Rattle.outcome_laws.specs.reliable_model.Goes.{Ledger, after_taking, Goes}
+use Rattle.outcome_laws.specs.reliable_model.Goes as goes_
 use Rattle.outcome_laws.specs.Deals.{Dealings, on_dealt, gets, stays, takes_so, meets, Deals}
 use Rattle.outcome_laws.specs.Deals as deals_
-use Rattle.association_wire.specs.Units.{user_octets}
-use Rattle.association_wire.specs.Written.{with_user, tsdu_of}
-use Rattle.association_reading.specs.Front.{Intake, first_in, behind_first}
-use Rattle.association_reading.specs.Reacting.{react_to}
-use Rattle.said_words.specs.Calls.{Speaks}
+use Rattle.association_line.specs.association_wire.Units.{user_octets}
+use Rattle.association_line.specs.association_wire.Written.{with_user, tsdu_of}
+use Rattle.association_line.specs.association_reading.Front.{Intake, first_in, behind_first}
+use Rattle.association_line.specs.association_reading.Reacting.{react_to}
+use Rattle.association_worlds.specs.said_words.Calls.{Speaks}
 use Rattle.association_worlds.specs.Ways.{Way, start_in, front_of}
 use Rattle.association_worlds.specs.Laws.{IsMeant, IsHeard}
 use Rattle.association_worlds.proofs.Kept.{FirstOf, first-of, heard-so}

@@ -13,8 +13,8 @@ use Rattle.dialogue.specs.declared.indication.Indication.{Indication}
 use Rattle.dialogue.specs.declared.indication.Indication.TheVariants as indications
 use Rattle.dialogue.specs.declared.event.Event.{Event}
 use Rattle.dialogue.specs.declared.event.Entry.{Entry}
-use Rattle.end_rules.specs.Invoking.{is_linked_to}
-use Rattle.end_rules.specs.World.{World, Ends, other}
+use Rattle.end_model.specs.end_rules.Invoking.{is_linked_to}
+use Rattle.end_model.specs.end_rules.World.{World, Ends, other}
 use Rattle.end_model.proofs.Numbered.{or-first, or-second}
 use Rattle.outcome_laws.specs.Deals.{Asked, outcomes_in, AreDistinct}
 use Rattle.outcome_laws.specs.Links.{Fits, AllFit, links_in}

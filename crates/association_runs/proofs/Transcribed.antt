@@ -9,15 +9,15 @@ use Rattle.dialogue.specs.declared.event.Event.{Event}
 use Rattle.dialogue.specs.declared.event.Entry.{Entry}
 use Rattle.dialogue.specs.declared.event.Entry.TheVariants as entries
 use Rattle.dialogue.specs.declared.indication.Indication.{Indication}
-use Rattle.end_rules.specs.Base.{Base}
-use Rattle.end_rules.specs.Messages.{Message}
-use Rattle.end_rules.specs.State.{Body}
-use Rattle.end_rules.specs.Invoking.{Reply}
-use Rattle.end_rules.specs.Calling.{can_call}
-use Rattle.end_rules.specs.Requesting.{due_of}
-use Rattle.end_rules.specs.ByItself.{OwnAct, SendsNow, EncodesOn}
-use Rattle.end_rules.specs.History.{Step, called, sent, fed, took, answered, passed, aborted, feed_end, gave, broke, step_of, ByItself, rests, goes, call_steps}
-use Rattle.end_rules.specs.World.{World, Ends, base_at, body_at, is_side, other}
+use Rattle.end_model.specs.end_rules.Base.{Base}
+use Rattle.end_model.specs.end_rules.Messages.{Message}
+use Rattle.end_model.specs.end_rules.State.{Body}
+use Rattle.end_model.specs.end_rules.Invoking.{Reply}
+use Rattle.end_model.specs.end_rules.Calling.{can_call}
+use Rattle.end_model.specs.end_rules.Requesting.{due_of}
+use Rattle.end_model.specs.end_rules.ByItself.{OwnAct, SendsNow, EncodesOn}
+use Rattle.end_model.specs.end_rules.History.{Step, called, sent, fed, took, answered, passed, aborted, feed_end, gave, broke, step_of, ByItself, rests, goes, call_steps}
+use Rattle.end_model.specs.end_rules.World.{World, Ends, base_at, body_at, is_side, other}
 use Rattle.run_laws.specs.Showing.{shown_at, behind_newest, showing_on, showings, shown_to, carries_to, EachCarryShows, indications_in, indications_at}
 use Rattle.run_laws.specs.Outcomes.{called_at, all_called}
 use Rattle.association_line.specs.Line.{End, after, after_all}

@@ -4,9 +4,9 @@ use Rattle.osi_base.specs.declared.layer_words.Side.TheVariants.{A, B}
 use Rattle.dialogue.specs.declared.event.Event.{Event}
 use Rattle.dialogue.specs.declared.event.Entry.{Entry}
 use Rattle.dialogue.specs.declared.event.Entry.TheVariants as entries
-use Rattle.end_rules.specs.Calling.{can_call}
-use Rattle.end_rules.specs.History.{Step, gave, broke}
-use Rattle.end_rules.specs.World.{World, Ends, base_at, other}
+use Rattle.end_model.specs.end_rules.Calling.{can_call}
+use Rattle.end_model.specs.end_rules.History.{Step, gave, broke}
+use Rattle.end_model.specs.end_rules.World.{World, Ends, base_at, other}
 use Rattle.association_line.specs.OneFeed.{OneFeed, OneCall}
 use Rattle.association_runs.specs.Worlds.{end_at, stepping, first_octets, Runs, rests, calls, carries, breaks}
 use Rattle.association_runs.specs.Laws.{OneRun}

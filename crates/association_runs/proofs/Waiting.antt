@@ -12,19 +12,19 @@ use Rattle.dialogue.specs.declared.config.Phase.TheVariants as phases
 use Rattle.dialogue.specs.declared.event.Event.{Event}
 use Rattle.dialogue.specs.declared.event.Entry.{Entry}
 use Rattle.dialogue.specs.declared.indication.Indication.{Indication}
-use Rattle.end_rules.specs.Base.{Base, Fault, is_reliable, is_bare}
-use Rattle.end_rules.specs.Messages.{Message}
-use Rattle.end_rules.specs.State.{Body, passes_over, is_up, is_free, is_empty}
-use Rattle.end_rules.specs.Invoking.{Reply}
-use Rattle.end_rules.specs.Calling.{can_call, can_by_rows, is_dead, is_initiators, is_phase_for, is_of_bare_mode}
-use Rattle.end_rules.specs.Requesting.{due_of, after_refused}
-use Rattle.end_rules.specs.ByItself.{OwnAct, SendsNow, EncodesOn, leads, next_in, next_own}
-use Rattle.end_rules.specs.History.{Step, called, sent, fed, passed, fault, aborted, feed_end, gave, broke, after_step, step_of, ByItself, rests, goes}
-use Rattle.end_rules.specs.World.{World, Ends, base_at, history_of}
+use Rattle.end_model.specs.end_rules.Base.{Base, Fault, is_reliable, is_bare}
+use Rattle.end_model.specs.end_rules.Messages.{Message}
+use Rattle.end_model.specs.end_rules.State.{Body, passes_over, is_up, is_free, is_empty}
+use Rattle.end_model.specs.end_rules.Invoking.{Reply}
+use Rattle.end_model.specs.end_rules.Calling.{can_call, can_by_rows, is_dead, is_initiators, is_phase_for, is_of_bare_mode}
+use Rattle.end_model.specs.end_rules.Requesting.{due_of, after_refused}
+use Rattle.end_model.specs.end_rules.ByItself.{OwnAct, SendsNow, EncodesOn, leads, next_in, next_own}
+use Rattle.end_model.specs.end_rules.History.{Step, called, sent, fed, passed, fault, aborted, feed_end, gave, broke, after_step, step_of, ByItself, rests, goes}
+use Rattle.end_model.specs.end_rules.World.{World, Ends, base_at, history_of}
 use Rattle.agreement.specs.Sets.{Role, other}
 use Rattle.agreement.specs.Sets.Role.{Initiator, Responder}
 use Rattle.end_model.specs.Sharing.{side_of}
-use Rattle.association_reading.specs.Front.{Intake, Short, first_in}
+use Rattle.association_line.specs.association_reading.Front.{Intake, Short, first_in}
 use Rattle.association_line.specs.Line.{End, after, after_all, end_of}
 use Rattle.association_line.specs.Feeding.{taking, failing, Reads, is_over, waits, passes, takes, fails, Feeds, OwnAfter, Makes}
 use Rattle.association_runs.specs.Worlds.{end_at, stepping, first_octets, Runs}

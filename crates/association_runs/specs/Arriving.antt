@@ -2,16 +2,16 @@
 -- number, as it was encoded last (X.228 7.3; the numbers are this project's own rule).
 use Rattle.std.specs.Prelude.{◌≡◌, [], ◌∷◌, Bool, true, false, Some, Ok}
 use Rattle.osi_base.specs.declared.layer_words.Side.{Side}
-use Rattle.end_rules.specs.Base.{Item, Whole}
-use Rattle.end_rules.specs.Messages.{Session, OfActivities, End}
-use Rattle.end_rules.specs.TakesActivities.{arrived_now}
-use Rattle.end_rules.specs.History.{Step, took}
-use Rattle.end_rules.specs.World.{World, Ends, base_at, body_at, other}
+use Rattle.end_model.specs.end_rules.Base.{Item, Whole}
+use Rattle.end_model.specs.end_rules.Messages.{Session, OfActivities, End}
+use Rattle.end_model.specs.end_rules.TakesActivities.{arrived_now}
+use Rattle.end_model.specs.end_rules.History.{Step, took}
+use Rattle.end_model.specs.end_rules.World.{World, Ends, base_at, body_at, other}
 use Rattle.agreement.specs.Sets.{Role}
 use Rattle.end_model.specs.Pairs.{Common, Two}
-use Rattle.reliable_model.specs.Goes.{Encoding, Ledger, Goes, deeds_of}
-use Rattle.reliable_model.specs.Transfers as transfers
-use Rattle.reliable_model.specs.Transfers.{ArrivesWhole, IsNewest, IsOf, item_of}
+use Rattle.outcome_laws.specs.reliable_model.Goes.{Encoding, Ledger, Goes, deeds_of}
+use Rattle.outcome_laws.specs.reliable_model.Transfers as transfers
+use Rattle.outcome_laws.specs.reliable_model.Transfers.{ArrivesWhole, IsNewest, IsOf, item_of}
 use Rattle.association_runs.specs.Deeds.{deeds_at}
 
 pub record IsWhole (ends : Ends) (side : Side) (w : World) : Type 0 where

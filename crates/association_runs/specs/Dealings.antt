@@ -5,12 +5,12 @@ use Rattle.osi_base.specs.declared.layer_words.Side.{Side}
 use Rattle.stub_tables.specs.declared.apdu.Apdu.{Apdu}
 use Rattle.dialogue.specs.declared.call.Call.{Call}
 use Rattle.dialogue.specs.declared.indication.Indication.{Indication}
-use Rattle.end_rules.specs.Base.{Base}
-use Rattle.end_rules.specs.Messages.{Message}
-use Rattle.end_rules.specs.State.{Body}
-use Rattle.end_rules.specs.Reacting.{react}
-use Rattle.end_rules.specs.History.{Step, called, took}
-use Rattle.end_rules.specs.World.{World, Ends, base_at, body_at, is_side}
+use Rattle.end_model.specs.end_rules.Base.{Base}
+use Rattle.end_model.specs.end_rules.Messages.{Message}
+use Rattle.end_model.specs.end_rules.State.{Body}
+use Rattle.end_model.specs.end_rules.Reacting.{react}
+use Rattle.end_model.specs.end_rules.History.{Step, called, took}
+use Rattle.end_model.specs.end_rules.World.{World, Ends, base_at, body_at, is_side}
 use Rattle.end_model.specs.Acting.{apdus_of}
 use Rattle.outcome_laws.specs.Deals.{Asked, asked_by, rejects_in, still_after}
 use Rattle.run_laws.specs.Showing.{shown_in}

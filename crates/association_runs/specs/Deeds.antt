@@ -2,12 +2,12 @@
 use Rattle.std.specs.Prelude.{List, [], ◌∷◌, if◌then◌else◌}
 use Rattle.osi_base.specs.declared.layer_words.Side.{Side}
 use Rattle.osi_base.specs.declared.layer_words.SetItem.{SetItem}
-use Rattle.end_rules.specs.Base.{Base}
-use Rattle.end_rules.specs.State.{Body}
-use Rattle.end_rules.specs.ByItself.{SendsNow, EncodesOn}
-use Rattle.end_rules.specs.History.{Step, sent, encoded, took}
-use Rattle.end_rules.specs.World.{World, Ends, base_at, body_at, is_side, shared_at}
-use Rattle.reliable_model.specs.Goes.{Deeds, no_deeds, more_deeds, started_by, encoded_by, deeds_taken}
+use Rattle.end_model.specs.end_rules.Base.{Base}
+use Rattle.end_model.specs.end_rules.State.{Body}
+use Rattle.end_model.specs.end_rules.ByItself.{SendsNow, EncodesOn}
+use Rattle.end_model.specs.end_rules.History.{Step, sent, encoded, took}
+use Rattle.end_model.specs.end_rules.World.{World, Ends, base_at, body_at, is_side, shared_at}
+use Rattle.outcome_laws.specs.reliable_model.Goes.{Deeds, no_deeds, more_deeds, started_by, encoded_by, deeds_taken}
 
 abbrev pub deeds_after : Base → Body → List SetItem → Step → Deeds → Deeds
 deeds_after base body set (sent message) deeds = more_deeds (started_by body (SendsNow message)) (encoded_by body set (SendsNow message)) deeds

@@ -1,19 +1,19 @@
 -- The laws of every run of two ends of direct or of reliable mode.
 use Rattle.std.specs.Prelude.{◌≡◌, List, [], ◌∷◌, true, false}
-use Rattle.end_rules.specs.State.{holds_turn}
+use Rattle.end_model.specs.end_rules.State.{holds_turn}
 use Rattle.stub_tables.specs.declared.tables.Tables.{Tables}
 use Rattle.dialogue.specs.declared.config.Config.{Config}
 use Rattle.dialogue.specs.declared.event.Event.{Event}
 use Rattle.dialogue.specs.declared.event.Event.TheVariants as events
 use Rattle.dialogue.specs.declared.event.Entry.{Entry}
-use Rattle.end_rules.specs.World.{World, Ends, body_at, shared_at}
+use Rattle.end_model.specs.end_rules.World.{World, Ends, body_at, shared_at}
 use Rattle.agreement.specs.Sets.{Role}
 use Rattle.agreement.specs.Sets as roles
-use Rattle.end_rules.specs.Base.{is_reliable}
+use Rattle.end_model.specs.end_rules.Base.{is_reliable}
 use Rattle.end_model.specs.Pairs as pairs
 use Rattle.end_model.specs.Pairs.{Common, Two}
 use Rattle.end_model.specs.Sharing.{side_of}
-use Rattle.reliable_model.specs.Goes.{Ledger, deeds_of, Goes}
+use Rattle.outcome_laws.specs.reliable_model.Goes.{Ledger, deeds_of, Goes}
 use Rattle.outcome_laws.specs.Deals.{Dealings, Dealt, dealt_of, Deals, outcomes_in, AreDistinct}
 use Rattle.outcome_laws.specs.Outcomes.{AreAllowed, AreAnswers}
 use Rattle.outcome_laws.specs.Links.{AllFit, links_in}
@@ -25,7 +25,7 @@ use Rattle.association_runs.specs.Sides.{ends_for}
 use Rattle.association_runs.specs.Dealings.{Own, own_at}
 use Rattle.association_runs.specs.Deeds.{deeds_at}
 use Rattle.association_runs.specs.Arriving.{EachArrivesWhole, TransfersAreWhole, ItemsAreKept}
-use Rattle.said_words.specs.Calls.{IsCall, Speaks}
+use Rattle.association_worlds.specs.said_words.Calls.{IsCall, Speaks}
 use Rattle.association_runs.specs.Worlds.{Runs}
 use Rattle.association_runs.specs.Octets.{TakenWhenWhole, NothingWholeWaits}
 

@@ -1,5 +1,5 @@
 -- Two ends with what they have in common, as their moments know them.
-use Rattle.end_rules.specs.World.{Ends}
+use Rattle.end_model.specs.end_rules.World.{Ends}
 use Rattle.agreement.specs.Sets.Role.{Initiator, Responder}
 use Rattle.end_model.specs.Pairs.{Common, base_at}
 

@@ -10,11 +10,11 @@ use Rattle.dialogue.specs.declared.event.Event.TheVariants as events
 use Rattle.dialogue.specs.declared.event.Entry.{Entry}
 use Rattle.dialogue.specs.declared.event.Entry.TheVariants as entries
 use Rattle.dialogue.specs.declared.indication.Indication.{Indication}
-use Rattle.end_rules.specs.Base.{base_of}
-use Rattle.end_rules.specs.Calling.{can_call}
-use Rattle.end_rules.specs.History.{Step, gave, broke}
-use Rattle.end_rules.specs.World.{World, Ends, base_at, other, history_of}
-use Rattle.association_reading.specs.Transfers.{association_spellings}
+use Rattle.end_model.specs.end_rules.Base.{base_of}
+use Rattle.end_model.specs.end_rules.Calling.{can_call}
+use Rattle.end_model.specs.end_rules.History.{Step, gave, broke}
+use Rattle.end_model.specs.end_rules.World.{World, Ends, base_at, other, history_of}
+use Rattle.association_line.specs.association_reading.Transfers.{association_spellings}
 use Rattle.association_line.specs.Line.{End, end_of}
 use Rattle.association_line.specs.Feeding.{Feeds, Makes}
 

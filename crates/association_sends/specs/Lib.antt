@@ -1,1 +1,2 @@
 pub mod Due
+pub use Rattle.association_words.specs as association_words

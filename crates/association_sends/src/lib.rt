@@ -11,6 +11,8 @@ pub use aborts::{abort_of, provider_abort, session_abort, user_abort};
 pub use answers::{
     Response, accept_message, disconnect_message, finish_message, provider_refusal, refuse_message,
 };
+pub use association_words as association_words_layer;
 pub use opening::{connect_message, connection_data, connection_request};
+pub use set_rules as set_rules_layer;
 pub use tokens::{give_message, pair_copied, part_message, please_message};
 pub use values::{acse_context, acse_value, rtse_context, rtse_information};

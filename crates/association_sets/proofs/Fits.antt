@@ -5,7 +5,7 @@ use Rattle.osi_base.specs.declared.layer_words.AddAnswer.{AddAnswer}
 use Rattle.osi_base.specs.declared.layer_words.Proposal.{Proposal}
 use Rattle.osi_base.specs.declared.layer_words.SetItem.{SetItem}
 use Rattle.osi_base.specs.declared.layer_words.RestoredItem.{RestoredItem}
-use Rattle.end_rules.specs.Sets.{fit_proposals, same_lists, with_added, with_deleted}
+use Rattle.association_ground.specs.end_rules.Sets.{fit_proposals, same_lists, with_added, with_deleted}
 
 none_within : (n : ℕ) → false ≡ nat_le (suc n) 0
 none_within n = grind (arith, nat_tests)

@@ -1,7 +1,7 @@
 -- A context is put at its place.
 use Rattle.std.proofs.Common.{◌≡◌, ℕ, Bool, true, false, nat_eq, nat_lt, List, [], ◌∷◌, Result, Ok, Err, refl, ap, ◌∙◌, sym, add-one}
 use Rattle.osi_base.specs.declared.layer_words.SetItem.{SetItem}
-use Rattle.end_rules.specs.Sets.{put}
+use Rattle.association_ground.specs.end_rules.Sets.{put}
 use Rattle.osi_base.specs.SetPlaces.{place_of, moved_by, put_at}
 
 at_next : (new item : SetItem) (items : List SetItem) (r : Result ℕ ℕ) → put_at new (moved_by 1 r) (item ∷ items) ≡ item ∷ put_at new r items

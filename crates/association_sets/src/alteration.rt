@@ -13,7 +13,7 @@ pub struct Alteration {
 }
 
 impl Model for Alteration {
-    ghost use Rattle.end_rules.specs.Sets.{Alteration as seen_alteration};
+    ghost use Rattle.association_ground.specs.end_rules.Sets.{Alteration as seen_alteration};
 
     ghost Value = { seen_alteration };
 

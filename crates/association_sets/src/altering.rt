@@ -1,7 +1,7 @@
 //! Sets after alterations that were answered.
 
 ghost use Rattle.std.specs.Prelude.{◌≡◌, ◌++◌, IfOk, OnOk, [], ◌∷◌};
-ghost use Rattle.end_rules.specs.Sets.{proposed_ids, named_ids, accepted_pair, named_syntax, pair_accepted, put_accepted, with_added, with_deleted, altered, accepted_set};
+ghost use Rattle.association_ground.specs.end_rules.Sets.{proposed_ids, named_ids, accepted_pair, named_syntax, pair_accepted, put_accepted, with_added, with_deleted, altered, accepted_set};
 
 use crate::alteration::Alteration;
 use crate::sets::put_context;

@@ -3,8 +3,8 @@
 ghost use Rattle.std.specs.Prelude.{◌≡◌, IfOk, min, ◌||◌, length, nat_eq, ◌+◌};
 ghost use Rattle.std.specs.List.{list_any};
 ghost use Rattle.osi_base.specs.Limits.{most_contexts};
-ghost use Rattle.end_rules.specs.Sets.{is_named_in, is_deleted_in, is_among, named_ids, proposed_ids, count_added, has_parity};
-ghost use Rattle.end_rules.specs.Altering.{has_double, is_no_context, has_bad_transfers, is_bad};
+ghost use Rattle.association_ground.specs.end_rules.Sets.{is_named_in, is_deleted_in, is_among, named_ids, proposed_ids, count_added, has_parity};
+ghost use Rattle.association_ground.specs.end_rules.Altering.{has_double, is_no_context, has_bad_transfers, is_bad};
 
 use crate::alteration::Alteration;
 use crate::altering::named_ids;

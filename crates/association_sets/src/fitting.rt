@@ -2,7 +2,7 @@
 
 ghost use Rattle.std.specs.Prelude.{◌≡◌, is_some};
 ghost use Rattle.std.specs.List.{list_any};
-ghost use Rattle.end_rules.specs.Sets.{same_name, is_offered, fits_proposal, fit_proposals, fit_alteration};
+ghost use Rattle.association_ground.specs.end_rules.Sets.{same_name, is_offered, fits_proposal, fit_proposals, fit_alteration};
 
 use crate::alteration::Alteration;
 use association_ground::{same_name, syntax_named};

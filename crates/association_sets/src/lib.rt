@@ -13,6 +13,7 @@ pub use altering::{accepted_set, alter_set, named_ids, proposed_ids};
 pub use asking::{
     count_added, has_double, has_parity, is_bad_alteration, is_deleted_in, is_named_in, is_proposed,
 };
+pub use association_ground as association_ground_layer;
 pub use fitting::{fit_alteration, fit_proposals, is_listed};
 pub use restored::{restored_list, same_lists};
 pub use sets::{

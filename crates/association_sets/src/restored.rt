@@ -1,7 +1,7 @@
 //! Sets as restarts carry them (this project's own rule).
 
 ghost use Rattle.std.specs.Prelude.{◌≡◌, ◌&&◌, nat_eq, IfOk, [], ◌∷◌};
-ghost use Rattle.end_rules.specs.Sets.{listed, same_lists, same_name};
+ghost use Rattle.association_ground.specs.end_rules.Sets.{listed, same_lists, same_name};
 
 use association_ground::same_name;
 use osi_base::{ListOf, NoMemory, RestoredItem, RestoredList, SetItem};

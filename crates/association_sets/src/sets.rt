@@ -2,7 +2,7 @@
 
 ghost use Rattle.std.specs.Prelude.{◌≡◌, IfOk, OnOk, is_some};
 ghost use Rattle.std.specs.Option.{option_copied};
-ghost use Rattle.end_rules.specs.Sets.{put, may_send, has_abstract, lowest_with, carrier, same_name, is_fixed};
+ghost use Rattle.association_ground.specs.end_rules.Sets.{put, may_send, has_abstract, lowest_with, carrier, same_name, is_fixed};
 
 use crate::alteration::Alteration;
 use crate::asking::is_deleted_in;

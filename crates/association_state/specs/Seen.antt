@@ -1,6 +1,6 @@
 -- All that one end holds, as the rules of one end see it; and what these rules stand on.
-use Rattle.end_rules.specs.Base.{Base, base_of}
-use Rattle.end_rules.specs.State as rules
+use Rattle.association_reading.specs.end_rules.Base.{Base, base_of}
+use Rattle.association_reading.specs.end_rules.State as rules
 use Rattle.association_reading.specs.Transfers.{association_spellings}
 use Rattle.association_pieces.specs.Link.{seen_link}
 use Rattle.association_pieces.specs.Sending.{seen_sending}

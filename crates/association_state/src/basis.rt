@@ -1,6 +1,6 @@
 //! The module and the configuration of an end.
 
-use apdu_codec::Heads;
+use association_reading::apdu_codec_layer::Heads;
 use dialogue::Config;
 use std::alloc::Global;
 use stub_tables::Tables;

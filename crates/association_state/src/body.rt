@@ -2,7 +2,7 @@
 
 ghost use Rattle.std.specs.Prelude.{◌≡◌, IfOk};
 ghost use Rattle.dialogue.specs.declared.config.Mode.TheVariants.{Bare};
-ghost use Rattle.end_rules.specs.State.{new_body, new_link, first_phase, first_set};
+ghost use Rattle.association_reading.specs.end_rules.State.{new_body, new_link, first_phase, first_set};
 ghost use Rattle.association_pieces.specs.Link.{seen_link};
 ghost use Rattle.association_state.specs.Seen.{seen, base_in};
 

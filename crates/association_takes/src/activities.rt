@@ -11,14 +11,16 @@ ghost use Rattle.association_hearing.specs.ValuesTaken.{TookAs};
 ghost use Rattle.association_takes.specs.Acts.{is_end, invocation_of};
 ghost use Rattle.association_words.specs.Seen.{seen_message, seen_activities, seen_value};
 ghost use Rattle.association_pieces.specs.Seen.{seen_receiving};
-ghost use Rattle.association_state.specs.Seen.{base_in, seen};
-ghost use Rattle.association_answers.specs.Reacted.{TakenAs};
-ghost use Rattle.association_sends.specs.Due.{listed};
+ghost use Rattle.association_hearing.specs.association_state.Seen.{base_in, seen};
+ghost use Rattle.association_hearing.specs.association_answers.Reacted.{TakenAs};
+ghost use Rattle.association_hearing.specs.association_sends.Due.{listed};
 
-use association_answers::{Brought, one_message, push_losses, with_indication, with_nothing};
+use association_hearing::association_answers_layer::{
+    Brought, one_message, push_losses, with_indication, with_nothing,
+};
+use association_hearing::association_state_layer::{Awaited, Body, Ground, Receiving};
 use association_hearing::{set_resumed, suspend, take_value};
 use association_sets::copy_set;
-use association_state::{Awaited, Body, Ground, Receiving};
 use association_words::{ActivityWord, Message, Value, Word};
 use dialogue::{Indication, Indications};
 use osi_base::{ListOf, NoMemory};

@@ -7,13 +7,15 @@ ghost use Rattle.end_rules.specs.Messages.{AlterContext, AlterContextAck, OfData
 ghost use Rattle.end_rules.specs.Faults.{unexpected_ppdu, invalid_ppdu};
 ghost use Rattle.end_rules.specs.TakesData.{alter_fault, answered_fault, after_data, answers_to_data, shown_of_data};
 ghost use Rattle.association_words.specs.Seen.{seen_fault};
-ghost use Rattle.association_state.specs.Seen.{base_in, seen};
-ghost use Rattle.association_answers.specs.Reacted.{TakenAs};
+ghost use Rattle.association_hearing.specs.association_state.Seen.{base_in, seen};
+ghost use Rattle.association_hearing.specs.association_answers.Reacted.{TakenAs};
 
-use association_answers::{Brought, alteration_answers, with_indication, with_nothing};
 use association_ground::is_reliable;
+use association_hearing::association_answers_layer::{
+    Brought, alteration_answers, with_indication, with_nothing,
+};
+use association_hearing::association_state_layer::{Body, Ground, take_oldest};
 use association_sets::{Alteration, alter_set, fit_alteration, proposed_ids};
-use association_state::{Body, Ground, take_oldest};
 use association_words::{DataWord, Fault, Message, Word};
 use dialogue::Indication;
 use osi_base::{Answers, Copied, Ids, Layer, NoMemory, Proposal, Proposals, SetList};

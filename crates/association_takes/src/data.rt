@@ -4,15 +4,15 @@ ghost use Rattle.std.specs.Prelude.{◌≡◌, IfOk, OnOk, option_map};
 ghost use Rattle.end_rules.specs.Messages.{Values as values_word};
 ghost use Rattle.end_rules.specs.TakesData.{data_fault, after_data, answers_to_data, shown_of_data};
 ghost use Rattle.association_words.specs.Seen.{seen_fault, seen_data, seen_values};
-ghost use Rattle.association_state.specs.Seen.{base_in, seen};
-ghost use Rattle.association_answers.specs.Reacted.{TakenAs};
+ghost use Rattle.association_hearing.specs.association_state.Seen.{base_in, seen};
+ghost use Rattle.association_hearing.specs.association_answers.Reacted.{TakenAs};
 
 use crate::alterations::{alter_fault, answered_fault, take_alter, take_answers};
 use crate::parts::{take_parts, values_fault};
-use association_answers::{Brought, with_nothing};
 use association_ground::is_reliable;
+use association_hearing::association_answers_layer::{Brought, with_nothing};
+use association_hearing::association_state_layer::{Body, Ground};
 use association_hearing::take_values;
-use association_state::{Body, Ground};
 use association_words::{DataWord, Fault, Values};
 use osi_base::NoMemory;
 

@@ -8,15 +8,15 @@ ghost use Rattle.end_rules.specs.TakesMarks.{marked_in, mark_answer, mark_shown,
 ghost use Rattle.end_rules.specs.State.{Transfer as rule_transfer, on_transfer};
 ghost use Rattle.association_words.specs.Seen.{seen_fault, seen_message, seen_content, seen_values, seen_marks};
 ghost use Rattle.association_takes.specs.Pleas.{plea_of};
-ghost use Rattle.association_state.specs.Seen.{base_in, seen};
-ghost use Rattle.association_answers.specs.Reacted.{TakenAs};
+ghost use Rattle.association_hearing.specs.association_state.Seen.{base_in, seen};
+ghost use Rattle.association_hearing.specs.association_answers.Reacted.{TakenAs};
 
 use crate::parts::has_associated;
-use association_answers::{
+use association_hearing::association_answers_layer::{
     Brought, one_message, push_cuts, push_losses, with_answer, with_indication, with_nothing,
 };
+use association_hearing::association_state_layer::{Awaited, Body, Ground};
 use association_sets::{copy_set, restored_list, same_lists};
-use association_state::{Awaited, Body, Ground};
 use association_words::{Fault, MarkWord, Message, Value, ValueContent, Word};
 use dialogue::{Indication, Indications, Mode};
 use osi_base::{Copied, Layer, ListOf, NoMemory, RestoredList, SetItem, SetList};

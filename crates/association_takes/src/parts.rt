@@ -8,11 +8,11 @@ ghost use Rattle.end_rules.specs.State.{joined, Octets as octets_piece};
 ghost use Rattle.end_rules.specs.Faults.{rtse_fault, fault_if, or_fault};
 ghost use Rattle.end_rules.specs.TakesData.{part_in, parts_in, is_part, is_associated, is_remote, values_fault, with_parts};
 ghost use Rattle.association_words.specs.Seen.{seen_fault, seen_content, seen_values};
-ghost use Rattle.association_state.specs.Seen.{base_in, seen};
+ghost use Rattle.association_hearing.specs.association_state.Seen.{base_in, seen};
 
 use association_ground::is_reliable;
+use association_hearing::association_state_layer::{Body, Ground};
 use association_hearing::part_in;
-use association_state::{Body, Ground};
 use association_words::{Fault, Value, ValueContent};
 use osi_base::{Layer, NoMemory, Octets};
 use std::alloc::Global;

@@ -7,13 +7,15 @@ ghost use Rattle.end_rules.specs.Faults.{transport_fault, fault_if};
 ghost use Rattle.end_rules.specs.TakesTransport.{is_size, may_request, may_respond, transport_unit_fault, phase_asked, stage_asked, at_stage, after_transport, answer_to_request, answers_to_transport, shown_of_transport};
 ghost use Rattle.association_words.specs.Seen.{seen_fault, seen_message, seen_transport};
 ghost use Rattle.association_pieces.specs.Link.{seen_stage};
-ghost use Rattle.association_state.specs.Seen.{base_in, seen};
-ghost use Rattle.association_answers.specs.Reacted.{TakenAs};
+ghost use Rattle.association_hearing.specs.association_state.Seen.{base_in, seen};
+ghost use Rattle.association_hearing.specs.association_answers.Reacted.{TakenAs};
 
-use association_answers::{Brought, with_answer, with_indication, with_nothing};
 use association_ground::{is_recovering, is_waiting};
-use association_sends::connect_message;
-use association_state::{Body, Ground, Stage};
+use association_hearing::association_answers_layer::{
+    Brought, with_answer, with_indication, with_nothing,
+};
+use association_hearing::association_sends_layer::connect_message;
+use association_hearing::association_state_layer::{Body, Ground, Stage};
 use association_words::{Fault, Message, TransportUnit};
 use dialogue::{Indication, Phase};
 use osi_base::{Layer, NoMemory};

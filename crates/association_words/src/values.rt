@@ -34,7 +34,10 @@ pub enum ValueContent {
     /// An APDU of remote operations, and the place in the module's tables where the operation or
     /// the error with its code was found as it was read, if it was. What hears it compares the
     /// codes before it takes that place.
-    Remote { apdu: Apdu, place: Option<u32> },
+    Remote {
+        apdu: Apdu,
+        place: Option<u32>,
+    },
     /// Octets of the module's abstract syntax that spell no APDU.
     Unread(Octets),
     /// An APDU of association control, whose own user information is left empty, and its user

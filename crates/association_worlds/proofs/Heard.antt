@@ -4,22 +4,22 @@ use Rattle.std.proofs.Common.{◌≡◌, refl, sym, ap, subst, ◌∙◌, ℕ, L
 use Rattle.std.specs.Prelude.{Bool, not, ◌||◌, Option, Some, Result, if◌then◌else◌}
 use Rattle.osi_base.specs.declared.session_word.SessionWord.{SessionWord}
 use Rattle.osi_base.specs.declared.session_word.SessionWord.TheVariants as units
-use Rattle.end_rules.specs.Base.{Base, Fault, is_bare}
-use Rattle.end_rules.specs.Messages.{Message, Word, Session, Transport, unit_of}
-use Rattle.end_rules.specs.State.{Body, Awaited, NoAnswer, RestartOf, InterruptOf, DiscardOf, ReleaseOf, passes_over, is_joined, is_carrying}
-use Rattle.end_rules.specs.Faults.{fault_if, or_fault, session_fault, transport_fault}
-use Rattle.end_rules.specs.Purging.{is_purged}
-use Rattle.end_rules.specs.InPlace.{is_in_place}
-use Rattle.end_rules.specs.Reacting.{Reaction, Passes, Takes, Fails, fails, fault_above, word_fault, on_word, react_to_word, react_to_session, react}
-use Rattle.association_wire.specs.Units.{user_octets}
+use Rattle.association_reading.specs.end_rules.Base.{Base, Fault, is_bare}
+use Rattle.association_reading.specs.end_rules.Messages.{Message, Word, Session, Transport, unit_of}
+use Rattle.association_reading.specs.end_rules.State.{Body, Awaited, NoAnswer, RestartOf, InterruptOf, DiscardOf, ReleaseOf, passes_over, is_joined, is_carrying}
+use Rattle.association_reading.specs.end_rules.Faults.{fault_if, or_fault, session_fault, transport_fault}
+use Rattle.association_reading.specs.end_rules.Purging.{is_purged}
+use Rattle.association_reading.specs.end_rules.InPlace.{is_in_place}
+use Rattle.association_reading.specs.end_rules.Reacting.{Reaction, Passes, Takes, Fails, fails, fault_above, word_fault, on_word, react_to_word, react_to_session, react}
+use Rattle.association_reading.specs.association_wire.Units.{user_octets}
 use Rattle.stub_tables.specs.declared.tables.Tables.{Tables}
 use Rattle.spdu_codec.specs.Places.{user_places}
 use Rattle.spdu_codec.specs.Written.{stands_alone}
 use Rattle.agreement.specs.Sets.{Role}
 use Rattle.agreement.specs.Sets.Role.{Initiator, Responder}
-use Rattle.end_model.specs.Pairs.{base_at, Two, body_at, coming_to}
-use Rattle.reliable_model.specs.Goes.{Ledger}
-use Rattle.association_wire.specs.Written.{with_user, tsdu_of}
+use Rattle.said_words.specs.end_model.Pairs.{base_at, Two, body_at, coming_to}
+use Rattle.said_words.specs.reliable_model.Goes.{Ledger}
+use Rattle.association_reading.specs.association_wire.Written.{with_user, tsdu_of}
 use Rattle.association_reading.specs.Front.{OfSession}
 use Rattle.association_reading.specs.Meaning.{meaning}
 use Rattle.association_reading.specs.Reacting.{on_meaning, react_to_unit, react_to}

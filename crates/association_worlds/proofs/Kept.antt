@@ -11,20 +11,20 @@ use Rattle.tpkt.specs.declared.reader_state.Held.{Held}
 use Rattle.tpkt.specs.Reader.{ReaderProgress, reading, nothing}
 use Rattle.tpkt.proofs.ReaderLaws.{after_fault}
 use Rattle.tpkt.proofs.StreamLaws.{fed, any_cut, nothing_read}
-use Rattle.end_rules.specs.Base.{Base}
-use Rattle.end_rules.specs.Messages.{Message, Transport, Session}
-use Rattle.end_rules.specs.State.{Body}
-use Rattle.end_rules.specs.Calling.{can_call}
-use Rattle.end_rules.specs.Requesting.{due_of}
-use Rattle.end_rules.specs.ByItself.{OwnAct, next_own}
-use Rattle.end_rules.specs.Reacting.{Reaction, react}
-use Rattle.end_rules.specs.History.{after_step, step_of, after_broke}
+use Rattle.association_reading.specs.end_rules.Base.{Base}
+use Rattle.association_reading.specs.end_rules.Messages.{Message, Transport, Session}
+use Rattle.association_reading.specs.end_rules.State.{Body}
+use Rattle.association_reading.specs.end_rules.Calling.{can_call}
+use Rattle.association_reading.specs.end_rules.Requesting.{due_of}
+use Rattle.association_reading.specs.end_rules.ByItself.{OwnAct, next_own}
+use Rattle.association_reading.specs.end_rules.Reacting.{Reaction, react}
+use Rattle.association_reading.specs.end_rules.History.{after_step, step_of, after_broke}
 use Rattle.agreement.specs.Sets.{Role, other}
 use Rattle.agreement.specs.Sets.Role.{Initiator, Responder}
-use Rattle.end_model.specs.Requests.{after_called}
-use Rattle.end_model.specs.Pairs.{Common, base_at, Two, two_new, body_at, coming_to, stepped, both_broke}
-use Rattle.reliable_model.specs.Goes.{Ledger, first_ledger, own_messages}
-use Rattle.reliable_model.specs.Goes as goes
+use Rattle.said_words.specs.end_model.Requests.{after_called}
+use Rattle.said_words.specs.end_model.Pairs.{Common, base_at, Two, two_new, body_at, coming_to, stepped, both_broke}
+use Rattle.said_words.specs.reliable_model.Goes.{Ledger, first_ledger, own_messages}
+use Rattle.said_words.specs.reliable_model.Goes as goes
 use Rattle.association_reading.specs.Front.{Front, Short, Intake, front_held, first_front, first_in, behind_first, without_first, all_fronts, fronts_of}
 use Rattle.association_reading.specs.Reacting.{react_to}
 use Rattle.said_words.specs.Calls.{IsCall, Speaks}

@@ -1,8 +1,8 @@
 -- A word of the session alone means itself.
 use Rattle.std.proofs.Common.{[], ◌∷◌, inl, inr, None}
 use Rattle.std.specs.Prelude.{◌⊎◌, Some}
-use Rattle.end_rules.specs.Messages.{Word, OfAssociation, OfData, OfMarks, OfActivities, Connect, Accept, Refuse, Finish, Disconnect, Abort, AbortAccept, NoData, ProviderReason, UserValues, Mark, MarkAck, Restart, RestartAck, Give, Please, GiveConfirm, GiveAck}
-use Rattle.end_model.specs.Pairs.{base_at, body_at}
+use Rattle.association_reading.specs.end_rules.Messages.{Word, OfAssociation, OfData, OfMarks, OfActivities, Connect, Accept, Refuse, Finish, Disconnect, Abort, AbortAccept, NoData, ProviderReason, UserValues, Mark, MarkAck, Restart, RestartAck, Give, Please, GiveConfirm, GiveAck}
+use Rattle.said_words.specs.end_model.Pairs.{base_at, body_at}
 use Rattle.association_reading.specs.Laws.{IsOfSession, SessionWordsAreReadBack}
 use Rattle.association_worlds.specs.Laws.{SaidIsMeant}
 

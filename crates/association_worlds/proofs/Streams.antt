@@ -18,9 +18,9 @@ use Rattle.tpkt.proofs.UnitLaws.{short_yet}
 use Rattle.tpkt.proofs.ReaderLaws.{short_empty}
 use Rattle.tpkt.proofs.StreamLaws.{split_read, octets_join}
 use Rattle.tpkt.proofs.WrittenLaws.{connect_is, confirm_is, disconnect_is, tsdu_split, written_octets}
-use Rattle.end_rules.specs.Messages.{TransportUnit, ConnectionRequest, ConnectionConfirm, DisconnectRequest, TransportError, Word, unit_of, Message, Transport, Session}
-use Rattle.association_wire.specs.Units.{user_octets}
-use Rattle.association_wire.specs.Written.{with_user, in_its_place, session_units, tsdu_of, request_ends, confirm_ends, written_unit, written}
+use Rattle.association_reading.specs.end_rules.Messages.{TransportUnit, ConnectionRequest, ConnectionConfirm, DisconnectRequest, TransportError, Word, unit_of, Message, Transport, Session}
+use Rattle.association_reading.specs.association_wire.Units.{user_octets}
+use Rattle.association_reading.specs.association_wire.Written.{with_user, in_its_place, session_units, tsdu_of, request_ends, confirm_ends, written_unit, written}
 use Rattle.association_reading.specs.Front.{Front, OfSession, OfTransport, fronts_of, fronts_of_units, all_fronts}
 use Rattle.association_reading.specs.Laws.{IsSendable}
 use Rattle.osi_base.specs.Limits.{IsUnitSize}

@@ -1,17 +1,17 @@
 -- The laws of two ends whose lines are octets, of what is asked of the messages that they send.
 use Rattle.std.specs.Prelude.{◌≡◌, ℕ, ◌<◌, List, ◌∷◌, length, Some, false, Ok}
 use Rattle.dialogue.specs.declared.indication.Indication.{Indication}
-use Rattle.end_rules.specs.Base.{Fault, is_bare}
-use Rattle.end_rules.specs.Messages.{Message, Word, Session, unit_of}
-use Rattle.end_rules.specs.State.{Body}
-use Rattle.end_rules.specs.Reacting.{Takes, Fails, react}
-use Rattle.association_wire.specs.Units.{user_octets}
-use Rattle.association_wire.specs.Written.{with_user}
+use Rattle.association_reading.specs.end_rules.Base.{Fault, is_bare}
+use Rattle.association_reading.specs.end_rules.Messages.{Message, Word, Session, unit_of}
+use Rattle.association_reading.specs.end_rules.State.{Body}
+use Rattle.association_reading.specs.end_rules.Reacting.{Takes, Fails, react}
+use Rattle.association_reading.specs.association_wire.Units.{user_octets}
+use Rattle.association_reading.specs.association_wire.Written.{with_user}
 use Rattle.association_reading.specs.Laws.{IsOfSession}
 use Rattle.association_reading.specs.Meaning.{meaning}
 use Rattle.agreement.specs.Sets.{Role, other}
-use Rattle.end_model.specs.Pairs.{Common, base_at, Two, body_at, coming_to}
-use Rattle.reliable_model.specs.Goes.{Ledger, Goes}
+use Rattle.said_words.specs.end_model.Pairs.{Common, base_at, Two, body_at, coming_to}
+use Rattle.said_words.specs.reliable_model.Goes.{Ledger, Goes}
 use Rattle.association_reading.specs.Front.{Intake, Short, first_in}
 use Rattle.association_reading.specs.Reacting.{react_to}
 use Rattle.said_words.specs.Calls.{Speaks}

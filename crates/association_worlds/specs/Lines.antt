@@ -1,10 +1,10 @@
 -- An end of an association with its line: the octets that wait to be given out, and what came and isn't reacted to yet.
 use Rattle.std.specs.Prelude.{ℕ, List, [], ◌∷◌, ◌++◌, Option, Some, None}
 use Rattle.stub_tables.specs.declared.tables.Tables.{Tables}
-use Rattle.end_rules.specs.Base.{Base}
-use Rattle.end_rules.specs.Messages.{Message}
-use Rattle.end_rules.specs.State.{Body, new_body}
-use Rattle.association_wire.specs.Written.{written}
+use Rattle.association_reading.specs.end_rules.Base.{Base}
+use Rattle.association_reading.specs.end_rules.Messages.{Message}
+use Rattle.association_reading.specs.end_rules.State.{Body, new_body}
+use Rattle.association_reading.specs.association_wire.Written.{written}
 use Rattle.association_reading.specs.Front.{Intake, nothing_came, with_octets}
 
 -- None: it takes nothing any more, as one that is over

@@ -9,9 +9,9 @@ use Rattle.tpkt.specs.Reader.{reading, nothing}
 use Rattle.tpkt.specs.Stream.{IsOctets}
 use Rattle.tpkt.specs.Wire.{IsTwo}
 use Rattle.tpkt.specs.Written.{HasRoom}
-use Rattle.end_rules.specs.Messages.{TransportUnit, ConnectionRequest, ConnectionConfirm, DisconnectRequest, TransportError, unit_of, Message, Transport, Session}
-use Rattle.association_wire.specs.Units.{user_octets}
-use Rattle.association_wire.specs.Written.{with_user, tsdu_of, request_ends, confirm_ends, written_unit, written}
+use Rattle.association_reading.specs.end_rules.Messages.{TransportUnit, ConnectionRequest, ConnectionConfirm, DisconnectRequest, TransportError, unit_of, Message, Transport, Session}
+use Rattle.association_reading.specs.association_wire.Units.{user_octets}
+use Rattle.association_reading.specs.association_wire.Written.{with_user, tsdu_of, request_ends, confirm_ends, written_unit, written}
 use Rattle.association_reading.specs.Front.{Front, OfTransport, OfSession, Intake, start_of, all_fronts}
 use Rattle.association_reading.specs.Laws.{IsSendable}
 use Rattle.osi_base.specs.Limits.{IsUnitSize}

@@ -4,19 +4,19 @@ use Rattle.std.specs.Prelude.{◌≡◌, ℕ, ℤ, List, [], ◌++◌, take, dro
 use Rattle.stub_tables.specs.declared.tables.Tables.{Tables}
 use Rattle.dialogue.specs.declared.call.Call.{Call}
 use Rattle.dialogue.specs.declared.indication.Indication.{Indication}
-use Rattle.end_rules.specs.Base.{Fault}
-use Rattle.end_rules.specs.Messages.{Message}
-use Rattle.end_rules.specs.State.{Body, passes_over}
-use Rattle.end_rules.specs.Calling.{can_call}
-use Rattle.end_rules.specs.Requesting.{due_of}
-use Rattle.end_rules.specs.ByItself.{OwnAct, next_own}
-use Rattle.end_rules.specs.Reacting.{Passes, Takes, Fails}
-use Rattle.end_rules.specs.History.{after_step, step_of, after_broke}
+use Rattle.association_reading.specs.end_rules.Base.{Fault}
+use Rattle.association_reading.specs.end_rules.Messages.{Message}
+use Rattle.association_reading.specs.end_rules.State.{Body, passes_over}
+use Rattle.association_reading.specs.end_rules.Calling.{can_call}
+use Rattle.association_reading.specs.end_rules.Requesting.{due_of}
+use Rattle.association_reading.specs.end_rules.ByItself.{OwnAct, next_own}
+use Rattle.association_reading.specs.end_rules.Reacting.{Passes, Takes, Fails}
+use Rattle.association_reading.specs.end_rules.History.{after_step, step_of, after_broke}
 use Rattle.agreement.specs.Sets.{Role}
 use Rattle.agreement.specs.Sets.Role.{Initiator, Responder}
-use Rattle.end_model.specs.Requests.{after_called}
-use Rattle.end_model.specs.Pairs.{Common, base_at}
-use Rattle.reliable_model.specs.Goes.{own_messages}
+use Rattle.said_words.specs.end_model.Requests.{after_called}
+use Rattle.said_words.specs.end_model.Pairs.{Common, base_at}
+use Rattle.said_words.specs.reliable_model.Goes.{own_messages}
 use Rattle.association_reading.specs.Front.{Intake, first_in, behind_first}
 use Rattle.association_reading.specs.Reacting.{react_to}
 use Rattle.said_words.specs.Calls.{IsCall}

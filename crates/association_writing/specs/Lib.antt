@@ -1,1 +1,2 @@
 pub mod Room
+pub use Rattle.association_wire.specs as association_wire

@@ -22,10 +22,10 @@ use Rattle.end_rules.specs.Calling.{can_call}
 use Rattle.end_rules.specs.Requesting.{due_of}
 use Rattle.end_rules.specs.History.{Step, called, fed, gave, broke, call_steps}
 use Rattle.end_rules.specs.World.{World, Ends}
-use Rattle.end_wire.specs.Bare.{Short, first_at}
-use Rattle.end_wire.specs.Line.{End, after}
-use Rattle.end_wire.specs.Feeding.{Reads}
-use Rattle.end_wire.specs.Laws.{WrittenIsFirst, OneContent}
+use Rattle.bare_end.specs.end_wire.Bare.{Short, first_at}
+use Rattle.bare_end.specs.end_wire.Line.{End, after}
+use Rattle.bare_end.specs.end_wire.Feeding.{Reads}
+use Rattle.bare_end.specs.end_wire.Laws.{WrittenIsFirst, OneContent}
 use Rattle.agreement.specs.Sets.{Role}
 use Rattle.agreement.specs.Sets.Role.{Initiator, Responder}
 use Rattle.end_model.specs.Seen.{Free}

@@ -18,10 +18,10 @@ use Rattle.end_rules.specs.State.{passes_over}
 use Rattle.end_rules.specs.Calling.{can_call}
 use Rattle.end_rules.specs.History.{Step, fed, gave, call_steps}
 use Rattle.end_rules.specs.World.{World, Ends, other}
-use Rattle.end_wire.specs.Bare.{Short, first_at}
-use Rattle.end_wire.specs.Line.{End, after}
-use Rattle.end_wire.specs.Feeding.{Reads, passes, waits, takes, fails}
-use Rattle.end_wire.specs.Laws.{WrittenIsFirst, OneContent}
+use Rattle.bare_end.specs.end_wire.Bare.{Short, first_at}
+use Rattle.bare_end.specs.end_wire.Line.{End, after}
+use Rattle.bare_end.specs.end_wire.Feeding.{Reads, passes, waits, takes, fails}
+use Rattle.bare_end.specs.end_wire.Laws.{WrittenIsFirst, OneContent}
 use Rattle.agreement.specs.Sets.Role.{Initiator, Responder}
 use Rattle.end_model.specs.Seen.{Free}
 use Rattle.end_model.specs.Acting.{ReadsBack}

@@ -5,8 +5,8 @@ use Rattle.std.proofs.lemmas.Bool.{ltb-true, ltb-false, lt-leb, le-leb}
 use Rattle.stub_tables.specs.declared.tables.Tables.{Tables}
 use Rattle.stub_tables.specs.Readable.{IsReadable}
 use Rattle.end_rules.specs.Messages.{Message}
-use Rattle.end_wire.specs.Bare.{Short, Whole, first_at, written}
-use Rattle.end_wire.specs.Laws.{WrittenIsFirst}
+use Rattle.bare_end.specs.end_wire.Bare.{Short, Whole, first_at, written}
+use Rattle.bare_end.specs.end_wire.Laws.{WrittenIsFirst}
 use Rattle.bare_duo.specs.Carrying.{whole_within}
 use Rattle.bare_duo.proofs.Fronts.{nothing_first}
 use Rattle.bare_duo.proofs.Flights.{IsSent, AllSent, written_all, written-append, cut}

@@ -23,11 +23,11 @@ use Rattle.end_rules.specs.Invoking.{carrier_in}
 use Rattle.end_rules.specs.Hearing.{Rejecting, Heard, hear, head_of, with_reject, sent_on, syntax_of}
 use Rattle.osi_base.specs.SetPlaces.{pair_of}
 use Rattle.end_rules.specs.History.{Step, fed, took, answered, fault, feed_end, after_taken}
-use Rattle.end_wire.specs.Values.{IsContent}
-use Rattle.end_wire.specs.Bare.{Whole, first_of, first_at, front, behind, bare_base, bare_value, bare_message}
-use Rattle.end_wire.specs.Line.{End, after, after_all}
-use Rattle.end_wire.specs.Feeding.{Reads, passes, waits, takes, fails, taking, Feeds}
-use Rattle.end_wire.specs.Laws.{OneContent}
+use Rattle.bare_end.specs.end_wire.Values.{IsContent}
+use Rattle.bare_end.specs.end_wire.Bare.{Whole, first_of, first_at, front, behind, bare_base, bare_value, bare_message}
+use Rattle.bare_end.specs.end_wire.Line.{End, after, after_all}
+use Rattle.bare_end.specs.end_wire.Feeding.{Reads, passes, waits, takes, fails, taking, Feeds}
+use Rattle.bare_end.specs.end_wire.Laws.{OneContent}
 use Rattle.bare_duo.specs.Cutting.{OneFeed, AnyCutting}
 use Rattle.bare_duo.proofs.Fronts.{faulty_stays, read_of}
 use Rattle.bare_duo.proofs.Unique.{same_reads}

@@ -30,7 +30,7 @@ use Rattle.end_rules.specs.Invoking.{Reply, is_too_long, invoke_apdu, result_apd
 use Rattle.end_rules.specs.Calling.{can_call, can_by_rows, is_dead, is_initiators, is_phase_for, is_of_bare_mode}
 use Rattle.end_rules.specs.Hearing.{data_on}
 use Rattle.end_rules.specs.Requesting.{due_of, due_invoke, due_outcome, result_for, error_for, operation_opened, after_refused, sent_at_once}
-use Rattle.end_wire.specs.Values.{bare_spellings}
+use Rattle.bare_end.specs.end_wire.Values.{bare_spellings}
 use Rattle.agreement.specs.Sets.{Role}
 use Rattle.agreement.specs.Worlds.{Sending}
 use Rattle.agreement.specs.Messages.{Message as ModelMessage}

@@ -10,8 +10,8 @@ use Rattle.osi_base.specs.declared.syntax.Syntax.TheVariants.{Ber}
 use Rattle.apdu_spelling.specs.Writing.{IsWritable}
 use Rattle.end_rules.specs.Messages.{Message, Remote}
 use Rattle.end_rules.specs.State.{bare_set}
-use Rattle.end_wire.specs.Bare.{Short, Whole, Faulty, first_at, bare_message, written}
-use Rattle.end_wire.specs.Laws.{WrittenIsFirst}
+use Rattle.bare_end.specs.end_wire.Bare.{Short, Whole, Faulty, first_at, bare_message, written}
+use Rattle.bare_end.specs.end_wire.Laws.{WrittenIsFirst}
 use Rattle.stub_tables.specs.Readable.{IsReadable}
 use Rattle.bare_duo.proofs.Fronts.{nothing_first, whole_came, whole_faultless}
 

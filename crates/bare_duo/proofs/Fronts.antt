@@ -13,7 +13,7 @@ use Rattle.ber_spelling.proofs.WholeValues.{read_stays, fault_stays}
 use Rattle.stub_tables.specs.Heads.{head_rows, any_row}
 use Rattle.stub_tables.specs.Apdus.{IsWhole, IsShort}
 use Rattle.stub_tables.proofs.Readings.{whole_read, nothing_short}
-use Rattle.end_wire.specs.Bare.{Short, Whole, Faulty, first_of, first_at}
+use Rattle.bare_end.specs.end_wire.Bare.{Short, Whole, Faulty, first_of, first_at}
 
 abbrev read_any : List ℕ → Result (Value × ℕ) ReadFault
 read_any text = read_at head_rows any_row false 262144 text

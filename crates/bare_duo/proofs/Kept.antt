@@ -29,11 +29,11 @@ use Rattle.end_rules.specs.Hearing.{Heard, hear, head_of_apdu, syntax_of}
 use Rattle.osi_base.specs.declared.layer_words.SetItem.{SetItem}
 use Rattle.end_rules.specs.Reacting.{Passes, Takes, react, after_word, answers_to_word, shown_of_word}
 use Rattle.end_rules.specs.History.{Step, called, sent, fed, took, feed_end, gave, broke, after_broke, after_taken, broken_phase}
-use Rattle.end_wire.specs.Bare.{Short, Whole, first_at, front, behind, bare_message, written}
-use Rattle.end_wire.specs.Values.{IsContent, bare_spellings}
-use Rattle.end_wire.specs.Line.{End, after, after_all}
-use Rattle.end_wire.specs.Feeding.{Reads, passes, waits, takes, fails, taking}
-use Rattle.end_wire.specs.Laws.{WrittenIsFirst, OneContent}
+use Rattle.bare_end.specs.end_wire.Bare.{Short, Whole, first_at, front, behind, bare_message, written}
+use Rattle.bare_end.specs.end_wire.Values.{IsContent, bare_spellings}
+use Rattle.bare_end.specs.end_wire.Line.{End, after, after_all}
+use Rattle.bare_end.specs.end_wire.Feeding.{Reads, passes, waits, takes, fails, taking}
+use Rattle.bare_end.specs.end_wire.Laws.{WrittenIsFirst, OneContent}
 use Rattle.agreement.specs.Sets.{Role, other}
 use Rattle.agreement.specs.Sets.Role.{Initiator, Responder}
 use Rattle.agreement.specs.Worlds.{Sending, flight_to}

@@ -25,9 +25,9 @@ use Rattle.end_rules.specs.Messages.{Message, DataValue, Remote}
 use Rattle.end_rules.specs.State.{bare_set}
 use Rattle.end_rules.specs.History.{Step, called, sent, encoded, fed, took, answered, passed, fault, aborted, feed_end, gave, broke}
 use Rattle.end_rules.specs.World.{World, Ends, Shared, base_at as base_of, other, shared_at, shared_after}
-use Rattle.end_wire.specs.Bare.{bare_message}
-use Rattle.end_wire.specs.Values.{bare_spellings}
-use Rattle.end_wire.specs.Laws.{WrittenIsFirst, OneContent, ContentSays}
+use Rattle.bare_end.specs.end_wire.Bare.{bare_message}
+use Rattle.bare_end.specs.end_wire.Values.{bare_spellings}
+use Rattle.bare_end.specs.end_wire.Laws.{WrittenIsFirst, OneContent, ContentSays}
 use Rattle.agreement.specs.Sets.Role.{Initiator, Responder}
 use Rattle.end_model.specs.Seen.{Free}
 use Rattle.end_model.specs.Acting.{ReadsBack}

@@ -21,9 +21,9 @@ use Rattle.end_rules.specs.Calling.{can_call}
 use Rattle.end_rules.specs.Requesting.{due_of}
 use Rattle.end_rules.specs.History.{Step, History, called, sent, gave, broke, call_steps}
 use Rattle.end_rules.specs.World.{World, Ends, base_at, other, history_of}
-use Rattle.end_wire.specs.Bare.{bare_base}
-use Rattle.end_wire.specs.Line.{End, end_of, going_on}
-use Rattle.end_wire.specs.Feeding.{Feeds}
+use Rattle.bare_end.specs.end_wire.Bare.{bare_base}
+use Rattle.bare_end.specs.end_wire.Line.{End, end_of, going_on}
+use Rattle.bare_end.specs.end_wire.Feeding.{Feeds}
 use Rattle.bare_end.specs.View.{EndView, base, body, seen, Stepped, StandsFor}
 use Rattle.bare_end.proofs.Histories.{stands_on}
 use Rattle.bare_duo.specs.Worlds.{ends_of, end_at, stepping, first_octets, Runs, rests, calls, carries, breaks}

@@ -28,7 +28,7 @@ use Rattle.end_rules.specs.Invoking.{Reply, next_id, is_stopped, can_invoke_oper
 use Rattle.end_rules.specs.Calling.{can_call}
 use Rattle.end_rules.specs.Hearing.{hear, head_of_apdu, value_in, value_returned, opening}
 use Rattle.end_rules.specs.Requesting.{due_of, after_call, due_invoke, after_invoke, due_outcome, after_outcome, result_for, error_for, operation_opened, sent_at_once}
-use Rattle.end_wire.specs.Values.{bare_spellings}
+use Rattle.bare_end.specs.end_wire.Values.{bare_spellings}
 use Rattle.agreement.specs.Sets.{Role}
 use Rattle.end_model.specs.Acting.{HasBareSet}
 use Rattle.end_model.specs.Pairs.{base_at, bare_pair}

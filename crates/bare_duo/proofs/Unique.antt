@@ -18,11 +18,11 @@ use Rattle.end_rules.specs.Reacting.{Takes, react}
 use Rattle.end_rules.specs.Calling.{can_call}
 use Rattle.end_rules.specs.History.{Step, fed, fault, feed_end, gave, broke, call_steps}
 use Rattle.end_rules.specs.World.{World, Ends, base_at, other}
-use Rattle.end_wire.specs.Bare.{Short, Whole, Faulty, first_at, front, bare_message}
-use Rattle.end_wire.specs.Values.{IsContent}
-use Rattle.end_wire.specs.Line.{End, after, after_all}
-use Rattle.end_wire.specs.Feeding.{Reads, Feeds, passes, waits, takes, fails, taking}
-use Rattle.end_wire.specs.Laws.{OneContent}
+use Rattle.bare_end.specs.end_wire.Bare.{Short, Whole, Faulty, first_at, front, bare_message}
+use Rattle.bare_end.specs.end_wire.Values.{IsContent}
+use Rattle.bare_end.specs.end_wire.Line.{End, after, after_all}
+use Rattle.bare_end.specs.end_wire.Feeding.{Reads, Feeds, passes, waits, takes, fails, taking}
+use Rattle.bare_end.specs.end_wire.Laws.{OneContent}
 use Rattle.bare_duo.specs.Laws.{OneRun}
 use Rattle.bare_duo.specs.Worlds.{ends_of, end_at, stepping, first_octets, Runs, rests, calls, carries, breaks}
 

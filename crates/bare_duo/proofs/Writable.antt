@@ -27,9 +27,9 @@ use Rattle.end_rules.specs.Messages.{Remote}
 use Rattle.end_rules.specs.Invoking.{is_too_long, is_too_long_in}
 use Rattle.end_rules.specs.Hearing.{head_of_apdu}
 use Rattle.end_rules.specs.Base.{Spellings}
-use Rattle.end_wire.specs.Heads.{head_at}
-use Rattle.end_wire.specs.Values.{bare_spellings}
-use Rattle.end_wire.specs.Laws.{ContentSays}
+use Rattle.bare_end.specs.end_wire.Heads.{head_at}
+use Rattle.bare_end.specs.end_wire.Values.{bare_spellings}
+use Rattle.bare_end.specs.end_wire.Laws.{ContentSays}
 use Rattle.end_model.specs.Opens.{IsNumber, IsNamed, IsProper, fits_argument, fits_result, fits_parameter, operation_of_code, error_of_code, FitsReturned}
 use Rattle.end_model.specs.Acting.{IsSaidBack, ReadsBack}
 

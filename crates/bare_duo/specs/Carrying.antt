@@ -9,7 +9,7 @@ use Rattle.end_rules.specs.Messages.{Message}
 use Rattle.end_rules.specs.State.{passes_over}
 use Rattle.end_rules.specs.History.{Step, called, sent, encoded, fed, took, answered, passed, fault, aborted, feed_end, gave, broke}
 use Rattle.end_rules.specs.World.{World, Ends, is_side, other}
-use Rattle.end_wire.specs.Bare.{written}
+use Rattle.bare_end.specs.end_wire.Bare.{written}
 use Rattle.bare_duo.specs.Shows.{shown_all}
 use Rattle.bare_duo.specs.Worlds.{end_at}
 use Rattle.run_laws.specs.Showing.{indications_at}

@@ -12,7 +12,7 @@ use Rattle.dialogue.specs.declared.indication.Indication.TheVariants as indicati
 use Rattle.end_rules.specs.Cases.{calc}
 use Rattle.end_rules.specs.Messages.{Message, Unread}
 use Rattle.end_rules.specs.State.{Calls, bare_set}
-use Rattle.end_wire.specs.Bare.{bare_message}
+use Rattle.bare_end.specs.end_wire.Bare.{bare_message}
 use Rattle.run_laws.specs.Outcomes.{Invocation}
 
 -- add is invoked at A, with its octets in one carry; B answers it, and its outcome comes in the next

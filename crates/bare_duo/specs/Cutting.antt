@@ -5,9 +5,9 @@ use Rattle.stub_tables.specs.Readable.{IsReadable}
 use Rattle.dialogue.specs.declared.config.Config.{Config}
 use Rattle.dialogue.specs.declared.indication.Indication.{Indication}
 use Rattle.end_rules.specs.History.{Step}
-use Rattle.end_wire.specs.Bare.{bare_base}
-use Rattle.end_wire.specs.Line.{End, after_all}
-use Rattle.end_wire.specs.Feeding.{Feeds}
+use Rattle.bare_end.specs.end_wire.Bare.{bare_base}
+use Rattle.bare_end.specs.end_wire.Line.{End, after_all}
+use Rattle.bare_end.specs.end_wire.Feeding.{Feeds}
 
 -- Octets that come to an end make the same steps and show the same, whoever feeds them.
 abbrev pub OneFeed : Type 0

@@ -10,7 +10,7 @@ use Rattle.end_rules.specs.State.{passes_over}
 use Rattle.end_rules.specs.Calling.{is_dead}
 use Rattle.end_rules.specs.History.{Step, called, sent, encoded, fed, took, answered, passed, fault, aborted, feed_end, gave, broke}
 use Rattle.end_rules.specs.World.{World, Ends}
-use Rattle.end_wire.specs.Bare.{Short, first_at}
+use Rattle.bare_end.specs.end_wire.Bare.{Short, first_at}
 use Rattle.bare_duo.specs.Worlds.{ends_of, end_at, Runs}
 use Rattle.bare_duo.specs.Passing.{TakenAsSent, ShownAsTaken}
 use Rattle.bare_duo.specs.Outcomes.{OneOutcome}

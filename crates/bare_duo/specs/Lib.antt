@@ -9,3 +9,5 @@ pub mod Cutting
 pub mod Ran
 pub mod Steps
 pub mod Cases
+pub use Rattle.bare_end.specs as bare_end
+pub use Rattle.bare_end.specs.end_wire as end_wire

@@ -14,9 +14,9 @@ use Rattle.dialogue.specs.declared.indication.Indication.{Indication}
 use Rattle.end_rules.specs.Calling.{can_call}
 use Rattle.end_rules.specs.History.{Step, gave, broke, call_steps}
 use Rattle.end_rules.specs.World.{World, Ends, base_at, other, history_of}
-use Rattle.end_wire.specs.Bare.{bare_base}
-use Rattle.end_wire.specs.Line.{End, end_of}
-use Rattle.end_wire.specs.Feeding.{Feeds}
+use Rattle.bare_end.specs.end_wire.Bare.{bare_base}
+use Rattle.bare_end.specs.end_wire.Line.{End, end_of}
+use Rattle.bare_end.specs.end_wire.Feeding.{Feeds}
 
 abbrev pub config_at : Setup → Side → Config
 config_at setup A = setup.a

@@ -4,8 +4,8 @@ ghost use Rattle.bare_duo.specs.Cutting.{AnyCutting, OneFeed};
 ghost use Rattle.bare_duo.specs.Laws.{EveryRunKeepsLaws, OneRun};
 
 use apdu_spelling::written_apdu_is_spelled;
+use bare_end::end_wire_layer::{content_says, one_content, written_is_first};
 use end_model::bare_pairs_are_modelled;
-use end_wire::{content_says, one_content, written_is_first};
 
 /// Every run of two ends in bare mode keeps the laws. What is taken is what was sent, each value
 /// under its pair at the sending, and might be taken then. Each invocation gets at most one

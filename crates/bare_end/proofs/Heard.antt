@@ -5,9 +5,9 @@ use Rattle.osi_base.specs.declared.fault.NoMemory.{NoMemory}
 use Rattle.ber_spelling.specs.Octets.{AreOctets}
 use Rattle.stub_tables.specs.Readable.{IsReadable}
 use Rattle.apdu_spelling.specs.declared.head.ApduHead.{ApduHead}
-use Rattle.apdu_codec.specs.declared.fault.HeadFault.{HeadFault}
-use Rattle.apdu_codec.specs.declared.fault.HeadFault.TheVariants as fault
-use Rattle.apdu_codec.specs.HeadsRead.{HasFields, HasNone, IsRefused}
+use Rattle.end_wire.specs.apdu_codec.declared.fault.HeadFault.{HeadFault}
+use Rattle.end_wire.specs.apdu_codec.declared.fault.HeadFault.TheVariants as fault
+use Rattle.end_wire.specs.apdu_codec.HeadsRead.{HasFields, HasNone, IsRefused}
 use Rattle.rose_roles.specs.declared.apdu_taken.RoseTaken as roses
 use Rattle.rose_roles.specs.Hearing.{heard_with, refused_as}
 use Rattle.end_rules.specs.State.{Calls}

@@ -16,10 +16,10 @@ use Rattle.stub_tables.specs.Apdus.{argument_of, result_of, parameter_of, operat
 use Rattle.apdu_spelling.specs.declared.head.ApduHead.{ApduHead}
 use Rattle.apdu_spelling.specs.Heads as heads
 use Rattle.apdu_spelling.specs.Spellings.{CarriedAs, fields_in}
-use Rattle.apdu_codec.specs.declared.fault.HeadFault.{HeadFault}
-use Rattle.apdu_codec.specs.declared.fault.HeadFault.TheVariants as fault
-use Rattle.apdu_codec.specs.Refusals.{refusal_of}
-use Rattle.apdu_codec.specs.HeadsRead.{HasFields, HasNone}
+use Rattle.end_wire.specs.apdu_codec.declared.fault.HeadFault.{HeadFault}
+use Rattle.end_wire.specs.apdu_codec.declared.fault.HeadFault.TheVariants as fault
+use Rattle.end_wire.specs.apdu_codec.Refusals.{refusal_of}
+use Rattle.end_wire.specs.apdu_codec.HeadsRead.{HasFields, HasNone}
 use Rattle.rose_roles.specs.Heads.{Carries, HeadCarries, said_by}
 use Rattle.end_rules.specs.Base.{Carried, Absent, Spelled, Unspelled, HeardHead}
 use Rattle.end_rules.specs.Messages.{Unread}

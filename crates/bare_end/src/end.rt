@@ -4,9 +4,9 @@ ghost use Rattle.std.specs.Prelude.{◌≡◌, ◌≢◌, ℕ, List, [], ◌∷�
 
 use crate::intake::Intake;
 use crate::phases::broken;
-use apdu_codec::Heads;
 use association_ground::is_up;
 use dialogue::{Config, ConfigRefusal, Phase, check_config};
+use end_wire::apdu_codec_layer::Heads;
 use open_invocations::Invocations;
 use osi_base::{Copied, OctetQueue, Pair, Syntax, copy_front};
 use std::alloc::Global;

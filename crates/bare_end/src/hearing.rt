@@ -4,7 +4,7 @@ ghost use Rattle.std.specs.Prelude.{◌≡◌, ◌≤◌, ◌++◌, IfOk, OnOk, 
 ghost use Rattle.osi_base.specs.declared.syntax.Syntax.TheVariants as syntaxes;
 ghost use Rattle.ber_spelling.specs.Octets.{AreOctets};
 ghost use Rattle.apdu_spelling.specs.Writing.{written_apdu};
-ghost use Rattle.apdu_codec.specs.HeadsRead.{IsHeadRead};
+ghost use Rattle.end_wire.specs.apdu_codec.HeadsRead.{IsHeadRead};
 ghost use Rattle.rose_roles.specs.Hearing.{heard_with, Hears};
 ghost use Rattle.end_rules.specs.State.{Calls};
 ghost use Rattle.end_rules.specs.Hearing.{hear, reject_apdu};
@@ -15,10 +15,10 @@ ghost use Rattle.bare_end.specs.Told.{heard_as, Heard, HeardIn, told_by, answere
 ghost use Rattle.bare_end.specs.View.{base, with_calls, with_waiting};
 
 use crate::end::End;
-use apdu_codec::HeadFault;
 use apdu_spelling::ApduHead;
 use ber_spelling::{are_octets, hold_octets};
 use dialogue::{Indication, Indications};
+use end_wire::apdu_codec_layer::HeadFault;
 use osi_base::{NoMemory, Problem, Syntax};
 use rose_roles::{RoseTaken, refused_head};
 use stub_tables::Apdu;

@@ -12,3 +12,4 @@ mod phases;
 mod sending;
 
 pub use end::End;
+pub use end_wire as end_wire_layer;

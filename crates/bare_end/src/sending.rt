@@ -6,8 +6,8 @@ ghost use Rattle.bare_end.specs.View.{base, with_waiting};
 ghost use Rattle.bare_end.specs.Checking.{IsShortText};
 
 use crate::end::End;
-use apdu_codec::is_too_long_with;
 use dialogue::CallRefusal;
+use end_wire::apdu_codec_layer::is_too_long_with;
 use osi_base::{NoMemory, Octets, Syntax};
 use stub_tables::Apdu;
 

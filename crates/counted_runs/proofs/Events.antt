@@ -23,18 +23,18 @@ use Rattle.agreement.specs.Sets.{Role, other}
 use Rattle.agreement.specs.Sets.Role.{Initiator, Responder}
 use Rattle.end_model.specs.Sharing.{side_of}
 use Rattle.end_model.specs.Pairs.{Common, base_at, Two, coming_to}
-use Rattle.reliable_model.specs.Goes.{Ledger}
-use Rattle.outcome_laws.specs.Deals.{Dealings}
-use Rattle.said_words.specs.Calls.{IsCall}
-use Rattle.association_reading.specs.Front.{Front, Intake, first_front, front_held, first_in, with_octets}
-use Rattle.association_reading.specs.Reacting.{react_to, grammar_fault}
+use Rattle.association_runs.specs.reliable_model.Goes.{Ledger}
+use Rattle.association_runs.specs.outcome_laws.Deals.{Dealings}
+use Rattle.association_worlds.specs.said_words.Calls.{IsCall}
+use Rattle.association_worlds.specs.association_reading.Front.{Front, Intake, first_front, front_held, first_in, with_octets}
+use Rattle.association_worlds.specs.association_reading.Reacting.{react_to, grammar_fault}
 use Rattle.association_worlds.specs.Ways.{AreCarried}
 use Rattle.association_worlds.specs.Laws.{IsMeant}
 use Rattle.association_worlds.proofs.Kept.{carried-behind}
 use Rattle.run_laws.specs.Passing.{Passed, sendings, readings}
 use Rattle.run_laws.specs.Laws.{NothingFails}
-use Rattle.association_line.specs.Line.{End, after, after_all}
-use Rattle.association_line.specs.Feeding.{taking, failing, Reads, is_over, waits, passes, takes, fails as failed, OwnAfter, Makes}
+use Rattle.association_runs.specs.association_line.Line.{End, after, after_all}
+use Rattle.association_runs.specs.association_line.Feeding.{taking, failing, Reads, is_over, waits, passes, takes, fails as failed, OwnAfter, Makes}
 use Rattle.association_runs.specs.Worlds.{stepping, first_octets, Runs}
 use Rattle.association_runs.specs.Worlds as runs
 use Rattle.association_runs.specs.Laws.{AreEvents}

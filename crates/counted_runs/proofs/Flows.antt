@@ -10,12 +10,12 @@ use Rattle.tpkt.proofs.StreamLaws.{any_cut, nothing_read}
 use Rattle.end_rules.specs.Base.{Base}
 use Rattle.end_rules.specs.Messages.{Message}
 use Rattle.end_rules.specs.History.{Step, called, sent, encoded, fed, took, answered, passed, fault, aborted, feed_end, gave, broke}
-use Rattle.association_wire.specs.Written.{written}
-use Rattle.association_reading.specs.Front.{Front, Intake, nothing_came, all_fronts, with_octets, behind_first, without_first}
+use Rattle.association_worlds.specs.association_wire.Written.{written}
+use Rattle.association_worlds.specs.association_reading.Front.{Front, Intake, nothing_came, all_fronts, with_octets, behind_first, without_first}
 use Rattle.association_worlds.specs.Ways.{Sent, texts}
 use Rattle.association_worlds.proofs.Kept.{fronts-append, texts-append}
 use Rattle.run_laws.specs.Passing.{Passed, sent_in, as_read, on_connection, read_in}
-use Rattle.association_line.specs.Line.{End, after}
+use Rattle.association_runs.specs.association_line.Line.{End, after}
 use Rattle.association_runs.specs.Octets.{given_in, or_none}
 use Rattle.counted_runs.proofs.Sents.{sized}
 

@@ -7,7 +7,7 @@ use Rattle.stub_tables.specs.declared.tables.Tables.{Tables}
 use Rattle.tpkt.specs.Reader.{ReaderProgress, reading, nothing}
 use Rattle.tpkt.proofs.StreamLaws.{any_cut}
 use Rattle.agreement.specs.Sets.Role.{Initiator, Responder}
-use Rattle.association_reading.specs.Front.{Front, Short, Intake, first_front, all_fronts}
+use Rattle.association_worlds.specs.association_reading.Front.{Front, Short, Intake, first_front, all_fronts}
 use Rattle.association_worlds.specs.Ways.{AreCarried, front_of, Sent, fronts_of_sent, AreWritten}
 use Rattle.association_worlds.proofs.Streams.{reads-all}
 use Rattle.association_worlds.proofs.Kept.{fronts-append, stands}

@@ -7,8 +7,8 @@ use Rattle.osi_base.specs.declared.presentation_word.PdvContent.TheVariants.{Sin
 use Rattle.acse.specs.Written.{written_acse}
 use Rattle.dialogue.specs.declared.config.Mode.{Mode}
 use Rattle.dialogue.specs.declared.config.Mode.TheVariants.{Bare, Direct, Reliable}
-use Rattle.end_rules.specs.Base.{Base, application_context}
-use Rattle.end_rules.specs.Writing.{acse_value, information, own_proposals, requirement_bits, connection_data}
+use Rattle.association_ground.specs.end_rules.Base.{Base, application_context}
+use Rattle.association_ground.specs.end_rules.Writing.{acse_value, information, own_proposals, requirement_bits, connection_data}
 use Rattle.end_config.specs.Connecting.{pdv_of, externals, connect_of_rules, connect_of, ConnectIsOfRules}
 
 module _ (base : Base) (recovers : Bool) where

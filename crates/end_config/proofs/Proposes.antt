@@ -9,12 +9,12 @@ use Rattle.dialogue.specs.declared.config.Mode.{Mode}
 use Rattle.dialogue.specs.declared.config.Mode.TheVariants.{Bare, Direct, Reliable}
 use Rattle.dialogue.specs.declared.config.ConfigRefusal.{ConfigRefusal}
 use Rattle.dialogue.specs.Config as values
-use Rattle.end_rules.specs.Base.{is_reliable}
-use Rattle.end_rules.specs.Sets.{is_among, has_parity, proposed_ids}
-use Rattle.end_rules.specs.State.{is_empty}
-use Rattle.end_rules.specs.Altering.{has_double}
-use Rattle.end_rules.specs.Policy.{is_faulty_proposal}
-use Rattle.end_rules.specs.Writing.{own_proposals}
+use Rattle.association_ground.specs.end_rules.Base.{is_reliable}
+use Rattle.association_ground.specs.end_rules.Sets.{is_among, has_parity, proposed_ids}
+use Rattle.association_ground.specs.end_rules.State.{is_empty}
+use Rattle.association_ground.specs.end_rules.Altering.{has_double}
+use Rattle.association_ground.specs.end_rules.Policy.{is_faulty_proposal}
+use Rattle.association_ground.specs.end_rules.Writing.{own_proposals}
 use Rattle.end_config.specs.Refusing.{is_taken, is_bad_context, bad_context, or_refusal, context_refusal, early_refusal, late_refusal, config_refusal}
 use Rattle.end_config.specs.Proposing.{ProposesRightly}
 

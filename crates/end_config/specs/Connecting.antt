@@ -15,9 +15,9 @@ use Rattle.presentation_pdus.specs.Words.{written_ppdu}
 use Rattle.dialogue.specs.declared.config.Config.{Config}
 use Rattle.dialogue.specs.declared.config.Mode.{Mode}
 use Rattle.dialogue.specs.declared.config.Mode.TheVariants.{Bare, Direct, Reliable}
-use Rattle.end_rules.specs.Base.{Base, application_context}
-use Rattle.end_rules.specs.Messages.{Information, Transferring, Other, ValueContent, Remote, Unread, Association, Plea, Part, DataValue}
-use Rattle.end_rules.specs.Writing.{own_proposals, requirement_bits, presentation_connect, connect_values}
+use Rattle.association_ground.specs.end_rules.Base.{Base, application_context}
+use Rattle.association_ground.specs.end_rules.Messages.{Information, Transferring, Other, ValueContent, Remote, Unread, Association, Plea, Part, DataValue}
+use Rattle.association_ground.specs.end_rules.Writing.{own_proposals, requirement_bits, presentation_connect, connect_values}
 
 -- ---- what the rules send as CP, with its user data as octets
 

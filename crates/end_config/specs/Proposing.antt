@@ -1,8 +1,8 @@
 -- What an initiator proposes whose configuration isn't refused.
 use Rattle.std.specs.Prelude.{◌≡◌, [], ◌++◌, true, false, None}
 use Rattle.dialogue.specs.declared.config.Config.{Config}
-use Rattle.end_rules.specs.Policy.{is_faulty_proposal}
-use Rattle.end_rules.specs.Writing.{own_proposals}
+use Rattle.association_ground.specs.end_rules.Policy.{is_faulty_proposal}
+use Rattle.association_ground.specs.end_rules.Writing.{own_proposals}
 use Rattle.end_config.specs.Refusing.{config_refusal}
 
 -- Its own contexts and those of the configuration come once each and have an initiator's parity (X.226 8.4.2).

@@ -8,8 +8,8 @@ use Rattle.dialogue.specs.declared.config.Mode.{Mode}
 use Rattle.dialogue.specs.declared.config.ConfigRefusal.{ConfigRefusal}
 use Rattle.dialogue.specs.declared.config.ConfigRefusal.TheVariants as refusals
 use Rattle.dialogue.specs.Config as values
-use Rattle.end_rules.specs.Base.{is_bare, is_reliable}
-use Rattle.end_rules.specs.State.{is_empty}
+use Rattle.association_ground.specs.end_rules.Base.{is_bare, is_reliable}
+use Rattle.association_ground.specs.end_rules.State.{is_empty}
 use Rattle.end_config.specs.Connecting.{connect_octets}
 
 -- ---- contexts

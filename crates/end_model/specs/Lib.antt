@@ -16,3 +16,5 @@ pub mod Steps
 pub mod DirectPairs
 pub mod Sharing
 pub mod FaultlessOthers
+pub use Rattle.dialogue.specs as dialogue
+pub use Rattle.end_rules.specs as end_rules

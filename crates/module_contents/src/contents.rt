@@ -11,10 +11,10 @@ ghost use Rattle.association_words.specs.Seen.{seen_content};
 ghost use Rattle.module_contents.specs.Said.{apdu_in, invoke_by, result_by, error_by, reject_by, apdu_by};
 
 use crate::module_values::{carried, needed};
-use apdu_codec::{HeadFault, Heads};
 use apdu_spelling::{ApduHead, ApduKind};
 use association_words::ValueContent;
 use ber_spelling::are_octets;
+use end_wire::apdu_codec_layer::{HeadFault, Heads};
 use osi_base::{NoMemory, Octets, Syntax};
 use std::alloc::Global;
 use stub_tables::{Apdu, Returned, Tables, Use};

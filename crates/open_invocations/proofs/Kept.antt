@@ -11,15 +11,15 @@ use Rattle.stub_tables.specs.declared.operation.Code.{Code}
 use Rattle.dialogue.specs.declared.config.Mode.TheVariants.{Bare}
 use Rattle.dialogue.specs.declared.config.Config.{Config}
 use Rattle.dialogue.specs.declared.indication.Indication.TheVariants as indications
-use Rattle.apdu_spelling.specs.declared.head.ApduHead.{ApduHead}
+use Rattle.rose_roles.specs.apdu_spelling.declared.head.ApduHead.{ApduHead}
 use Rattle.linked_ops.specs.declared.key.Key.{Key}
 use Rattle.linked_ops.specs.Keys.{same_bool, same_key}
 use Rattle.linked_ops.specs.Entries.{Entry, is_open, is_open_or_none}
-use Rattle.end_rules.specs.Base.{Base, Carried, HeardHead, General, BadReject, InvokeHead, ResultHead, ErrorHead, RejectHead}
-use Rattle.end_rules.specs.State as ends
-use Rattle.end_rules.specs.State.{Calls, OpenCall, opened_with}
-use Rattle.end_rules.specs.Hearing as rules
-use Rattle.end_wire.specs.Bare.{bare_base}
+use Rattle.rose_roles.specs.end_rules.Base.{Base, Carried, HeardHead, General, BadReject, InvokeHead, ResultHead, ErrorHead, RejectHead}
+use Rattle.rose_roles.specs.end_rules.State as ends
+use Rattle.rose_roles.specs.end_rules.State.{Calls, OpenCall, opened_with}
+use Rattle.rose_roles.specs.end_rules.Hearing as rules
+use Rattle.rose_roles.specs.end_wire.Bare.{bare_base}
 use Rattle.rose_roles.specs.declared.invoked_with.InvokedWith.{InvokedWith}
 use Rattle.rose_roles.specs.declared.apdu_taken.RoseTaken as takens
 use Rattle.rose_roles.specs.declared.apdu_taken.RoseTaken.TheVariants as taken

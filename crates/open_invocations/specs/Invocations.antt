@@ -3,13 +3,13 @@ use Rattle.std.specs.Prelude.{◌≡◌, ℕ, ◌<◌, ◌≤◌, ℤ, pos, Bool
 use Rattle.osi_base.specs.declared.syntax.Syntax.{Syntax}
 use Rattle.osi_base.specs.Limits.{last_invocation}
 use Rattle.stub_tables.specs.declared.tables.Tables.{Tables}
-use Rattle.apdu_spelling.specs.declared.head.ApduHead.{ApduHead}
+use Rattle.rose_roles.specs.apdu_spelling.declared.head.ApduHead.{ApduHead}
 use Rattle.linked_ops.specs.Entries.{Entry}
 use Rattle.rose_roles.specs.Calls.{Kept, Invoking, AreOpen, opens_in}
 use Rattle.rose_roles.specs.declared.invoked_with.InvokedWith.{InvokedWith}
 use Rattle.rose_roles.specs.Heads.{HeadCarries}
-use Rattle.end_rules.specs.Base.{Carried}
-use Rattle.end_rules.specs.State.{OpenCall, opened_with}
+use Rattle.rose_roles.specs.end_rules.Base.{Carried}
+use Rattle.rose_roles.specs.end_rules.State.{OpenCall, opened_with}
 
 -- The keys of the forest are what each end has open; no own number is open that wasn't given yet.
 pub record AreKept (forest : List Entry) (invoking : Invoking) (performed : Kept) : Type 0 where

@@ -3,16 +3,16 @@
 ghost use Rattle.std.specs.Prelude.{◌≡◌, ◌<◌, ◌≤◌, ◌+◌, ◌++◌, ◌∷◌, [], length, pos, true, false, is_some, None, IfOk, OnOk, OnErr};
 ghost use Rattle.osi_base.specs.Limits.{last_invocation, most_open};
 ghost use Rattle.rose_roles.specs.Hearing.{Hears};
-ghost use Rattle.end_rules.specs.State.{opened_with, opens_of, close};
-ghost use Rattle.end_rules.specs.Base.{Base};
-ghost use Rattle.end_rules.specs.Hearing.{opening};
+ghost use Rattle.rose_roles.specs.end_rules.State.{opened_with, opens_of, close};
+ghost use Rattle.rose_roles.specs.end_rules.Base.{Base};
+ghost use Rattle.rose_roles.specs.end_rules.Hearing.{opening};
 ghost use Rattle.open_invocations.specs.Invocations.{is_link, is_link_back, called_in, operation_in, SomeCarried};
 
 use crate::listing::{called_at, opens_in};
 use crate::open_call::OpenCall;
-use apdu_spelling::{ApduHead, ApduKind};
 use linked_ops::Forest;
 use osi_base::{NoMemory, Syntax};
+use rose_roles::apdu_spelling_layer::{ApduHead, ApduKind};
 use rose_roles::{InvokedWith, Invoker, Performer, RoseTaken};
 use std::alloc::Global;
 use std::marker::Model;
@@ -28,7 +28,7 @@ pub struct Invocations {
 }
 
 impl Model for Invocations {
-    ghost use Rattle.end_rules.specs.State.{Calls};
+    ghost use Rattle.rose_roles.specs.end_rules.State.{Calls};
     ghost use Rattle.rose_roles.specs.Calls.{calls_of};
     ghost use Rattle.open_invocations.specs.Invocations.{AreKept};
 

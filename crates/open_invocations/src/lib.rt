@@ -10,3 +10,4 @@ mod order;
 pub use invocations::Invocations;
 pub use open_call::OpenCall;
 pub use order::tell_cuts;
+pub use rose_roles as rose_roles_layer;

@@ -1,7 +1,7 @@
 //! An open invocation.
 
 ghost use Rattle.std.specs.Prelude.{◌≡◌};
-ghost use Rattle.end_rules.specs.State.{is_whose, is_key, is_parent_of};
+ghost use Rattle.rose_roles.specs.end_rules.State.{is_whose, is_key, is_parent_of};
 
 use std::marker::Model;
 
@@ -21,7 +21,7 @@ pub struct OpenCall {
 }
 
 impl Model for OpenCall {
-    ghost use Rattle.end_rules.specs.State.{OpenCall as seen_call};
+    ghost use Rattle.rose_roles.specs.end_rules.State.{OpenCall as seen_call};
 
     ghost Value = { seen_call };
 

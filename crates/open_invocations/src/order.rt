@@ -2,8 +2,8 @@
 
 ghost use Rattle.std.specs.Prelude.{◌≡◌, ◌++◌, ◌<◌, length, map, IfOk, OnOk, IfSome};
 ghost use Rattle.std.specs.List.{position_from};
-ghost use Rattle.end_rules.specs.State.{is_parent_of, before_parent, post_order};
-ghost use Rattle.end_rules.specs.Faults.{cut_of};
+ghost use Rattle.rose_roles.specs.end_rules.State.{is_parent_of, before_parent, post_order};
+ghost use Rattle.rose_roles.specs.end_rules.Faults.{cut_of};
 
 use crate::open_call::OpenCall;
 use dialogue::{Indication, Indications};

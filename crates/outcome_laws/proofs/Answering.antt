@@ -17,25 +17,25 @@ use Rattle.dialogue.specs.declared.call.Call.{Call}
 use Rattle.dialogue.specs.declared.call.Call.TheVariants as the_calls
 use Rattle.dialogue.specs.declared.call.CallRefusal.TheVariants as refusals
 use Rattle.dialogue.specs.declared.indication.Indication.{Indication}
-use Rattle.end_rules.specs.Base.{Base, Fault, is_bare, is_direct, is_reliable}
-use Rattle.end_rules.specs.Messages.{DataValue, Message, Transport, Session, Word, OfAssociation, OfData, OfMarks, OfActivities, TransportUnit, ConnectionRequest, ConnectionConfirm, DisconnectRequest, TransportError}
-use Rattle.end_rules.specs.Messages.{AssociationWord, Connect, Accept, Refuse, Finish, Disconnect, Abort, AbortAccept, DataWord, Values, AlterContext, AlterContextAck, unit_of}
-use Rattle.end_rules.specs.Messages.{MarkWord, Mark, MarkAck, Restart, RestartAck, Give, Please, GiveConfirm, GiveAck}
-use Rattle.end_rules.specs.State.{Body, OpenCall, is_carrying, is_joined, is_up, is_free, is_empty, opened_with, passes_over}
-use Rattle.end_rules.specs.Writing.{refuse_message, provider_refusal, give_message, please_message, user_abort}
-use Rattle.end_rules.specs.Faults.{abort_of, transport_fault}
-use Rattle.end_rules.specs.Purging.{is_purged, is_transport_purged}
-use Rattle.end_rules.specs.Connecting.{has_acse, set_for, results_for, context_named, the_one, lacks_request, rejecting_information, transfer_rejection, is_refused, refusal_message, acceptance_message, answer_to_connect}
-use Rattle.end_rules.specs.Invoking.{carrier_in}
-use Rattle.end_rules.specs.Calling.{can_call, can_stop, can_resume}
-use Rattle.end_rules.specs.Hearing.{take_values}
-use Rattle.end_rules.specs.Requesting.{sent_at_once, due_invoke, due_outcome, result_in, error_for, due_of}
-use Rattle.end_rules.specs.ByItself.{OwnAct, leads, next_in, next_own}
-use Rattle.end_rules.specs.TakesTransport.{is_size, answer_to_request, transport_unit_fault, answers_to_transport, shown_of_transport}
-use Rattle.end_rules.specs.TakesAssociation.{answers_to_association, shown_of_association}
-use Rattle.end_rules.specs.TakesData.{values_taken, answers_to_data, shown_of_data}
-use Rattle.end_rules.specs.TakesMarks.{mark_answer, answers_to_mark, shown_of_mark}
-use Rattle.end_rules.specs.Reacting.{Reaction, Passes, Takes, Fails, fails, answers_to_word, shown_of_word, contexts_of_word, fault_above, word_fault, on_word, react_to_word, on_transport, react_to_transport, react_to_session, react_alive, react}
+use Rattle.end_model.specs.end_rules.Base.{Base, Fault, is_bare, is_direct, is_reliable}
+use Rattle.end_model.specs.end_rules.Messages.{DataValue, Message, Transport, Session, Word, OfAssociation, OfData, OfMarks, OfActivities, TransportUnit, ConnectionRequest, ConnectionConfirm, DisconnectRequest, TransportError}
+use Rattle.end_model.specs.end_rules.Messages.{AssociationWord, Connect, Accept, Refuse, Finish, Disconnect, Abort, AbortAccept, DataWord, Values, AlterContext, AlterContextAck, unit_of}
+use Rattle.end_model.specs.end_rules.Messages.{MarkWord, Mark, MarkAck, Restart, RestartAck, Give, Please, GiveConfirm, GiveAck}
+use Rattle.end_model.specs.end_rules.State.{Body, OpenCall, is_carrying, is_joined, is_up, is_free, is_empty, opened_with, passes_over}
+use Rattle.end_model.specs.end_rules.Writing.{refuse_message, provider_refusal, give_message, please_message, user_abort}
+use Rattle.end_model.specs.end_rules.Faults.{abort_of, transport_fault}
+use Rattle.end_model.specs.end_rules.Purging.{is_purged, is_transport_purged}
+use Rattle.end_model.specs.end_rules.Connecting.{has_acse, set_for, results_for, context_named, the_one, lacks_request, rejecting_information, transfer_rejection, is_refused, refusal_message, acceptance_message, answer_to_connect}
+use Rattle.end_model.specs.end_rules.Invoking.{carrier_in}
+use Rattle.end_model.specs.end_rules.Calling.{can_call, can_stop, can_resume}
+use Rattle.end_model.specs.end_rules.Hearing.{take_values}
+use Rattle.end_model.specs.end_rules.Requesting.{sent_at_once, due_invoke, due_outcome, result_in, error_for, due_of}
+use Rattle.end_model.specs.end_rules.ByItself.{OwnAct, leads, next_in, next_own}
+use Rattle.end_model.specs.end_rules.TakesTransport.{is_size, answer_to_request, transport_unit_fault, answers_to_transport, shown_of_transport}
+use Rattle.end_model.specs.end_rules.TakesAssociation.{answers_to_association, shown_of_association}
+use Rattle.end_model.specs.end_rules.TakesData.{values_taken, answers_to_data, shown_of_data}
+use Rattle.end_model.specs.end_rules.TakesMarks.{mark_answer, answers_to_mark, shown_of_mark}
+use Rattle.end_model.specs.end_rules.Reacting.{Reaction, Passes, Takes, Fails, fails, answers_to_word, shown_of_word, contexts_of_word, fault_above, word_fault, on_word, react_to_word, on_transport, react_to_transport, react_to_session, react_alive, react}
 use Rattle.agreement.specs.Sets.{Role, other}
 use Rattle.agreement.specs.Sets.Role.{Initiator, Responder}
 use Rattle.end_model.specs.Acting.{as_list, invoked_as, apdus_of}

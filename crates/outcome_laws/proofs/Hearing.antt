@@ -11,11 +11,11 @@ use Rattle.stub_tables.specs.Codes.{is_error_of}
 use Rattle.stub_tables.specs.Lookup.{operation_at, operation_with, error_with}
 use Rattle.dialogue.specs.declared.indication.Indication.{Indication}
 use Rattle.dialogue.specs.declared.indication.Indication.TheVariants as indications
-use Rattle.end_rules.specs.Base.{Base, Carried, HeardHead, General, BadReject, InvokeHead, ResultHead, ErrorHead, RejectHead, is_reliable}
-use Rattle.end_rules.specs.Messages.{DataValue}
-use Rattle.end_rules.specs.State.{Body, OpenCall, Calls, is_empty, opened_with, close}
-use Rattle.end_rules.specs.Invoking.{carrier_in}
-use Rattle.end_rules.specs.Hearing.{Rejecting, Heard, rejected, told, unless_problem, first_problem, problem_if, invoke_problem, invoked, is_right_result, result_problem, known_error_problem, hear_result_of, error_problem, error_told, hear_error_of, is_of_invocation, hear_reject, hear, value_in, Taken, sent_on, queued, with_reject, shown_first, on_heard, take_head, head_of, take_values}
+use Rattle.end_model.specs.end_rules.Base.{Base, Carried, HeardHead, General, BadReject, InvokeHead, ResultHead, ErrorHead, RejectHead, is_reliable}
+use Rattle.end_model.specs.end_rules.Messages.{DataValue}
+use Rattle.end_model.specs.end_rules.State.{Body, OpenCall, Calls, is_empty, opened_with, close}
+use Rattle.end_model.specs.end_rules.Invoking.{carrier_in}
+use Rattle.end_model.specs.end_rules.Hearing.{Rejecting, Heard, rejected, told, unless_problem, first_problem, problem_if, invoke_problem, invoked, is_right_result, result_problem, known_error_problem, hear_result_of, error_problem, error_told, hear_error_of, is_of_invocation, hear_reject, hear, value_in, Taken, sent_on, queued, with_reject, shown_first, on_heard, take_head, head_of, take_values}
 use Rattle.outcome_laws.specs.Deals.{Asked}
 use Rattle.outcome_laws.specs.Outcomes.{returns_at, has_error}
 use Rattle.outcome_laws.proofs.Shown.{notes_in}

@@ -10,18 +10,18 @@ use Rattle.stub_tables.specs.Lookup.{operation_at, operation_with, error_with}
 use Rattle.dialogue.specs.declared.call.Call.{Call}
 use Rattle.dialogue.specs.declared.indication.Indication.{Indication}
 use Rattle.dialogue.specs.declared.indication.Indication.TheVariants as indications
-use Rattle.end_rules.specs.Base.{Base, Carried, HeardHead, General, BadReject, InvokeHead, ResultHead, ErrorHead, RejectHead, is_reliable}
-use Rattle.end_rules.specs.Messages.{DataValue, Message, Transport, Session, OfAssociation, OfData, OfMarks, OfActivities, DataWord, Values, AlterContext, AlterContextAck}
-use Rattle.end_rules.specs.Messages.{ActivityWord, Start, Resume, End, EndAck, Interrupt, InterruptAck, Discard, DiscardAck}
-use Rattle.end_rules.specs.State.{Body, OpenCall, Calls, opens_of, opened_with, close}
-use Rattle.end_rules.specs.Invoking.{is_linked_to, operation_of}
-use Rattle.end_rules.specs.Hearing.{Rejecting, Heard, rejected, told, unless_problem, first_problem, problem_if, has_links, is_silent_at, link_problem, argument_problem, operation_problem, invoke_problem, invoked, result_problem, hear_result_of, error_problem, error_told, hear_error_of, is_of_invocation, hear_reject, hear, value_in, with_reject, take_head, head_of, take_values}
-use Rattle.end_rules.specs.TakesTransport.{shown_of_transport}
-use Rattle.end_rules.specs.TakesAssociation.{shown_of_association}
-use Rattle.end_rules.specs.TakesData.{values_taken, shown_of_data}
-use Rattle.end_rules.specs.TakesMarks.{shown_of_mark}
-use Rattle.end_rules.specs.TakesActivities.{received, handed_up, shown_of_activity}
-use Rattle.end_rules.specs.Reacting.{Takes, react}
+use Rattle.end_model.specs.end_rules.Base.{Base, Carried, HeardHead, General, BadReject, InvokeHead, ResultHead, ErrorHead, RejectHead, is_reliable}
+use Rattle.end_model.specs.end_rules.Messages.{DataValue, Message, Transport, Session, OfAssociation, OfData, OfMarks, OfActivities, DataWord, Values, AlterContext, AlterContextAck}
+use Rattle.end_model.specs.end_rules.Messages.{ActivityWord, Start, Resume, End, EndAck, Interrupt, InterruptAck, Discard, DiscardAck}
+use Rattle.end_model.specs.end_rules.State.{Body, OpenCall, Calls, opens_of, opened_with, close}
+use Rattle.end_model.specs.end_rules.Invoking.{is_linked_to, operation_of}
+use Rattle.end_model.specs.end_rules.Hearing.{Rejecting, Heard, rejected, told, unless_problem, first_problem, problem_if, has_links, is_silent_at, link_problem, argument_problem, operation_problem, invoke_problem, invoked, result_problem, hear_result_of, error_problem, error_told, hear_error_of, is_of_invocation, hear_reject, hear, value_in, with_reject, take_head, head_of, take_values}
+use Rattle.end_model.specs.end_rules.TakesTransport.{shown_of_transport}
+use Rattle.end_model.specs.end_rules.TakesAssociation.{shown_of_association}
+use Rattle.end_model.specs.end_rules.TakesData.{values_taken, shown_of_data}
+use Rattle.end_model.specs.end_rules.TakesMarks.{shown_of_mark}
+use Rattle.end_model.specs.end_rules.TakesActivities.{received, handed_up, shown_of_activity}
+use Rattle.end_model.specs.end_rules.Reacting.{Takes, react}
 use Rattle.agreement.specs.Sets.{Role}
 use Rattle.agreement.specs.Sets.Role.{Initiator, Responder}
 use Rattle.end_model.specs.Pairs.{Common, base_at, Two}

@@ -11,18 +11,18 @@ use Rattle.dialogue.specs.declared.call.Call.{Call}
 use Rattle.dialogue.specs.declared.call.Call.TheVariants as the_calls
 use Rattle.dialogue.specs.declared.call.CallRefusal.TheVariants as refusals
 use Rattle.dialogue.specs.declared.indication.Indication.{Indication}
-use Rattle.end_rules.specs.Base.{Base, Fault, is_reliable}
-use Rattle.end_rules.specs.Messages.{DataValue, Message, Transport, Session, Word, OfAssociation, OfData, OfMarks, OfActivities, TransportUnit, ConnectionRequest, ConnectionConfirm, DisconnectRequest, TransportError}
-use Rattle.end_rules.specs.Messages.{AssociationWord, Connect, Accept, Refuse, Finish, Disconnect, Abort, AbortAccept, DataWord, Values, AlterContext, AlterContextAck}
-use Rattle.end_rules.specs.Messages.{MarkWord, Mark, MarkAck, Restart, RestartAck, Give, Please, GiveConfirm, GiveAck, ActivityWord, Start, Resume, End, EndAck, Interrupt, InterruptAck, Discard, DiscardAck}
-use Rattle.end_rules.specs.State.{Body, OpenCall, Calls, opened_with, cut_all}
-use Rattle.end_rules.specs.Invoking.{next_id, can_invoke_operation, is_stopped}
-use Rattle.end_rules.specs.Connecting.{is_refused, recovers_in}
-use Rattle.end_rules.specs.Calling.{can_call}
-use Rattle.end_rules.specs.Requesting.{handed_in, invoking, after_invoke, answering, after_outcome, result_in, error_for, after_accepted, due_of, mark_sent, values_sent, after_sent_association, after_sent_data, after_sent_mark, after_sent_activity, after_sent_word, after_sent_transport, after_sent}
-use Rattle.end_rules.specs.ByItself.{OwnAct, SendsNow, EncodesOn}
-use Rattle.end_rules.specs.Reacting.{Reaction, Passes, Takes, Fails, react}
-use Rattle.end_rules.specs.History.{after_step, step_of, after_broke, off_line}
+use Rattle.end_model.specs.end_rules.Base.{Base, Fault, is_reliable}
+use Rattle.end_model.specs.end_rules.Messages.{DataValue, Message, Transport, Session, Word, OfAssociation, OfData, OfMarks, OfActivities, TransportUnit, ConnectionRequest, ConnectionConfirm, DisconnectRequest, TransportError}
+use Rattle.end_model.specs.end_rules.Messages.{AssociationWord, Connect, Accept, Refuse, Finish, Disconnect, Abort, AbortAccept, DataWord, Values, AlterContext, AlterContextAck}
+use Rattle.end_model.specs.end_rules.Messages.{MarkWord, Mark, MarkAck, Restart, RestartAck, Give, Please, GiveConfirm, GiveAck, ActivityWord, Start, Resume, End, EndAck, Interrupt, InterruptAck, Discard, DiscardAck}
+use Rattle.end_model.specs.end_rules.State.{Body, OpenCall, Calls, opened_with, cut_all}
+use Rattle.end_model.specs.end_rules.Invoking.{next_id, can_invoke_operation, is_stopped}
+use Rattle.end_model.specs.end_rules.Connecting.{is_refused, recovers_in}
+use Rattle.end_model.specs.end_rules.Calling.{can_call}
+use Rattle.end_model.specs.end_rules.Requesting.{handed_in, invoking, after_invoke, answering, after_outcome, result_in, error_for, after_accepted, due_of, mark_sent, values_sent, after_sent_association, after_sent_data, after_sent_mark, after_sent_activity, after_sent_word, after_sent_transport, after_sent}
+use Rattle.end_model.specs.end_rules.ByItself.{OwnAct, SendsNow, EncodesOn}
+use Rattle.end_model.specs.end_rules.Reacting.{Reaction, Passes, Takes, Fails, react}
+use Rattle.end_model.specs.end_rules.History.{after_step, step_of, after_broke, off_line}
 use Rattle.agreement.specs.Sets.{Role}
 use Rattle.agreement.specs.Sets.Role.{Initiator, Responder}
 use Rattle.end_model.specs.Rows.{at}

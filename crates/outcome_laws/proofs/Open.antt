@@ -9,9 +9,9 @@ use Rattle.std.proofs.lemmas.List.{append-nil}
 use Rattle.stub_tables.specs.declared.tables.Tables.{Tables}
 use Rattle.stub_tables.specs.Lookup.{operation_at}
 use Rattle.dialogue.specs.declared.indication.Indication.{Indication}
-use Rattle.end_rules.specs.Base.{Base}
-use Rattle.end_rules.specs.State.{OpenCall, Calls, is_key, opened_with, closed, close, orphaned}
-use Rattle.end_rules.specs.Hearing.{is_silent_at, opening}
+use Rattle.end_model.specs.end_rules.Base.{Base}
+use Rattle.end_model.specs.end_rules.State.{OpenCall, Calls, is_key, opened_with, closed, close, orphaned}
+use Rattle.end_model.specs.end_rules.Hearing.{is_silent_at, opening}
 use Rattle.end_model.proofs.Numbered.{opened-snoc, opened-closed, same-own, same-id, same-key, or-first, or-second, or-none}
 use Rattle.outcome_laws.specs.Deals.{AreDistinct, Asked, outcome_in, outcomes_in}
 use Rattle.outcome_laws.specs.Outcomes.{IsIn, IfOutcome, allows, Allowed, AreAllowed}

@@ -1,7 +1,7 @@
 -- What two ends deal is what they reach, and what was sent is met in its place or on its way.
 use Rattle.std.proofs.Common.{◌≡◌, refl, ◌∙◌, sym, ap, List, [], ◌∷◌, ◌++◌}
 use Rattle.std.proofs.lemmas.List.{append-nil, append_assoc}
-use Rattle.end_rules.specs.Messages.{Message}
+use Rattle.end_model.specs.end_rules.Messages.{Message}
 use Rattle.agreement.specs.Sets.{Role}
 use Rattle.agreement.specs.Sets.Role.{Initiator, Responder}
 use Rattle.end_model.specs.Pairs.{Common, Two, coming_to}

@@ -6,20 +6,20 @@ use Rattle.stub_tables.specs.declared.tables.Tables.{Tables}
 use Rattle.stub_tables.specs.declared.apdu.Apdu.{Apdu}
 use Rattle.dialogue.specs.declared.config.Config.{Config}
 use Rattle.dialogue.specs.declared.indication.Indication.{Indication}
-use Rattle.end_rules.specs.Base.{Base, Spellings, Fault, Item, Arrived, Whole, is_bare, is_reliable}
-use Rattle.end_rules.specs.Messages.{DataValue, Message, Transport, Session, Word, OfAssociation, OfData, OfMarks, OfActivities, TransportUnit, unit_of}
-use Rattle.end_rules.specs.Messages.{DataWord, Values, AlterContext, AlterContextAck}
-use Rattle.end_rules.specs.Messages.{ActivityWord, Start, Resume, End, EndAck, Interrupt, InterruptAck, Discard, DiscardAck}
-use Rattle.end_rules.specs.State.{Body, is_carrying, is_joined, passes_over}
-use Rattle.end_rules.specs.Purging.{is_purged, is_transport_purged}
-use Rattle.end_rules.specs.Hearing.{take_values}
-use Rattle.end_rules.specs.Faults.{transport_fault}
-use Rattle.end_rules.specs.TakesTransport.{transport_unit_fault, shown_of_transport}
-use Rattle.end_rules.specs.TakesAssociation.{shown_of_association}
-use Rattle.end_rules.specs.TakesData.{values_taken, shown_of_data}
-use Rattle.end_rules.specs.TakesMarks.{shown_of_mark}
-use Rattle.end_rules.specs.TakesActivities.{received, arrived_now, arrived_value, values_arrived, handed_up, taken_at_end, shown_of_activity}
-use Rattle.end_rules.specs.Reacting.{Reaction, Passes, Takes, Fails, fails, shown_of_word, fault_above, word_fault, on_word, react_to_word, on_transport, react_to_session, react_alive, react}
+use Rattle.end_model.specs.end_rules.Base.{Base, Spellings, Fault, Item, Arrived, Whole, is_bare, is_reliable}
+use Rattle.end_model.specs.end_rules.Messages.{DataValue, Message, Transport, Session, Word, OfAssociation, OfData, OfMarks, OfActivities, TransportUnit, unit_of}
+use Rattle.end_model.specs.end_rules.Messages.{DataWord, Values, AlterContext, AlterContextAck}
+use Rattle.end_model.specs.end_rules.Messages.{ActivityWord, Start, Resume, End, EndAck, Interrupt, InterruptAck, Discard, DiscardAck}
+use Rattle.end_model.specs.end_rules.State.{Body, is_carrying, is_joined, passes_over}
+use Rattle.end_model.specs.end_rules.Purging.{is_purged, is_transport_purged}
+use Rattle.end_model.specs.end_rules.Hearing.{take_values}
+use Rattle.end_model.specs.end_rules.Faults.{transport_fault}
+use Rattle.end_model.specs.end_rules.TakesTransport.{transport_unit_fault, shown_of_transport}
+use Rattle.end_model.specs.end_rules.TakesAssociation.{shown_of_association}
+use Rattle.end_model.specs.end_rules.TakesData.{values_taken, shown_of_data}
+use Rattle.end_model.specs.end_rules.TakesMarks.{shown_of_mark}
+use Rattle.end_model.specs.end_rules.TakesActivities.{received, arrived_now, arrived_value, values_arrived, handed_up, taken_at_end, shown_of_activity}
+use Rattle.end_model.specs.end_rules.Reacting.{Reaction, Passes, Takes, Fails, fails, shown_of_word, fault_above, word_fault, on_word, react_to_word, on_transport, react_to_session, react_alive, react}
 use Rattle.agreement.specs.Sets.{Role, other}
 use Rattle.agreement.specs.Sets.Role.{Initiator, Responder}
 use Rattle.end_model.specs.Seen.{Free}

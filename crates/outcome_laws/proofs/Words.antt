@@ -10,23 +10,23 @@ use Rattle.dialogue.specs.declared.config.Mode.{Mode}
 use Rattle.dialogue.specs.declared.config.Mode.TheVariants.{Bare, Direct, Reliable}
 use Rattle.dialogue.specs.declared.indication.Indication.{Indication}
 use Rattle.dialogue.specs.declared.indication.Indication.TheVariants as indications
-use Rattle.end_rules.specs.Base.{Base, Fault, is_bare, is_reliable}
-use Rattle.end_rules.specs.Sets.{Alteration}
-use Rattle.end_rules.specs.Messages.{DataValue, Message, Transport, Session, Word, OfAssociation, OfData, OfMarks, OfActivities, TransportUnit, ConnectionRequest, ConnectionConfirm, DisconnectRequest, TransportError}
-use Rattle.end_rules.specs.Messages.{AssociationWord, Connect, Accept, Refuse, Finish, Disconnect, Abort, AbortAccept, DataWord, Values, AlterContext, AlterContextAck}
-use Rattle.end_rules.specs.Messages.{MarkWord, Mark, MarkAck, Restart, RestartAck, Give, Please, GiveConfirm, GiveAck, ActivityWord, Start, Resume, End, EndAck, Interrupt, InterruptAck, Discard, DiscardAck}
-use Rattle.end_rules.specs.Messages.{unit_of}
-use Rattle.end_rules.specs.State.{Body, OpenCall, Calls, is_broken, is_carrying, is_joined, opened_with, close, passes_over, post_order}
-use Rattle.end_rules.specs.Faults.{cut_of, cuts, losses, transport_fault}
-use Rattle.end_rules.specs.Writing.{is_recovering}
-use Rattle.end_rules.specs.Purging.{is_purged, is_transport_purged}
-use Rattle.end_rules.specs.Connecting.{is_refused, recovers_in, refused_connect, accepted_connect, begun_with, joined_with, shown_opening, set_for, agreed_for}
-use Rattle.end_rules.specs.TakesAssociation.{aborted_by_peer, shown_of_association}
-use Rattle.end_rules.specs.TakesTransport.{transport_unit_fault, after_transport, shown_of_transport}
-use Rattle.end_rules.specs.TakesData.{with_parts, values_taken, settled, shown_settled, shown_of_data}
-use Rattle.end_rules.specs.TakesMarks.{marked_in, mark_shown, confirmed_in, with_turn, shown_turn, priority_in, shown_plea, shown_please, shown_of_mark}
-use Rattle.end_rules.specs.TakesActivities.{invocation_in, cut_invocation, shown_cut, received, handed_up, shown_of_activity}
-use Rattle.end_rules.specs.Reacting.{Reaction, Passes, Takes, Fails, fails, after_word, shown_of_word, fault_above, word_fault, contexts_of_word, on_word, react_to_word, on_transport, react_to_transport, react_to_session, react_alive, react}
+use Rattle.end_model.specs.end_rules.Base.{Base, Fault, is_bare, is_reliable}
+use Rattle.end_model.specs.end_rules.Sets.{Alteration}
+use Rattle.end_model.specs.end_rules.Messages.{DataValue, Message, Transport, Session, Word, OfAssociation, OfData, OfMarks, OfActivities, TransportUnit, ConnectionRequest, ConnectionConfirm, DisconnectRequest, TransportError}
+use Rattle.end_model.specs.end_rules.Messages.{AssociationWord, Connect, Accept, Refuse, Finish, Disconnect, Abort, AbortAccept, DataWord, Values, AlterContext, AlterContextAck}
+use Rattle.end_model.specs.end_rules.Messages.{MarkWord, Mark, MarkAck, Restart, RestartAck, Give, Please, GiveConfirm, GiveAck, ActivityWord, Start, Resume, End, EndAck, Interrupt, InterruptAck, Discard, DiscardAck}
+use Rattle.end_model.specs.end_rules.Messages.{unit_of}
+use Rattle.end_model.specs.end_rules.State.{Body, OpenCall, Calls, is_broken, is_carrying, is_joined, opened_with, close, passes_over, post_order}
+use Rattle.end_model.specs.end_rules.Faults.{cut_of, cuts, losses, transport_fault}
+use Rattle.end_model.specs.end_rules.Writing.{is_recovering}
+use Rattle.end_model.specs.end_rules.Purging.{is_purged, is_transport_purged}
+use Rattle.end_model.specs.end_rules.Connecting.{is_refused, recovers_in, refused_connect, accepted_connect, begun_with, joined_with, shown_opening, set_for, agreed_for}
+use Rattle.end_model.specs.end_rules.TakesAssociation.{aborted_by_peer, shown_of_association}
+use Rattle.end_model.specs.end_rules.TakesTransport.{transport_unit_fault, after_transport, shown_of_transport}
+use Rattle.end_model.specs.end_rules.TakesData.{with_parts, values_taken, settled, shown_settled, shown_of_data}
+use Rattle.end_model.specs.end_rules.TakesMarks.{marked_in, mark_shown, confirmed_in, with_turn, shown_turn, priority_in, shown_plea, shown_please, shown_of_mark}
+use Rattle.end_model.specs.end_rules.TakesActivities.{invocation_in, cut_invocation, shown_cut, received, handed_up, shown_of_activity}
+use Rattle.end_model.specs.end_rules.Reacting.{Reaction, Passes, Takes, Fails, fails, after_word, shown_of_word, fault_above, word_fault, contexts_of_word, on_word, react_to_word, on_transport, react_to_transport, react_to_session, react_alive, react}
 use Rattle.outcome_laws.specs.Deals.{Asked, kept_unless, still_after}
 use Rattle.outcome_laws.proofs.Open.{Once, once-new, once-still, once-cut, once-close}
 use Rattle.outcome_laws.proofs.Shown.{notes_in, notes-append}

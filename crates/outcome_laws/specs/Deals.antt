@@ -9,15 +9,15 @@ use Rattle.dialogue.specs.declared.call.Call.{Call}
 use Rattle.dialogue.specs.declared.call.Call.TheVariants as the_calls
 use Rattle.dialogue.specs.declared.indication.Indication.{Indication}
 use Rattle.dialogue.specs.declared.indication.Indication.TheVariants as indications
-use Rattle.end_rules.specs.Base.{Base, Fault}
-use Rattle.end_rules.specs.Messages.{Message, Session, OfAssociation, Connect}
-use Rattle.end_rules.specs.State.{Body}
-use Rattle.end_rules.specs.Connecting.{is_refused, recovers_in}
-use Rattle.end_rules.specs.Calling.{can_call}
-use Rattle.end_rules.specs.Requesting.{due_of}
-use Rattle.end_rules.specs.ByItself.{OwnAct, next_own}
-use Rattle.end_rules.specs.Reacting.{Passes, Takes, Fails, react}
-use Rattle.end_rules.specs.History.{after_step, step_of}
+use Rattle.end_model.specs.end_rules.Base.{Base, Fault}
+use Rattle.end_model.specs.end_rules.Messages.{Message, Session, OfAssociation, Connect}
+use Rattle.end_model.specs.end_rules.State.{Body}
+use Rattle.end_model.specs.end_rules.Connecting.{is_refused, recovers_in}
+use Rattle.end_model.specs.end_rules.Calling.{can_call}
+use Rattle.end_model.specs.end_rules.Requesting.{due_of}
+use Rattle.end_model.specs.end_rules.ByItself.{OwnAct, next_own}
+use Rattle.end_model.specs.end_rules.Reacting.{Passes, Takes, Fails, react}
+use Rattle.end_model.specs.end_rules.History.{after_step, step_of}
 use Rattle.agreement.specs.Sets.{Role, other}
 use Rattle.agreement.specs.Sets.Role.{Initiator, Responder}
 use Rattle.end_model.specs.Acting.{apdus_of}

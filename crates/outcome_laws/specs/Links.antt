@@ -4,7 +4,7 @@ use Rattle.stub_tables.specs.declared.tables.Tables.{Tables}
 use Rattle.stub_tables.specs.Lookup.{operation_at}
 use Rattle.dialogue.specs.declared.indication.Indication.{Indication}
 use Rattle.dialogue.specs.declared.indication.Indication.TheVariants as indications
-use Rattle.end_rules.specs.Invoking.{is_linked_to}
+use Rattle.end_model.specs.end_rules.Invoking.{is_linked_to}
 use Rattle.agreement.specs.Sets.{Role}
 use Rattle.outcome_laws.specs.Deals.{Asked, dealt_of, EverDeals}
 use Rattle.outcome_laws.specs.Outcomes.{IsIn}

@@ -10,8 +10,8 @@ use Rattle.stub_tables.specs.Codes.{is_error_of}
 use Rattle.stub_tables.specs.Lookup.{operation_at, error_with}
 use Rattle.dialogue.specs.declared.indication.Indication.{Indication}
 use Rattle.dialogue.specs.declared.indication.Indication.TheVariants as indications
-use Rattle.end_rules.specs.Base.{is_reliable}
-use Rattle.end_rules.specs.Hearing.{is_of_invocation}
+use Rattle.end_model.specs.end_rules.Base.{is_reliable}
+use Rattle.end_model.specs.end_rules.Hearing.{is_of_invocation}
 use Rattle.agreement.specs.Sets.{Role, other}
 use Rattle.end_model.specs.Pairs.{Common, Two}
 use Rattle.reliable_model.specs.Goes.{Ledger}

@@ -1,7 +1,7 @@
 -- In reliable mode too an outcome that an end is told is one that the other end wrote.
 use Rattle.dialogue.specs.declared.config.Config.{Config}
 use Rattle.stub_tables.specs.declared.tables.Tables.{Tables}
-use Rattle.end_rules.specs.Base.{Spellings}
+use Rattle.end_model.specs.end_rules.Base.{Spellings}
 use Rattle.agreement.specs.Sets.{Role, other}
 use Rattle.agreement.specs.Sets.Role.{Initiator}
 use Rattle.end_model.specs.Seen.{Free}

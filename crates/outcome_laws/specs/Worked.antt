@@ -3,8 +3,8 @@ use Rattle.std.specs.Prelude.{◌≡◌, ℤ, pos, List, [], ◌∷◌, true, fa
 use Rattle.stub_tables.specs.declared.apdu.Apdu.TheVariants as apdus
 use Rattle.stub_tables.specs.declared.operation.Code.TheVariants.{Local}
 use Rattle.dialogue.specs.declared.config.Mode.TheVariants.{Bare}
-use Rattle.end_rules.specs.Cases.{calc, plain_spellings, config_of}
-use Rattle.end_rules.specs.Messages.{Message}
+use Rattle.end_model.specs.end_rules.Cases.{calc, plain_spellings, config_of}
+use Rattle.end_model.specs.end_rules.Messages.{Message}
 use Rattle.end_model.specs.Pairs.{Common, Two}
 use Rattle.reliable_model.specs.Goes.{Ledger}
 use Rattle.outcome_laws.specs.Deals.{outcomes_in, Asked, Dealings, Deals}

@@ -7,8 +7,8 @@ ghost use Rattle.association_reading.specs.Places as reading;
 ghost use Rattle.pdv_places.specs.Seen.{spot_of, begins_with, user_data_of, Fits, AllFit, seen_places, place_in, places_at};
 
 use crate::spots::{Spot, contents_of, values_in};
+use association_reading::presentation_pdus_layer::PpduPlace;
 use osi_base::NoMemory;
-use presentation_pdus::PpduPlace;
 use std::alloc::Global;
 
 /// Of one value: the places of the contents of its transfer syntax name and of its identifier, and

@@ -8,7 +8,8 @@ use Rattle.osi_base.specs.declared.presentation_word.PresentationWord.TheVariant
 use Rattle.asn1_types.specs.Value.{Value, integer, octets, parts, chosen}
 use Rattle.asn1_types.specs.ValueView.{parts_of}
 use Rattle.fixed_tables.specs.Pdvs.{pdv_value}
-use Rattle.presentation_pdus.specs.Items.{number_value, bits_value, list_value, some_list, definition_value, answer_value, restored_value}
+use Rattle.fixed_tables.specs.Values.{bits_value}
+use Rattle.presentation_pdus.specs.Items.{number_value, list_value, some_list, definition_value, answer_value, restored_value}
 use Rattle.presentation_pdus.specs.Words.{with_mode}
 
 abbrev pub connect_read : connects.PresentationConnect → List (Option Value)

@@ -17,9 +17,9 @@ use Rattle.osi_base.specs.declared.presentation_word.PresentationWord as units
 use Rattle.osi_base.specs.declared.presentation_word.PresentationWord.TheVariants as unit
 use Rattle.asn1_types.specs.Value.{Value, integer, octets, object_id, parts}
 use Rattle.asn1_types.specs.ValueView.{parts_of, values_of}
-use Rattle.fixed_tables.specs.Values.{nth_part, natural_in, small_or, octet_of, maybe_octets, maybe_arcs, maybe_bits, values_list, items_in}
+use Rattle.fixed_tables.specs.Values.{nth_part, natural_in, small_or, octet_of, maybe_octets, maybe_arcs, maybe_bits, values_list, items_in, bits_value}
 use Rattle.fixed_tables.specs.Pdvs.{content_value, content_in, pdv_value, pdv_in}
-use Rattle.presentation_pdus.specs.Items.{number_value, number_in, octet_in, name_in, bits_value, list_value, some_list, definition_value, definition_in, answer_value, answer_in, restored_value, restored_in}
+use Rattle.presentation_pdus.specs.Items.{number_value, number_in, octet_in, name_in, list_value, some_list, definition_value, definition_in, answer_value, answer_in, restored_value, restored_in}
 use Rattle.presentation_pdus.specs.Words.{integer_in, contexts_in, said, connect_in, accept_in, reject_in}
 use Rattle.ppdu_laws.specs.Written.{is_short, is_small, all_of, definition_sized, answer_sized, restored_sized, pdv_sized, is_written_whole}
 use Rattle.ppdu_laws.proofs.BackValues.{connect_read, accept_read, reject_read, read_value}

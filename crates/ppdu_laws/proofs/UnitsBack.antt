@@ -25,7 +25,8 @@ use Rattle.presentation_pdus.specs.declared.place.PpduPlace.{PpduPlace}
 use Rattle.presentation_pdus.specs.declared.place.PpduPlace.TheVariants as place
 use Rattle.presentation_pdus.specs.Rows.{ppdu_rows}
 use Rattle.fixed_tables.specs.Pdvs.{pdv_value}
-use Rattle.presentation_pdus.specs.Items.{number_value, bits_value, list_value, some_list, definition_value, answer_value, restored_value}
+use Rattle.fixed_tables.specs.Values.{bits_value}
+use Rattle.presentation_pdus.specs.Items.{number_value, list_value, some_list, definition_value, answer_value, restored_value}
 use Rattle.presentation_pdus.specs.Words.{normal_mode, with_mode, row_of, value_of, written_ppdu}
 use Rattle.presentation_pdus.specs.Fields.{context_tag, sequence_tag, connect_fields, connect_passed, accept_fields, accept_passed, reject_fields, alter_fields, alter_ack_fields, restart_fields, user_abort_fields, provider_abort_fields}
 use Rattle.presentation_pdus.specs.Units.{Fielded, DataIs, PpduIs, SpellsPpdu}

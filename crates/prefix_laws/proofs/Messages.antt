@@ -9,8 +9,8 @@ use Rattle.tpkt.specs.Stream.{IsOctets, unit_at}
 use Rattle.tpkt.proofs.StreamLaws.{split_read, less_than_a_packet, splits_join, handed_join, octets_join}
 use Rattle.tpkt.proofs.WrittenLaws.{connect_is, confirm_is, disconnect_is}
 use Rattle.end_rules.specs.Messages.{TransportUnit, ConnectionRequest, ConnectionConfirm, DisconnectRequest, TransportError, Message, Transport, Session}
-use Rattle.association_wire.specs.Written.{request_ends, confirm_ends, written_unit, written, tsdu_of}
-use Rattle.association_reading.specs.Front.{Front, OfTransport, fronts_of, all_fronts}
+use Rattle.association_worlds.specs.association_wire.Written.{request_ends, confirm_ends, written_unit, written, tsdu_of}
+use Rattle.association_worlds.specs.association_reading.Front.{Front, OfTransport, fronts_of, all_fronts}
 use Rattle.osi_base.specs.Limits.{IsUnitSize}
 use Rattle.association_worlds.specs.Ways.{IsOfTransport, IsCarried, front_of, Sent, text_of, texts, fronts_of_sent, AreWritten}
 use Rattle.association_worlds.proofs.Streams.{word-front, small-octets, texts-octets}

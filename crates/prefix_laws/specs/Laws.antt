@@ -7,7 +7,7 @@ use Rattle.tpkt.specs.declared.packet.Packet.TheVariants.{Tsdu}
 use Rattle.tpkt.specs.Wire.{Tpdu, Splits, begun_after, begun_by, handed_for, handed}
 use Rattle.tpkt.specs.Written.{written_tsdu}
 use Rattle.tpkt.specs.Reader.{nothing, reading}
-use Rattle.association_reading.specs.Front.{all_fronts}
+use Rattle.association_worlds.specs.association_reading.Front.{all_fronts}
 use Rattle.association_worlds.specs.Ways.{Sent, text_of, texts, fronts_of_sent, AreWritten}
 
 -- A stream is whole units, of which the last hands up this packet and those before it nothing; no data of a TSDU are left behind it.

@@ -3,17 +3,17 @@ use Rattle.std.proofs.Common.{◌≡◌, refl, true, false, ◌∙◌, sym, ap, 
 use Rattle.std.specs.Prelude.{Bool, Option, Some, None, Ok, option_map, if◌then◌else◌}
 use Rattle.osi_base.specs.declared.syntax.Pair.{Pair}
 use Rattle.stub_tables.specs.declared.tables.Tables.{Tables}
-use Rattle.dialogue.specs.declared.config.Config.{Config}
-use Rattle.dialogue.specs.declared.config.Phase.TheVariants.{Broken, Over}
-use Rattle.dialogue.specs.declared.indication.Indication.{Indication}
-use Rattle.end_rules.specs.Base.{Base, Spellings, Item, Whole}
-use Rattle.end_rules.specs.Messages.{Message, TransportUnit, AssociationWord, Transport, Session, Word, OfAssociation, OfActivities, End}
-use Rattle.end_rules.specs.Messages.{unit_of}
-use Rattle.end_rules.specs.State.{Body, Carrying}
+use Rattle.end_model.specs.dialogue.declared.config.Config.{Config}
+use Rattle.end_model.specs.dialogue.declared.config.Phase.TheVariants.{Broken, Over}
+use Rattle.end_model.specs.dialogue.declared.indication.Indication.{Indication}
+use Rattle.end_model.specs.end_rules.Base.{Base, Spellings, Item, Whole}
+use Rattle.end_model.specs.end_rules.Messages.{Message, TransportUnit, AssociationWord, Transport, Session, Word, OfAssociation, OfActivities, End}
+use Rattle.end_model.specs.end_rules.Messages.{unit_of}
+use Rattle.end_model.specs.end_rules.State.{Body, Carrying}
 use Rattle.osi_base.specs.SetPlaces.{pair_of}
-use Rattle.end_rules.specs.Purging.{is_purged}
-use Rattle.end_rules.specs.TakesActivities.{arrived_now}
-use Rattle.end_rules.specs.Reacting.{Passes, Takes, react, on_word, word_fault}
+use Rattle.end_model.specs.end_rules.Purging.{is_purged}
+use Rattle.end_model.specs.end_rules.TakesActivities.{arrived_now}
+use Rattle.end_model.specs.end_rules.Reacting.{Passes, Takes, react, on_word, word_fault}
 use Rattle.agreement.specs.Sets.{Role, other, is_initiator}
 use Rattle.agreement.specs.Sets.Role.{Initiator, Responder}
 use Rattle.agreement.specs.Messages as model

@@ -10,23 +10,23 @@ use Rattle.stub_tables.specs.declared.operation.Operation.{Operation}
 use Rattle.stub_tables.specs.declared.operation.ErrorRow.{ErrorRow}
 use Rattle.stub_tables.specs.declared.tables.Tables.{Tables}
 use Rattle.stub_tables.specs.Lookup.{operation_at, error_at}
-use Rattle.dialogue.specs.declared.config.Config.{Config}
-use Rattle.dialogue.specs.declared.config.Mode.TheVariants.{Reliable}
-use Rattle.dialogue.specs.declared.config.Phase.TheVariants.{Up, Releasing, Over}
-use Rattle.dialogue.specs.declared.call.Call.{Call}
-use Rattle.dialogue.specs.declared.call.Call.TheVariants as the_calls
-use Rattle.dialogue.specs.declared.call.CallRefusal.TheVariants as refusals
-use Rattle.end_rules.specs.Base.{Base, Spellings}
-use Rattle.end_rules.specs.Messages.{Message, Session, OfActivities, Start}
-use Rattle.end_rules.specs.State.{Queued, Transfer, Body, Link, Carrying, OpenCall, opened_with, is_carrying, is_broken}
-use Rattle.end_rules.specs.Writing.{user_abort}
-use Rattle.end_rules.specs.Faults.{over}
-use Rattle.end_rules.specs.Invoking.{is_too_long}
-use Rattle.end_rules.specs.Calling.{can_call, is_idle}
-use Rattle.end_rules.specs.Requesting.{after_call, after_invoke, after_outcome, due_invoke, due_outcome, result_in, result_for}
-use Rattle.end_rules.specs.Requesting.{error_for, operation_opened, resumed, due_of}
-use Rattle.end_rules.specs.ByItself.{OwnAct, SendsNow, EncodesOn, next_own}
-use Rattle.end_rules.specs.History.{after_step, step_of}
+use Rattle.end_model.specs.dialogue.declared.config.Config.{Config}
+use Rattle.end_model.specs.dialogue.declared.config.Mode.TheVariants.{Reliable}
+use Rattle.end_model.specs.dialogue.declared.config.Phase.TheVariants.{Up, Releasing, Over}
+use Rattle.end_model.specs.dialogue.declared.call.Call.{Call}
+use Rattle.end_model.specs.dialogue.declared.call.Call.TheVariants as the_calls
+use Rattle.end_model.specs.dialogue.declared.call.CallRefusal.TheVariants as refusals
+use Rattle.end_model.specs.end_rules.Base.{Base, Spellings}
+use Rattle.end_model.specs.end_rules.Messages.{Message, Session, OfActivities, Start}
+use Rattle.end_model.specs.end_rules.State.{Queued, Transfer, Body, Link, Carrying, OpenCall, opened_with, is_carrying, is_broken}
+use Rattle.end_model.specs.end_rules.Writing.{user_abort}
+use Rattle.end_model.specs.end_rules.Faults.{over}
+use Rattle.end_model.specs.end_rules.Invoking.{is_too_long}
+use Rattle.end_model.specs.end_rules.Calling.{can_call, is_idle}
+use Rattle.end_model.specs.end_rules.Requesting.{after_call, after_invoke, after_outcome, due_invoke, due_outcome, result_in, result_for}
+use Rattle.end_model.specs.end_rules.Requesting.{error_for, operation_opened, resumed, due_of}
+use Rattle.end_model.specs.end_rules.ByItself.{OwnAct, SendsNow, EncodesOn, next_own}
+use Rattle.end_model.specs.end_rules.History.{after_step, step_of}
 use Rattle.agreement.specs.Sets.{Role, named, AreDistinct}
 use Rattle.agreement.specs.Sets.Role.{Initiator, Responder}
 use Rattle.agreement.specs.Messages as model

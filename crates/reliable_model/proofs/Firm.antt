@@ -7,20 +7,20 @@ use Rattle.osi_base.specs.declared.layer_words.SetItem.{SetItem}
 use Rattle.osi_base.specs.declared.layer_words.Problem.{Problem}
 use Rattle.stub_tables.specs.declared.operation.Code.{Code}
 use Rattle.stub_tables.specs.Lookup.{operation_at, operation_with, error_with}
-use Rattle.dialogue.specs.declared.config.Mode.TheVariants.{Reliable}
-use Rattle.end_rules.specs.Base.{Base, Fault, Arrived, Whole, Raw, Carried, HeardHead, General, BadReject, InvokeHead, ResultHead, ErrorHead, RejectHead}
-use Rattle.end_rules.specs.Sets.{Alteration, same_name, is_among, named_ids, has_abstract, is_fixed}
+use Rattle.end_model.specs.dialogue.declared.config.Mode.TheVariants.{Reliable}
+use Rattle.end_model.specs.end_rules.Base.{Base, Fault, Arrived, Whole, Raw, Carried, HeardHead, General, BadReject, InvokeHead, ResultHead, ErrorHead, RejectHead}
+use Rattle.end_model.specs.end_rules.Sets.{Alteration, same_name, is_among, named_ids, has_abstract, is_fixed}
 use Rattle.osi_base.specs.SetPlaces.{pair_of}
-use Rattle.end_rules.specs.State.{Body, OpenCall, Calls, Queued, Piece, Octets, Marked, Transfer}
-use Rattle.end_rules.specs.State.{is_key, opened_with, orphaned, closed, close, from_mark, up_to, newest_set, highest, pieces_of, confirmed_of}
-use Rattle.end_rules.specs.State.{resumed_set, on_transfer, on_current}
-use Rattle.end_rules.specs.Invoking.{is_on_module}
-use Rattle.end_rules.specs.Hearing.{is_silent_at, opening, Heard, told, Rejecting, unless_problem, invoked, invoke_problem}
-use Rattle.end_rules.specs.Hearing.{result_problem, hear_result_of, error_problem, error_told, hear_error_of, is_of_invocation, hear_reject, hear}
-use Rattle.end_rules.specs.Hearing.{with_reject, take_head, take_values}
-use Rattle.end_rules.specs.Requesting.{begun, resumed}
-use Rattle.end_rules.specs.TakesActivities.{values_arrived}
-use Rattle.dialogue.specs.declared.indication.Indication.TheVariants as indications
+use Rattle.end_model.specs.end_rules.State.{Body, OpenCall, Calls, Queued, Piece, Octets, Marked, Transfer}
+use Rattle.end_model.specs.end_rules.State.{is_key, opened_with, orphaned, closed, close, from_mark, up_to, newest_set, highest, pieces_of, confirmed_of}
+use Rattle.end_model.specs.end_rules.State.{resumed_set, on_transfer, on_current}
+use Rattle.end_model.specs.end_rules.Invoking.{is_on_module}
+use Rattle.end_model.specs.end_rules.Hearing.{is_silent_at, opening, Heard, told, Rejecting, unless_problem, invoked, invoke_problem}
+use Rattle.end_model.specs.end_rules.Hearing.{result_problem, hear_result_of, error_problem, error_told, hear_error_of, is_of_invocation, hear_reject, hear}
+use Rattle.end_model.specs.end_rules.Hearing.{with_reject, take_head, take_values}
+use Rattle.end_model.specs.end_rules.Requesting.{begun, resumed}
+use Rattle.end_model.specs.end_rules.TakesActivities.{values_arrived}
+use Rattle.end_model.specs.dialogue.declared.indication.Indication.TheVariants as indications
 use Rattle.end_model.specs.Rows.{at}
 use Rattle.end_model.proofs.Handing.{has-pair}
 use Rattle.end_model.proofs.Fitting.{one-name, same-itself}

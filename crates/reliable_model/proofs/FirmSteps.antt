@@ -9,33 +9,33 @@ use Rattle.asn1_types.specs.declared.value.Val.{Val}
 use Rattle.stub_tables.specs.declared.apdu.Apdu.{Apdu}
 use Rattle.stub_tables.specs.declared.operation.Operation.{Operation}
 use Rattle.stub_tables.specs.Lookup.{operation_at, error_at}
-use Rattle.dialogue.specs.declared.config.Mode.TheVariants.{Reliable}
-use Rattle.dialogue.specs.declared.call.Call.{Call}
-use Rattle.dialogue.specs.declared.call.Call.TheVariants as the_calls
-use Rattle.dialogue.specs.declared.call.CallRefusal.{CallRefusal}
-use Rattle.dialogue.specs.declared.call.CallRefusal.TheVariants as refusals
-use Rattle.end_rules.specs.Base.{Base, Fault, Arrived}
-use Rattle.end_rules.specs.Sets.{Alteration, is_among, named_ids, proposed_ids, is_fixed, altered}
+use Rattle.end_model.specs.dialogue.declared.config.Mode.TheVariants.{Reliable}
+use Rattle.end_model.specs.dialogue.declared.call.Call.{Call}
+use Rattle.end_model.specs.dialogue.declared.call.Call.TheVariants as the_calls
+use Rattle.end_model.specs.dialogue.declared.call.CallRefusal.{CallRefusal}
+use Rattle.end_model.specs.dialogue.declared.call.CallRefusal.TheVariants as refusals
+use Rattle.end_model.specs.end_rules.Base.{Base, Fault, Arrived}
+use Rattle.end_model.specs.end_rules.Sets.{Alteration, is_among, named_ids, proposed_ids, is_fixed, altered}
 use Rattle.osi_base.specs.SetPlaces.{pair_of}
-use Rattle.end_rules.specs.Messages.{DataValue, Word, OfAssociation, OfData, OfMarks, OfActivities, Finish, Disconnect}
-use Rattle.end_rules.specs.Messages.{Abort, Values, AlterContext, AlterContextAck, Mark, MarkAck, Please, GiveConfirm, GiveAck, Start, Resume}
-use Rattle.end_rules.specs.Messages.{End, EndAck, Interrupt, InterruptAck, Discard, DiscardAck, Session, unit_of}
-use Rattle.end_rules.specs.State.{Body, Link, Sets, Calls, Sending, OpenCall, Octets, Marked, Suspended, Ending, Transfer, Receiving, opened_with}
-use Rattle.end_rules.specs.State.{highest, pieces_of, confirmed_of, up_to, is_free, is_current, is_ending, is_carrying, on_transfer, is_suspended, between}
-use Rattle.end_rules.specs.Invoking.{is_stopped, can_invoke}
-use Rattle.end_rules.specs.Altering.{additions_refusal, deletions_refusal, alteration_refusal, is_bad, is_set_full, or_else, can_alter}
-use Rattle.end_rules.specs.Calling.{can_mark, can_by_rows, can_call}
-use Rattle.end_rules.specs.Writing.{user_abort}
-use Rattle.end_rules.specs.Requesting.{after_invoke, due_invoke, after_outcome, due_outcome, result_in, error_for, resumed}
-use Rattle.end_rules.specs.ByItself.{OwnAct, next_own, item_on, encoded_as}
-use Rattle.end_rules.specs.InPlace.{is_in_place, is_next_confirmed, may_resume_at}
-use Rattle.end_rules.specs.Policy.{policy, is_faulty_proposal}
-use Rattle.end_rules.specs.Faults.{fault_if, or_fault, session_fault, over, unexpected_ppdu, invalid_ppdu}
-use Rattle.end_rules.specs.TakesData.{with_parts, alteration, alter_fault, settled, part_in}
-use Rattle.end_rules.specs.TakesActivities.{arrived_now, values_arrived, invocation_in, cut_invocation, resumed_record, started_record, received}
-use Rattle.end_rules.specs.Hearing.{take_values}
-use Rattle.end_rules.specs.Reacting.{word_fault, fault_above, after_word}
-use Rattle.end_rules.specs.History.{after_step, step_of, after_broke}
+use Rattle.end_model.specs.end_rules.Messages.{DataValue, Word, OfAssociation, OfData, OfMarks, OfActivities, Finish, Disconnect}
+use Rattle.end_model.specs.end_rules.Messages.{Abort, Values, AlterContext, AlterContextAck, Mark, MarkAck, Please, GiveConfirm, GiveAck, Start, Resume}
+use Rattle.end_model.specs.end_rules.Messages.{End, EndAck, Interrupt, InterruptAck, Discard, DiscardAck, Session, unit_of}
+use Rattle.end_model.specs.end_rules.State.{Body, Link, Sets, Calls, Sending, OpenCall, Octets, Marked, Suspended, Ending, Transfer, Receiving, opened_with}
+use Rattle.end_model.specs.end_rules.State.{highest, pieces_of, confirmed_of, up_to, is_free, is_current, is_ending, is_carrying, on_transfer, is_suspended, between}
+use Rattle.end_model.specs.end_rules.Invoking.{is_stopped, can_invoke}
+use Rattle.end_model.specs.end_rules.Altering.{additions_refusal, deletions_refusal, alteration_refusal, is_bad, is_set_full, or_else, can_alter}
+use Rattle.end_model.specs.end_rules.Calling.{can_mark, can_by_rows, can_call}
+use Rattle.end_model.specs.end_rules.Writing.{user_abort}
+use Rattle.end_model.specs.end_rules.Requesting.{after_invoke, due_invoke, after_outcome, due_outcome, result_in, error_for, resumed}
+use Rattle.end_model.specs.end_rules.ByItself.{OwnAct, next_own, item_on, encoded_as}
+use Rattle.end_model.specs.end_rules.InPlace.{is_in_place, is_next_confirmed, may_resume_at}
+use Rattle.end_model.specs.end_rules.Policy.{policy, is_faulty_proposal}
+use Rattle.end_model.specs.end_rules.Faults.{fault_if, or_fault, session_fault, over, unexpected_ppdu, invalid_ppdu}
+use Rattle.end_model.specs.end_rules.TakesData.{with_parts, alteration, alter_fault, settled, part_in}
+use Rattle.end_model.specs.end_rules.TakesActivities.{arrived_now, values_arrived, invocation_in, cut_invocation, resumed_record, started_record, received}
+use Rattle.end_model.specs.end_rules.Hearing.{take_values}
+use Rattle.end_model.specs.end_rules.Reacting.{word_fault, fault_above, after_word}
+use Rattle.end_model.specs.end_rules.History.{after_step, step_of, after_broke}
 use Rattle.end_model.specs.Rows.{at}
 use Rattle.end_model.specs.Requests.{sent_all, after_called}
 use Rattle.end_model.proofs.Ladder.{passed, unrefused, called}

@@ -12,16 +12,16 @@ use Rattle.osi_base.specs.declared.layer_words.Proposal.{Proposal}
 use Rattle.osi_base.specs.declared.layer_words.AddAnswer.{AddAnswer}
 use Rattle.osi_base.specs.declared.layer_words.Answers.{Answers}
 use Rattle.osi_base.specs.Limits.{highest_context}
-use Rattle.dialogue.specs.declared.call.CallRefusal.{CallRefusal}
-use Rattle.end_rules.specs.Base.{Base, acse_name, rtse_name}
-use Rattle.end_rules.specs.Sets.{Alteration, same_name, is_among, put, put_accepted, pair_accepted, accepted_pair}
+use Rattle.end_model.specs.dialogue.declared.call.CallRefusal.{CallRefusal}
+use Rattle.end_model.specs.end_rules.Base.{Base, acse_name, rtse_name}
+use Rattle.end_model.specs.end_rules.Sets.{Alteration, same_name, is_among, put, put_accepted, pair_accepted, accepted_pair}
 use Rattle.osi_base.specs.SetPlaces.{pair_of, without_context}
-use Rattle.end_rules.specs.Sets.{named_syntax, with_added, with_deleted, altered, named_ids, proposed_ids, is_named_in, has_abstract, is_fixed, has_parity}
-use Rattle.end_rules.specs.Altering.{has_double, is_no_context, is_bad, has_bad_transfers, used, addition_refusal, additions_refusal}
-use Rattle.end_rules.specs.Altering.{deletion_refusal, deletions_refusal, or_else}
-use Rattle.end_rules.specs.State.{Body, is_empty}
-use Rattle.end_rules.specs.Policy.{is_taken, takes_syntax, rejection, answer_within, answer_to_addition}
-use Rattle.end_rules.specs.Policy.{counted_with, answers_to_additions, answer_to_deletion, policy, is_faulty_proposal}
+use Rattle.end_model.specs.end_rules.Sets.{named_syntax, with_added, with_deleted, altered, named_ids, proposed_ids, is_named_in, has_abstract, is_fixed, has_parity}
+use Rattle.end_model.specs.end_rules.Altering.{has_double, is_no_context, is_bad, has_bad_transfers, used, addition_refusal, additions_refusal}
+use Rattle.end_model.specs.end_rules.Altering.{deletion_refusal, deletions_refusal, or_else}
+use Rattle.end_model.specs.end_rules.State.{Body, is_empty}
+use Rattle.end_model.specs.end_rules.Policy.{is_taken, takes_syntax, rejection, answer_within, answer_to_addition}
+use Rattle.end_model.specs.end_rules.Policy.{counted_with, answers_to_additions, answer_to_deletion, policy, is_faulty_proposal}
 use Rattle.agreement.specs.Sets.{IsRising}
 use Rattle.agreement.proofs.Order.{rising-put, rising-remove}
 use Rattle.end_model.specs.Seen.{pair_seen, set_seen}

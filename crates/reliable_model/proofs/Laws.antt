@@ -5,9 +5,9 @@ use Rattle.std.specs.Prelude.{Bool, Some, Ok, Result, nat_eq, if◌then◌else�
 use Rattle.std.proofs.lemmas.List.{length-map}
 use Rattle.stub_tables.specs.declared.tables.Tables.{Tables}
 use Rattle.stub_tables.specs.declared.apdu.Apdu.{Apdu}
-use Rattle.dialogue.specs.declared.config.Config.{Config}
-use Rattle.end_rules.specs.Base.{Base, Spellings, Item, Arrived, Whole, Fault}
-use Rattle.end_rules.specs.State.{Queued}
+use Rattle.end_model.specs.dialogue.declared.config.Config.{Config}
+use Rattle.end_model.specs.end_rules.Base.{Base, Spellings, Item, Arrived, Whole, Fault}
+use Rattle.end_model.specs.end_rules.State.{Queued}
 use Rattle.osi_base.specs.SetPlaces.{pair_of}
 use Rattle.agreement.specs.Sets.{Role, other}
 use Rattle.agreement.specs.Sets.Role.{Initiator, Responder}

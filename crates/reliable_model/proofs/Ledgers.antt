@@ -4,21 +4,21 @@ use Rattle.std.specs.Prelude.{Bool, if◌then◌else◌}
 use Rattle.std.proofs.lemmas.List.{map-append}
 use Rattle.osi_base.specs.declared.layer_words.Proposal.{Proposal}
 use Rattle.osi_base.specs.declared.layer_words.SetItem.{SetItem}
-use Rattle.dialogue.specs.declared.config.Mode.TheVariants.{Reliable}
-use Rattle.dialogue.specs.declared.config.Config.{Config}
+use Rattle.end_model.specs.dialogue.declared.config.Mode.TheVariants.{Reliable}
+use Rattle.end_model.specs.dialogue.declared.config.Config.{Config}
 use Rattle.stub_tables.specs.declared.tables.Tables.{Tables}
-use Rattle.end_rules.specs.Base.{Base, Spellings}
-use Rattle.end_rules.specs.Sets.{Saved, below, newest}
-use Rattle.end_rules.specs.Messages.{Message, TransportUnit, Word, Transport, Session, OfAssociation, OfData, OfMarks}
-use Rattle.end_rules.specs.Messages.{OfActivities, Connect, Accept, Refuse, Finish, Disconnect, Abort, AbortAccept, Values}
-use Rattle.end_rules.specs.Messages.{AlterContext, AlterContextAck, Mark, MarkAck, Restart, RestartAck, Give, Please}
-use Rattle.end_rules.specs.Messages.{GiveConfirm, GiveAck, Start, Resume, End, EndAck, Interrupt, InterruptAck, Discard, DiscardAck}
-use Rattle.end_rules.specs.Connecting.{is_refused, recovers_in}
-use Rattle.end_rules.specs.World.{Shared, saved_of, saving, shared_sent}
-use Rattle.end_rules.specs.State.{Body, Queued}
-use Rattle.end_rules.specs.Writing.{proposals}
-use Rattle.end_rules.specs.Reacting.{after_word, answers_to_word}
-use Rattle.end_rules.specs.History.{after_broke}
+use Rattle.end_model.specs.end_rules.Base.{Base, Spellings}
+use Rattle.end_model.specs.end_rules.Sets.{Saved, below, newest}
+use Rattle.end_model.specs.end_rules.Messages.{Message, TransportUnit, Word, Transport, Session, OfAssociation, OfData, OfMarks}
+use Rattle.end_model.specs.end_rules.Messages.{OfActivities, Connect, Accept, Refuse, Finish, Disconnect, Abort, AbortAccept, Values}
+use Rattle.end_model.specs.end_rules.Messages.{AlterContext, AlterContextAck, Mark, MarkAck, Restart, RestartAck, Give, Please}
+use Rattle.end_model.specs.end_rules.Messages.{GiveConfirm, GiveAck, Start, Resume, End, EndAck, Interrupt, InterruptAck, Discard, DiscardAck}
+use Rattle.end_model.specs.end_rules.Connecting.{is_refused, recovers_in}
+use Rattle.end_model.specs.end_rules.World.{Shared, saved_of, saving, shared_sent}
+use Rattle.end_model.specs.end_rules.State.{Body, Queued}
+use Rattle.end_model.specs.end_rules.Writing.{proposals}
+use Rattle.end_model.specs.end_rules.Reacting.{after_word, answers_to_word}
+use Rattle.end_model.specs.end_rules.History.{after_broke}
 use Rattle.agreement.specs.Sets as model_sets
 use Rattle.agreement.specs.Sets.{Role, other}
 use Rattle.agreement.specs.Sets.Role.{Initiator, Responder}

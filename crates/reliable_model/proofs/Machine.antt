@@ -4,24 +4,24 @@ use Rattle.std.proofs.Common.{◌≡◌, refl, true, false, ◌∙◌, sym, ap, 
 use Rattle.std.specs.Prelude.{ℤ, Option, Some, Ok, if◌then◌else◌}
 use Rattle.osi_base.specs.declared.layer_words.Proposal.{Proposal}
 use Rattle.stub_tables.specs.declared.tables.Tables.{Tables}
-use Rattle.dialogue.specs.declared.config.Config.{Config}
-use Rattle.dialogue.specs.declared.config.Mode.TheVariants.{Reliable}
-use Rattle.dialogue.specs.declared.config.Phase.{Phase}
-use Rattle.dialogue.specs.declared.config.Phase.TheVariants.{Idle, Opening, Up, Broken, Over}
-use Rattle.dialogue.specs.declared.call.Call.{Call}
-use Rattle.dialogue.specs.declared.call.Call.TheVariants as the_calls
-use Rattle.dialogue.specs.declared.indication.Indication.{Indication}
-use Rattle.end_rules.specs.Base.{Base, Spellings, Fault}
-use Rattle.end_rules.specs.Messages.{Message, Transport, Session, Word, OfAssociation, Abort}
-use Rattle.end_rules.specs.State.{Body, Stage, Unused, Asked, Joined, Carrying, Transfer, Suspended, NoAnswer, is_carrying}
-use Rattle.end_rules.specs.State.{passes_over, on_transfer, in_phase}
-use Rattle.end_rules.specs.Writing.{user_abort}
-use Rattle.end_rules.specs.Faults.{over}
-use Rattle.end_rules.specs.Calling.{can_call, is_phase_for}
-use Rattle.end_rules.specs.Requesting.{due_of}
-use Rattle.end_rules.specs.ByItself.{OwnAct, next_own}
-use Rattle.end_rules.specs.Reacting.{Passes, Takes, Fails, react, react_alive}
-use Rattle.end_rules.specs.History.{after_broke, after_step, broken_phase, step_of}
+use Rattle.end_model.specs.dialogue.declared.config.Config.{Config}
+use Rattle.end_model.specs.dialogue.declared.config.Mode.TheVariants.{Reliable}
+use Rattle.end_model.specs.dialogue.declared.config.Phase.{Phase}
+use Rattle.end_model.specs.dialogue.declared.config.Phase.TheVariants.{Idle, Opening, Up, Broken, Over}
+use Rattle.end_model.specs.dialogue.declared.call.Call.{Call}
+use Rattle.end_model.specs.dialogue.declared.call.Call.TheVariants as the_calls
+use Rattle.end_model.specs.dialogue.declared.indication.Indication.{Indication}
+use Rattle.end_model.specs.end_rules.Base.{Base, Spellings, Fault}
+use Rattle.end_model.specs.end_rules.Messages.{Message, Transport, Session, Word, OfAssociation, Abort}
+use Rattle.end_model.specs.end_rules.State.{Body, Stage, Unused, Asked, Joined, Carrying, Transfer, Suspended, NoAnswer, is_carrying}
+use Rattle.end_model.specs.end_rules.State.{passes_over, on_transfer, in_phase}
+use Rattle.end_model.specs.end_rules.Writing.{user_abort}
+use Rattle.end_model.specs.end_rules.Faults.{over}
+use Rattle.end_model.specs.end_rules.Calling.{can_call, is_phase_for}
+use Rattle.end_model.specs.end_rules.Requesting.{due_of}
+use Rattle.end_model.specs.end_rules.ByItself.{OwnAct, next_own}
+use Rattle.end_model.specs.end_rules.Reacting.{Passes, Takes, Fails, react, react_alive}
+use Rattle.end_model.specs.end_rules.History.{after_broke, after_step, broken_phase, step_of}
 use Rattle.agreement.specs.Sets.{Role, is_initiator}
 use Rattle.agreement.specs.Sets.Role.{Initiator, Responder}
 use Rattle.agreement.specs.Messages as model

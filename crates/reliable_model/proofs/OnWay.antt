@@ -3,33 +3,33 @@ use Rattle.std.proofs.Common.{◌≡◌, refl, true, false, sym, subst, ℕ, zer
 use Rattle.std.specs.Prelude.{ℤ, Bool, not, ◌||◌, Option, Some, None, Ok, is_some, nat_lt, if◌then◌else◌}
 use Rattle.osi_base.specs.declared.syntax.Pair.{Pair}
 use Rattle.osi_base.specs.declared.layer_words.SetItem.{SetItem}
-use Rattle.dialogue.specs.declared.config.Mode.TheVariants.{Reliable}
-use Rattle.dialogue.specs.declared.call.Call.{Call}
-use Rattle.dialogue.specs.declared.call.Call.TheVariants as the_calls
-use Rattle.dialogue.specs.declared.indication.Indication.{Indication}
-use Rattle.end_rules.specs.Base.{Base, Fault}
-use Rattle.end_rules.specs.Sets.{Saved, below, newest, altered, accepted_set}
-use Rattle.end_rules.specs.Messages.{Message, Transport, Session, TransportUnit, ConnectionRequest, ConnectionConfirm, DisconnectRequest, TransportError}
-use Rattle.end_rules.specs.Messages.{Word, OfAssociation, OfData, OfMarks, OfActivities, Connect, Accept, Refuse, Finish, Disconnect, Abort, AbortAccept}
-use Rattle.end_rules.specs.Messages.{Values, AlterContext, AlterContextAck, Mark, MarkAck, Restart, RestartAck, Give, Please, GiveConfirm, GiveAck}
-use Rattle.end_rules.specs.Messages.{Start, Resume, End, EndAck, Interrupt, InterruptAck, Discard, DiscardAck}
-use Rattle.end_rules.specs.State.{Body, is_carrying, is_joined, passes_over, opened_with}
-use Rattle.end_rules.specs.Writing.{provider_refusal, refuse_message, user_abort}
-use Rattle.end_rules.specs.Connecting.{is_refused, recovers_in, has_acse, set_for, results_for, acceptance_message}
-use Rattle.end_rules.specs.Calling.{can_by_rows, can_call}
-use Rattle.end_rules.specs.Requesting.{due_of, due_invoke, due_outcome, result_in, error_for}
-use Rattle.end_rules.specs.ByItself.{OwnAct, next_own}
-use Rattle.end_rules.specs.TakesTransport.{is_size, after_transport, answers_to_transport, answer_to_request, transport_unit_fault}
-use Rattle.end_rules.specs.TakesData.{alteration}
-use Rattle.end_rules.specs.Purging.{is_purged, is_transport_purged}
-use Rattle.end_rules.specs.Faults.{transport_fault}
-use Rattle.end_rules.specs.Messages.{Information, unit_of}
-use Rattle.end_rules.specs.Reacting.{Passes, Takes, react, fails as failing, on_word, on_transport, word_fault, after_word, answers_to_word}
-use Rattle.end_rules.specs.World.{Shared, saved_of, saving, shared_sent, shared_resumed, shared_accepted, shared_answered}
+use Rattle.end_model.specs.dialogue.declared.config.Mode.TheVariants.{Reliable}
+use Rattle.end_model.specs.dialogue.declared.call.Call.{Call}
+use Rattle.end_model.specs.dialogue.declared.call.Call.TheVariants as the_calls
+use Rattle.end_model.specs.dialogue.declared.indication.Indication.{Indication}
+use Rattle.end_model.specs.end_rules.Base.{Base, Fault}
+use Rattle.end_model.specs.end_rules.Sets.{Saved, below, newest, altered, accepted_set}
+use Rattle.end_model.specs.end_rules.Messages.{Message, Transport, Session, TransportUnit, ConnectionRequest, ConnectionConfirm, DisconnectRequest, TransportError}
+use Rattle.end_model.specs.end_rules.Messages.{Word, OfAssociation, OfData, OfMarks, OfActivities, Connect, Accept, Refuse, Finish, Disconnect, Abort, AbortAccept}
+use Rattle.end_model.specs.end_rules.Messages.{Values, AlterContext, AlterContextAck, Mark, MarkAck, Restart, RestartAck, Give, Please, GiveConfirm, GiveAck}
+use Rattle.end_model.specs.end_rules.Messages.{Start, Resume, End, EndAck, Interrupt, InterruptAck, Discard, DiscardAck}
+use Rattle.end_model.specs.end_rules.State.{Body, is_carrying, is_joined, passes_over, opened_with}
+use Rattle.end_model.specs.end_rules.Writing.{provider_refusal, refuse_message, user_abort}
+use Rattle.end_model.specs.end_rules.Connecting.{is_refused, recovers_in, has_acse, set_for, results_for, acceptance_message}
+use Rattle.end_model.specs.end_rules.Calling.{can_by_rows, can_call}
+use Rattle.end_model.specs.end_rules.Requesting.{due_of, due_invoke, due_outcome, result_in, error_for}
+use Rattle.end_model.specs.end_rules.ByItself.{OwnAct, next_own}
+use Rattle.end_model.specs.end_rules.TakesTransport.{is_size, after_transport, answers_to_transport, answer_to_request, transport_unit_fault}
+use Rattle.end_model.specs.end_rules.TakesData.{alteration}
+use Rattle.end_model.specs.end_rules.Purging.{is_purged, is_transport_purged}
+use Rattle.end_model.specs.end_rules.Faults.{transport_fault}
+use Rattle.end_model.specs.end_rules.Messages.{Information, unit_of}
+use Rattle.end_model.specs.end_rules.Reacting.{Passes, Takes, react, fails as failing, on_word, on_transport, word_fault, after_word, answers_to_word}
+use Rattle.end_model.specs.end_rules.World.{Shared, saved_of, saving, shared_sent, shared_resumed, shared_accepted, shared_answered}
 use Rattle.stub_tables.specs.Lookup.{operation_at, error_at}
 use Rattle.stub_tables.specs.declared.apdu.Apdu.{Apdu}
 use Rattle.stub_tables.specs.declared.operation.Operation.{Operation}
-use Rattle.end_rules.specs.State.{OpenCall}
+use Rattle.end_model.specs.end_rules.State.{OpenCall}
 use Rattle.osi_base.specs.declared.layer_words.Side.{Side}
 use Rattle.osi_base.specs.declared.layer_words.Side.TheVariants.{A, B}
 use Rattle.end_model.specs.Rows.{at}

@@ -9,34 +9,34 @@ use Rattle.osi_base.specs.declared.presentation_word.PresentationConnect.{Presen
 use Rattle.osi_base.specs.declared.presentation_word.PresentationAccept.{PresentationAccept}
 use Rattle.osi_base.specs.declared.presentation_word.PresentationReject.{PresentationReject}
 use Rattle.stub_tables.specs.declared.tables.Tables.{Tables}
-use Rattle.dialogue.specs.declared.config.Config.{Config}
-use Rattle.dialogue.specs.declared.config.Mode.TheVariants.{Reliable}
-use Rattle.dialogue.specs.declared.config.Phase.{Phase}
-use Rattle.dialogue.specs.declared.config.Phase.TheVariants.{Idle, Opening, Broken, Recovering, Over}
-use Rattle.dialogue.specs.declared.indication.Indication.{Indication}
-use Rattle.end_rules.specs.Base.{Base, Spellings, Fault, rtse_name}
-use Rattle.end_rules.specs.Messages.{TransportUnit, ConnectionRequest, ConnectionConfirm, DataValue, AbortData, Word, OfAssociation}
-use Rattle.end_rules.specs.Messages.{Connect, Accept, Refuse, Abort, Accepting, Message, Transport, Session, unit_of}
-use Rattle.end_rules.specs.State.{Body, Stage, Unused, Asked, Joined, Carrying, passes_over, is_joined}
-use Rattle.end_rules.specs.State.{is_carrying, is_unused, is_asked, is_broken}
-use Rattle.end_rules.specs.Sets.{fit_proposals, lowest_with, has_abstract}
+use Rattle.end_model.specs.dialogue.declared.config.Config.{Config}
+use Rattle.end_model.specs.dialogue.declared.config.Mode.TheVariants.{Reliable}
+use Rattle.end_model.specs.dialogue.declared.config.Phase.{Phase}
+use Rattle.end_model.specs.dialogue.declared.config.Phase.TheVariants.{Idle, Opening, Broken, Recovering, Over}
+use Rattle.end_model.specs.dialogue.declared.indication.Indication.{Indication}
+use Rattle.end_model.specs.end_rules.Base.{Base, Spellings, Fault, rtse_name}
+use Rattle.end_model.specs.end_rules.Messages.{TransportUnit, ConnectionRequest, ConnectionConfirm, DataValue, AbortData, Word, OfAssociation}
+use Rattle.end_model.specs.end_rules.Messages.{Connect, Accept, Refuse, Abort, Accepting, Message, Transport, Session, unit_of}
+use Rattle.end_model.specs.end_rules.State.{Body, Stage, Unused, Asked, Joined, Carrying, passes_over, is_joined}
+use Rattle.end_model.specs.end_rules.State.{is_carrying, is_unused, is_asked, is_broken}
+use Rattle.end_model.specs.end_rules.Sets.{fit_proposals, lowest_with, has_abstract}
 use Rattle.osi_base.specs.SetPlaces.{pair_of}
-use Rattle.end_rules.specs.Units.{selected_with, proposed_units, needed_units, has_units, has_version_two, manages_with}
-use Rattle.end_rules.specs.World.{Shared}
-use Rattle.end_rules.specs.Altering.{has_double}
-use Rattle.end_rules.specs.Faults.{transport_fault, invalid_ppdu, acse_fault, rtse_fault, fault_if, or_fault}
-use Rattle.end_rules.specs.Purging.{is_purged, is_transport_purged}
-use Rattle.end_rules.specs.InPlace.{is_opening}
-use Rattle.end_rules.specs.Writing.{session_connect, presentation_connect, connect_values, connect_message, connection_request}
-use Rattle.end_rules.specs.Policy.{opening_policy}
-use Rattle.end_rules.specs.Writing.{is_recovering, provider_refusal, refuse_message, rtse_context, connection_data, proposals}
-use Rattle.end_rules.specs.Connecting.{the_one, user_of, context_named, has_acse, has_rtse, set_for, results_for}
-use Rattle.end_rules.specs.Connecting.{information_fault, is_on_rtse, is_open_request, session_refuses}
-use Rattle.end_rules.specs.Connecting.{presentation_refuses, lacks_request, transfer_rejection, has_association, rejecting_information}
-use Rattle.end_rules.specs.Connecting.{is_refused, accept_fault, accepted_connect, refused_connect, refusal_message, acceptance_message}
-use Rattle.end_rules.specs.TakesTransport.{is_waiting, transport_unit_fault, after_transport, phase_asked}
-use Rattle.end_rules.specs.Reacting.{Passes, Takes, react, react_to_transport, react_to_word, on_transport, fails, on_word}
-use Rattle.end_rules.specs.Reacting.{word_fault, after_word, answers_to_word, shown_of_word}
+use Rattle.end_model.specs.end_rules.Units.{selected_with, proposed_units, needed_units, has_units, has_version_two, manages_with}
+use Rattle.end_model.specs.end_rules.World.{Shared}
+use Rattle.end_model.specs.end_rules.Altering.{has_double}
+use Rattle.end_model.specs.end_rules.Faults.{transport_fault, invalid_ppdu, acse_fault, rtse_fault, fault_if, or_fault}
+use Rattle.end_model.specs.end_rules.Purging.{is_purged, is_transport_purged}
+use Rattle.end_model.specs.end_rules.InPlace.{is_opening}
+use Rattle.end_model.specs.end_rules.Writing.{session_connect, presentation_connect, connect_values, connect_message, connection_request}
+use Rattle.end_model.specs.end_rules.Policy.{opening_policy}
+use Rattle.end_model.specs.end_rules.Writing.{is_recovering, provider_refusal, refuse_message, rtse_context, connection_data, proposals}
+use Rattle.end_model.specs.end_rules.Connecting.{the_one, user_of, context_named, has_acse, has_rtse, set_for, results_for}
+use Rattle.end_model.specs.end_rules.Connecting.{information_fault, is_on_rtse, is_open_request, session_refuses}
+use Rattle.end_model.specs.end_rules.Connecting.{presentation_refuses, lacks_request, transfer_rejection, has_association, rejecting_information}
+use Rattle.end_model.specs.end_rules.Connecting.{is_refused, accept_fault, accepted_connect, refused_connect, refusal_message, acceptance_message}
+use Rattle.end_model.specs.end_rules.TakesTransport.{is_waiting, transport_unit_fault, after_transport, phase_asked}
+use Rattle.end_model.specs.end_rules.Reacting.{Passes, Takes, react, react_to_transport, react_to_word, on_transport, fails, on_word}
+use Rattle.end_model.specs.end_rules.Reacting.{word_fault, after_word, answers_to_word, shown_of_word}
 use Rattle.agreement.specs.Sets.{Role, IsRising}
 use Rattle.agreement.specs.Sets.Role.{Initiator, Responder}
 use Rattle.agreement.specs.Messages as model

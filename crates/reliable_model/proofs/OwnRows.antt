@@ -7,18 +7,18 @@ use Rattle.std.proofs.lemmas.List.{append-nil, append_assoc, length-append, take
 use Rattle.osi_base.specs.declared.layer_words.SetItem.{SetItem}
 use Rattle.osi_base.specs.declared.layer_words.Proposal.{Proposal}
 use Rattle.osi_base.specs.Limits.{most_marks, most_transferred, last_activity}
-use Rattle.dialogue.specs.declared.config.Mode.TheVariants.{Reliable}
-use Rattle.end_rules.specs.Base.{Base}
+use Rattle.end_model.specs.dialogue.declared.config.Mode.TheVariants.{Reliable}
+use Rattle.end_model.specs.end_rules.Base.{Base}
 use Rattle.osi_base.specs.SetPlaces.{pair_of}
-use Rattle.end_rules.specs.State.{Body, Octets, Marked, Progress, Running, Ending, Suspended, Encoded, Transfer}
-use Rattle.end_rules.specs.State.{Queued, joined, highest, pieces_of, on_current, is_empty, is_running}
-use Rattle.end_rules.specs.Messages.{Session, OfMarks, OfActivities, Part, Mark, Start, End}
-use Rattle.end_rules.specs.Invoking.{carrier_in}
-use Rattle.end_rules.specs.Writing.{part_message, rtse_value}
-use Rattle.end_rules.specs.Requesting.{after_sent}
-use Rattle.end_rules.specs.History.{after_step, step_of}
-use Rattle.end_rules.specs.ByItself.{OwnAct, SendsNow, EncodesOn, part_size, ends_in_octets, is_window_full, next_of}
-use Rattle.end_rules.specs.ByItself.{left_of, encodes_on, next_of_encoded, next_start, next_in, item_on, encoded_as, next_own}
+use Rattle.end_model.specs.end_rules.State.{Body, Octets, Marked, Progress, Running, Ending, Suspended, Encoded, Transfer}
+use Rattle.end_model.specs.end_rules.State.{Queued, joined, highest, pieces_of, on_current, is_empty, is_running}
+use Rattle.end_model.specs.end_rules.Messages.{Session, OfMarks, OfActivities, Part, Mark, Start, End}
+use Rattle.end_model.specs.end_rules.Invoking.{carrier_in}
+use Rattle.end_model.specs.end_rules.Writing.{part_message, rtse_value}
+use Rattle.end_model.specs.end_rules.Requesting.{after_sent}
+use Rattle.end_model.specs.end_rules.History.{after_step, step_of}
+use Rattle.end_model.specs.end_rules.ByItself.{OwnAct, SendsNow, EncodesOn, part_size, ends_in_octets, is_window_full, next_of}
+use Rattle.end_model.specs.end_rules.ByItself.{left_of, encodes_on, next_of_encoded, next_start, next_in, item_on, encoded_as, next_own}
 use Rattle.agreement.specs.Sets as model_sets
 use Rattle.agreement.specs.Messages.Act.{Marks, EndsActivity, Sends, Starts, Encodes}
 use Rattle.agreement.specs.Messages.Message.{Mark as model_mark, End as model_end}

@@ -2,20 +2,20 @@
 use Rattle.std.proofs.Common.{◌≡◌, refl, true, false, ◌∙◌, sym, ap, subst, List, [], ◌∷◌, ◌⊎◌, inl, inr}
 use Rattle.std.specs.Prelude.{ℤ, Bool, Option, Some, Ok, if◌then◌else◌}
 use Rattle.stub_tables.specs.declared.tables.Tables.{Tables}
-use Rattle.dialogue.specs.declared.config.Config.{Config}
-use Rattle.dialogue.specs.declared.config.Mode.TheVariants.{Reliable}
-use Rattle.dialogue.specs.declared.config.Phase.{Phase}
-use Rattle.dialogue.specs.declared.config.Phase.TheVariants.{Idle, Opening, Up, Releasing, Broken, Recovering, Over}
-use Rattle.dialogue.specs.declared.call.Call.{Call}
-use Rattle.dialogue.specs.declared.call.Call.TheVariants as the_calls
-use Rattle.end_rules.specs.Base.{Base, Spellings}
-use Rattle.end_rules.specs.Messages.{Message, Session, OfAssociation, Abort}
-use Rattle.end_rules.specs.State.{Body, Stage, Unused, Asked, Joined, Carrying, is_carrying}
-use Rattle.end_rules.specs.Writing.{user_abort}
-use Rattle.end_rules.specs.Faults.{over}
-use Rattle.end_rules.specs.Calling.{can_call, is_phase_for}
-use Rattle.end_rules.specs.ByItself.{OwnAct, next_own}
-use Rattle.end_rules.specs.History.{broken_phase}
+use Rattle.end_model.specs.dialogue.declared.config.Config.{Config}
+use Rattle.end_model.specs.dialogue.declared.config.Mode.TheVariants.{Reliable}
+use Rattle.end_model.specs.dialogue.declared.config.Phase.{Phase}
+use Rattle.end_model.specs.dialogue.declared.config.Phase.TheVariants.{Idle, Opening, Up, Releasing, Broken, Recovering, Over}
+use Rattle.end_model.specs.dialogue.declared.call.Call.{Call}
+use Rattle.end_model.specs.dialogue.declared.call.Call.TheVariants as the_calls
+use Rattle.end_model.specs.end_rules.Base.{Base, Spellings}
+use Rattle.end_model.specs.end_rules.Messages.{Message, Session, OfAssociation, Abort}
+use Rattle.end_model.specs.end_rules.State.{Body, Stage, Unused, Asked, Joined, Carrying, is_carrying}
+use Rattle.end_model.specs.end_rules.Writing.{user_abort}
+use Rattle.end_model.specs.end_rules.Faults.{over}
+use Rattle.end_model.specs.end_rules.Calling.{can_call, is_phase_for}
+use Rattle.end_model.specs.end_rules.ByItself.{OwnAct, next_own}
+use Rattle.end_model.specs.end_rules.History.{broken_phase}
 use Rattle.agreement.specs.Messages.Mode.{Reliable as model_reliable}
 use Rattle.agreement.specs.Takings.{broken_phase as model_broken_phase}
 use Rattle.end_model.specs.Seen.{phase_seen}

@@ -5,31 +5,31 @@ use Rattle.std.specs.Prelude.{ℤ, Bool, not, ◌||◌, Option, Some, None, Resu
 use Rattle.osi_base.specs.declared.syntax.Pair.{Pair}
 use Rattle.osi_base.specs.declared.layer_words.SetItem.{SetItem}
 use Rattle.stub_tables.specs.declared.tables.Tables.{Tables}
-use Rattle.dialogue.specs.declared.config.Config.{Config}
-use Rattle.dialogue.specs.declared.config.Mode.TheVariants.{Reliable}
-use Rattle.dialogue.specs.declared.config.Phase.{Phase}
-use Rattle.dialogue.specs.declared.config.Phase.TheVariants.{Idle, Opening, Up, Releasing, Broken, Over}
-use Rattle.dialogue.specs.declared.call.Call.{Call}
-use Rattle.dialogue.specs.declared.indication.Indication.{Indication}
-use Rattle.end_rules.specs.Base.{Base, Spellings, Fault, Item, Arrived, Whole}
-use Rattle.end_rules.specs.Sets.{Alteration, carrier, accepted_set, may_send, lowest_with, has_abstract}
+use Rattle.end_model.specs.dialogue.declared.config.Config.{Config}
+use Rattle.end_model.specs.dialogue.declared.config.Mode.TheVariants.{Reliable}
+use Rattle.end_model.specs.dialogue.declared.config.Phase.{Phase}
+use Rattle.end_model.specs.dialogue.declared.config.Phase.TheVariants.{Idle, Opening, Up, Releasing, Broken, Over}
+use Rattle.end_model.specs.dialogue.declared.call.Call.{Call}
+use Rattle.end_model.specs.dialogue.declared.indication.Indication.{Indication}
+use Rattle.end_model.specs.end_rules.Base.{Base, Spellings, Fault, Item, Arrived, Whole}
+use Rattle.end_model.specs.end_rules.Sets.{Alteration, carrier, accepted_set, may_send, lowest_with, has_abstract}
 use Rattle.osi_base.specs.SetPlaces.{pair_of}
-use Rattle.end_rules.specs.Messages.{Message, Transport, Session, TransportUnit, ConnectionRequest, ConnectionConfirm, DisconnectRequest, TransportError}
-use Rattle.end_rules.specs.Messages.{Word, OfAssociation, OfData, OfMarks, OfActivities, Accept, Refuse, Finish, Disconnect, Abort}
-use Rattle.end_rules.specs.Messages.{Values, AlterContext, AlterContextAck, Mark, MarkAck, Please, GiveConfirm, GiveAck}
-use Rattle.end_rules.specs.Messages.{Start, Resume, End, EndAck, Interrupt, InterruptAck, Discard, DiscardAck}
-use Rattle.end_rules.specs.State.{Body, Sets, Calls, Receiving, new_body, Joined, Carrying, Transfer, Sending, is_carrying, is_broken, passes_over, on_current, Suspended}
-use Rattle.end_rules.specs.Writing.{proposals, provider_refusal, refuse_message}
-use Rattle.end_rules.specs.Policy.{opening_policy, is_taken}
-use Rattle.end_rules.specs.Connecting.{is_refused, recovers_in, has_acse, set_for, results_for, acceptance_message, begun_with, accepted_connect, refused_connect}
-use Rattle.end_rules.specs.Calling.{can_call, is_phase_for}
-use Rattle.end_rules.specs.Requesting.{due_of}
-use Rattle.end_rules.specs.ByItself.{OwnAct, SendsNow, EncodesOn, next_own}
-use Rattle.end_rules.specs.TakesTransport.{is_size, phase_asked, after_transport, answers_to_transport}
-use Rattle.end_rules.specs.TakesData.{alteration}
-use Rattle.end_rules.specs.Messages.{Information}
-use Rattle.end_rules.specs.Reacting.{Passes, Takes, react, after_word, answers_to_word}
-use Rattle.end_rules.specs.History.{after_step, step_of, after_broke, broken_phase}
+use Rattle.end_model.specs.end_rules.Messages.{Message, Transport, Session, TransportUnit, ConnectionRequest, ConnectionConfirm, DisconnectRequest, TransportError}
+use Rattle.end_model.specs.end_rules.Messages.{Word, OfAssociation, OfData, OfMarks, OfActivities, Accept, Refuse, Finish, Disconnect, Abort}
+use Rattle.end_model.specs.end_rules.Messages.{Values, AlterContext, AlterContextAck, Mark, MarkAck, Please, GiveConfirm, GiveAck}
+use Rattle.end_model.specs.end_rules.Messages.{Start, Resume, End, EndAck, Interrupt, InterruptAck, Discard, DiscardAck}
+use Rattle.end_model.specs.end_rules.State.{Body, Sets, Calls, Receiving, new_body, Joined, Carrying, Transfer, Sending, is_carrying, is_broken, passes_over, on_current, Suspended}
+use Rattle.end_model.specs.end_rules.Writing.{proposals, provider_refusal, refuse_message}
+use Rattle.end_model.specs.end_rules.Policy.{opening_policy, is_taken}
+use Rattle.end_model.specs.end_rules.Connecting.{is_refused, recovers_in, has_acse, set_for, results_for, acceptance_message, begun_with, accepted_connect, refused_connect}
+use Rattle.end_model.specs.end_rules.Calling.{can_call, is_phase_for}
+use Rattle.end_model.specs.end_rules.Requesting.{due_of}
+use Rattle.end_model.specs.end_rules.ByItself.{OwnAct, SendsNow, EncodesOn, next_own}
+use Rattle.end_model.specs.end_rules.TakesTransport.{is_size, phase_asked, after_transport, answers_to_transport}
+use Rattle.end_model.specs.end_rules.TakesData.{alteration}
+use Rattle.end_model.specs.end_rules.Messages.{Information}
+use Rattle.end_model.specs.end_rules.Reacting.{Passes, Takes, react, after_word, answers_to_word}
+use Rattle.end_model.specs.end_rules.History.{after_step, step_of, after_broke, broken_phase}
 use Rattle.agreement.specs.Sets.{Role, IsRising, lookup}
 use Rattle.agreement.specs.Sets.Role.{Initiator, Responder}
 use Rattle.agreement.specs.State as states

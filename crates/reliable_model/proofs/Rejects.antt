@@ -5,15 +5,15 @@ use Rattle.osi_base.specs.declared.layer_words.ProblemKind.{ProblemKind}
 use Rattle.osi_base.specs.declared.layer_words.ProblemKind.TheVariants as problems
 use Rattle.osi_base.specs.declared.syntax.Syntax.TheVariants.{Der}
 use Rattle.osi_base.specs.Limits.{most_open}
-use Rattle.dialogue.specs.declared.config.Mode.{Mode}
-use Rattle.dialogue.specs.declared.config.Mode.TheVariants.{Reliable}
-use Rattle.dialogue.specs.declared.indication.Indication.{Indication}
+use Rattle.end_model.specs.dialogue.declared.config.Mode.{Mode}
+use Rattle.end_model.specs.dialogue.declared.config.Mode.TheVariants.{Reliable}
+use Rattle.end_model.specs.dialogue.declared.indication.Indication.{Indication}
 use Rattle.stub_tables.specs.declared.apdu.Apdu.{Apdu}
 use Rattle.stub_tables.specs.declared.apdu.Apdu.TheVariants as apdus
 use Rattle.stub_tables.specs.Lookup.{operation_at}
-use Rattle.end_rules.specs.Base.{Base, HeardHead, General, BadReject, InvokeHead, ResultHead, ErrorHead, RejectHead}
-use Rattle.end_rules.specs.State.{Body, Calls, Transfer}
-use Rattle.end_rules.specs.Hearing.{Heard, Rejecting, is_silent_at, has_links, on_heard}
+use Rattle.end_model.specs.end_rules.Base.{Base, HeardHead, General, BadReject, InvokeHead, ResultHead, ErrorHead, RejectHead}
+use Rattle.end_model.specs.end_rules.State.{Body, Calls, Transfer}
+use Rattle.end_model.specs.end_rules.Hearing.{Heard, Rejecting, is_silent_at, has_links, on_heard}
 use Rattle.agreement.specs.Messages as model
 use Rattle.agreement.specs.Messages.Apdu.{Invoke, Outcome, Reject}
 use Rattle.agreement.specs.Messages.Problem.{General as of_general, OfInvocation as of_invocation, OfResult as of_result, OfError as of_error}

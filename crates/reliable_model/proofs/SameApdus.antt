@@ -10,8 +10,8 @@ use Rattle.stub_tables.specs.declared.operation.Code.{Code}
 use Rattle.stub_tables.specs.declared.apdu.Apdu.{Apdu}
 use Rattle.stub_tables.specs.declared.apdu.Apdu.TheVariants as apdus
 use Rattle.stub_tables.specs.declared.apdu.Returned.{Returned}
-use Rattle.end_rules.specs.Base.{Base}
-use Rattle.end_rules.specs.Hearing.{carried_in, code_returned, value_returned, head_of_apdu}
+use Rattle.end_model.specs.end_rules.Base.{Base}
+use Rattle.end_model.specs.end_rules.Hearing.{carried_in, code_returned, value_returned, head_of_apdu}
 use Rattle.agreement.specs.Messages as model
 use Rattle.agreement.specs.Messages.Apdu.{Invoke, Outcome, Reject}
 use Rattle.agreement.specs.Messages.Problem.{General as of_general, OfInvocation as of_invocation, OfResult as of_result, OfError as of_error}

@@ -6,28 +6,28 @@ use Rattle.osi_base.specs.declared.layer_words.Proposal.{Proposal}
 use Rattle.osi_base.specs.declared.layer_words.Answers.{Answers}
 use Rattle.osi_base.specs.declared.layer_words.SetItem.{SetItem}
 use Rattle.stub_tables.specs.declared.tables.Tables.{Tables}
-use Rattle.dialogue.specs.declared.config.Config.{Config}
-use Rattle.dialogue.specs.declared.config.Mode.TheVariants.{Reliable}
-use Rattle.dialogue.specs.declared.config.Phase.TheVariants.{Up, Releasing, Over}
-use Rattle.dialogue.specs.declared.indication.Indication.{Indication}
-use Rattle.end_rules.specs.Base.{Base, Spellings, Item, Whole}
-use Rattle.end_rules.specs.Messages.{DataValue, Word, OfAssociation, OfData, OfMarks, OfActivities, Finish, Disconnect, Abort}
-use Rattle.end_rules.specs.Messages.{Values, AlterContext, AlterContextAck, Part, Mark, MarkAck, Please, GiveConfirm, GiveAck}
-use Rattle.end_rules.specs.Messages.{Start, Resume, End, EndAck, Interrupt, InterruptAck, Discard, DiscardAck}
-use Rattle.end_rules.specs.Messages.{Message, Session, unit_of}
-use Rattle.end_rules.specs.State.{Body, Link, Calls, Suspended, joined, between, passes_over}
-use Rattle.end_rules.specs.State.{is_joined, is_carrying}
-use Rattle.end_rules.specs.Sets.{Alteration, fit_proposals}
+use Rattle.end_model.specs.dialogue.declared.config.Config.{Config}
+use Rattle.end_model.specs.dialogue.declared.config.Mode.TheVariants.{Reliable}
+use Rattle.end_model.specs.dialogue.declared.config.Phase.TheVariants.{Up, Releasing, Over}
+use Rattle.end_model.specs.dialogue.declared.indication.Indication.{Indication}
+use Rattle.end_model.specs.end_rules.Base.{Base, Spellings, Item, Whole}
+use Rattle.end_model.specs.end_rules.Messages.{DataValue, Word, OfAssociation, OfData, OfMarks, OfActivities, Finish, Disconnect, Abort}
+use Rattle.end_model.specs.end_rules.Messages.{Values, AlterContext, AlterContextAck, Part, Mark, MarkAck, Please, GiveConfirm, GiveAck}
+use Rattle.end_model.specs.end_rules.Messages.{Start, Resume, End, EndAck, Interrupt, InterruptAck, Discard, DiscardAck}
+use Rattle.end_model.specs.end_rules.Messages.{Message, Session, unit_of}
+use Rattle.end_model.specs.end_rules.State.{Body, Link, Calls, Suspended, joined, between, passes_over}
+use Rattle.end_model.specs.end_rules.State.{is_joined, is_carrying}
+use Rattle.end_model.specs.end_rules.Sets.{Alteration, fit_proposals}
 use Rattle.osi_base.specs.SetPlaces.{pair_of}
-use Rattle.end_rules.specs.World.{Shared}
-use Rattle.end_rules.specs.Policy.{policy}
-use Rattle.end_rules.specs.Faults.{transport_fault}
-use Rattle.end_rules.specs.Purging.{is_purged}
-use Rattle.end_rules.specs.Hearing.{Heard, hear, head_of_apdu, take_values}
-use Rattle.end_rules.specs.TakesData.{alteration, settled, part_in}
-use Rattle.end_rules.specs.TakesActivities.{received, arrived_now, handed_up, values_arrived, invocation_in, cut_invocation}
-use Rattle.end_rules.specs.Reacting.{Passes, Takes, react, react_to_word, fails, on_word}
-use Rattle.end_rules.specs.Reacting.{word_fault, after_word, answers_to_word, shown_of_word}
+use Rattle.end_model.specs.end_rules.World.{Shared}
+use Rattle.end_model.specs.end_rules.Policy.{policy}
+use Rattle.end_model.specs.end_rules.Faults.{transport_fault}
+use Rattle.end_model.specs.end_rules.Purging.{is_purged}
+use Rattle.end_model.specs.end_rules.Hearing.{Heard, hear, head_of_apdu, take_values}
+use Rattle.end_model.specs.end_rules.TakesData.{alteration, settled, part_in}
+use Rattle.end_model.specs.end_rules.TakesActivities.{received, arrived_now, handed_up, values_arrived, invocation_in, cut_invocation}
+use Rattle.end_model.specs.end_rules.Reacting.{Passes, Takes, react, react_to_word, fails, on_word}
+use Rattle.end_model.specs.end_rules.Reacting.{word_fault, after_word, answers_to_word, shown_of_word}
 use Rattle.agreement.specs.Sets.{Role, is_initiator, lookup, Item as ModelItem, Result, Fits}
 use Rattle.agreement.specs.Sets.{altered as model_altered}
 use Rattle.agreement.specs.Sets.Role.{Initiator}

@@ -7,11 +7,11 @@ use Rattle.std.proofs.lemmas.List.{append_assoc, length-append, length-take-le, 
 use Rattle.osi_base.specs.declared.syntax.Pair.{Pair}
 use Rattle.osi_base.specs.Limits.{most_transferred}
 use Rattle.stub_tables.specs.declared.apdu.Apdu.{Apdu}
-use Rattle.end_rules.specs.Base.{Base}
-use Rattle.end_rules.specs.State.{Body, Piece, Octets, Marked, Progress, Encoded, Transfer, Queued, Sending}
-use Rattle.end_rules.specs.State.{joined, highest, from_mark, on_current, is_empty}
-use Rattle.end_rules.specs.Requesting.{begun, resumed}
-use Rattle.end_rules.specs.ByItself.{part_size, ends_in_octets, item_on, encoded_as}
+use Rattle.end_model.specs.end_rules.Base.{Base}
+use Rattle.end_model.specs.end_rules.State.{Body, Piece, Octets, Marked, Progress, Encoded, Transfer, Queued, Sending}
+use Rattle.end_model.specs.end_rules.State.{joined, highest, from_mark, on_current, is_empty}
+use Rattle.end_model.specs.end_rules.Requesting.{begun, resumed}
+use Rattle.end_model.specs.end_rules.ByItself.{part_size, ends_in_octets, item_on, encoded_as}
 use Rattle.reliable_model.specs.Codecs.{IsContextOf, IsTransferable, SpellsTransfers}
 use Rattle.reliable_model.specs.Transferring.{AreTransferable, Spaced, IsFull, IsBeginning, OnEncoded, IsCurrent}
 use Rattle.reliable_model.specs.Transferring.{OnCurrent, IsSending}

@@ -2,19 +2,19 @@
 use Rattle.std.proofs.Common.{◌≡◌, true, ◌∙◌, sym, ap, ℕ, List, [], ◌∷◌, ◌++◌, ◌⊎◌}
 use Rattle.std.specs.Prelude.{Bool, Some}
 use Rattle.osi_base.specs.declared.layer_words.Proposal.{Proposal}
-use Rattle.dialogue.specs.declared.config.Mode.TheVariants.{Reliable}
-use Rattle.dialogue.specs.declared.config.Phase.TheVariants.{Up, Releasing, Over}
-use Rattle.end_rules.specs.Base.{Base}
-use Rattle.end_rules.specs.Messages.{DataValue, Word, AssociationWord, MarkWord, OfAssociation, OfData, OfMarks, OfActivities}
-use Rattle.end_rules.specs.Messages.{Finish, Disconnect, Abort, Values, AlterContext, AlterContextAck, Mark, MarkAck, Please}
-use Rattle.end_rules.specs.Messages.{GiveConfirm, GiveAck, Start, Resume, End, EndAck, Interrupt, InterruptAck, Discard}
-use Rattle.end_rules.specs.Messages.{DiscardAck, Message, Transport, Session, unit_of}
-use Rattle.end_rules.specs.State.{Body, Awaited}
-use Rattle.end_rules.specs.Connecting.{the_one}
-use Rattle.end_rules.specs.Purging.{is_purged}
-use Rattle.end_rules.specs.TakesAssociation.{is_release_request, is_release_response}
-use Rattle.end_rules.specs.TakesData.{alteration}
-use Rattle.end_rules.specs.TakesMarks.{priority_in}
+use Rattle.end_model.specs.dialogue.declared.config.Mode.TheVariants.{Reliable}
+use Rattle.end_model.specs.dialogue.declared.config.Phase.TheVariants.{Up, Releasing, Over}
+use Rattle.end_model.specs.end_rules.Base.{Base}
+use Rattle.end_model.specs.end_rules.Messages.{DataValue, Word, AssociationWord, MarkWord, OfAssociation, OfData, OfMarks, OfActivities}
+use Rattle.end_model.specs.end_rules.Messages.{Finish, Disconnect, Abort, Values, AlterContext, AlterContextAck, Mark, MarkAck, Please}
+use Rattle.end_model.specs.end_rules.Messages.{GiveConfirm, GiveAck, Start, Resume, End, EndAck, Interrupt, InterruptAck, Discard}
+use Rattle.end_model.specs.end_rules.Messages.{DiscardAck, Message, Transport, Session, unit_of}
+use Rattle.end_model.specs.end_rules.State.{Body, Awaited}
+use Rattle.end_model.specs.end_rules.Connecting.{the_one}
+use Rattle.end_model.specs.end_rules.Purging.{is_purged}
+use Rattle.end_model.specs.end_rules.TakesAssociation.{is_release_request, is_release_response}
+use Rattle.end_model.specs.end_rules.TakesData.{alteration}
+use Rattle.end_model.specs.end_rules.TakesMarks.{priority_in}
 use Rattle.agreement.specs.Messages.{Message as ModelMessage}
 use Rattle.agreement.specs.Takings.{is_purged as model_purged}
 use Rattle.end_model.specs.Seen.{role_seen, awaited_seen, items_seen}

@@ -5,9 +5,9 @@ use Rattle.osi_base.specs.declared.layer_words.SetItem.{SetItem}
 use Rattle.osi_base.specs.Limits.{most_transferred, highest_context}
 use Rattle.stub_tables.specs.declared.apdu.Apdu.{Apdu}
 use Rattle.stub_tables.specs.declared.apdu.Apdu.TheVariants as apdus
-use Rattle.end_rules.specs.Base.{Base, Item, Whole}
+use Rattle.end_model.specs.end_rules.Base.{Base, Item, Whole}
 use Rattle.osi_base.specs.SetPlaces.{pair_of}
-use Rattle.end_rules.specs.Invoking.{is_too_long}
+use Rattle.end_model.specs.end_rules.Invoking.{is_too_long}
 use Rattle.agreement.specs.Messages as model
 use Rattle.end_model.specs.Seen.{Free, number_seen, set_seen, item_seen}
 use Rattle.end_model.specs.Opens.{IsProper}

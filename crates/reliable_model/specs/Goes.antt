@@ -4,19 +4,19 @@ use Rattle.std.specs.Prelude.{◌≡◌, ℕ, ℤ, List, [], ◌∷◌, ◌++◌
 use Rattle.osi_base.specs.declared.syntax.Pair.{Pair}
 use Rattle.osi_base.specs.declared.layer_words.SetItem.{SetItem}
 use Rattle.stub_tables.specs.declared.apdu.Apdu.{Apdu}
-use Rattle.dialogue.specs.declared.call.Call.{Call}
-use Rattle.dialogue.specs.declared.indication.Indication.{Indication}
-use Rattle.end_rules.specs.Base.{Base, Fault}
+use Rattle.end_model.specs.dialogue.declared.call.Call.{Call}
+use Rattle.end_model.specs.dialogue.declared.indication.Indication.{Indication}
+use Rattle.end_model.specs.end_rules.Base.{Base, Fault}
 use Rattle.osi_base.specs.SetPlaces.{pair_of}
-use Rattle.end_rules.specs.Messages.{Message, Session, OfAssociation, OfActivities, Connect, Start, End}
-use Rattle.end_rules.specs.State.{Body, Queued, Transfer}
-use Rattle.end_rules.specs.Connecting.{is_refused, recovers_in}
-use Rattle.end_rules.specs.Calling.{can_call}
-use Rattle.end_rules.specs.Requesting.{due_of}
-use Rattle.end_rules.specs.ByItself.{OwnAct, SendsNow, EncodesOn, next_own}
-use Rattle.end_rules.specs.Reacting.{Passes, Takes, Fails, react}
-use Rattle.end_rules.specs.History.{after_step, step_of}
-use Rattle.end_rules.specs.World.{Shared, shared_first}
+use Rattle.end_model.specs.end_rules.Messages.{Message, Session, OfAssociation, OfActivities, Connect, Start, End}
+use Rattle.end_model.specs.end_rules.State.{Body, Queued, Transfer}
+use Rattle.end_model.specs.end_rules.Connecting.{is_refused, recovers_in}
+use Rattle.end_model.specs.end_rules.Calling.{can_call}
+use Rattle.end_model.specs.end_rules.Requesting.{due_of}
+use Rattle.end_model.specs.end_rules.ByItself.{OwnAct, SendsNow, EncodesOn, next_own}
+use Rattle.end_model.specs.end_rules.Reacting.{Passes, Takes, Fails, react}
+use Rattle.end_model.specs.end_rules.History.{after_step, step_of}
+use Rattle.end_model.specs.end_rules.World.{Shared, shared_first}
 use Rattle.agreement.specs.Sets.{Role}
 use Rattle.agreement.specs.Sets.Role.{Initiator, Responder}
 use Rattle.end_model.specs.Requests.{after_called}

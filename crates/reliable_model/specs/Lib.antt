@@ -4,3 +4,5 @@ pub mod Goes
 pub mod OwnRows
 pub mod ReliablePairs
 pub mod Transfers
+pub use Rattle.end_model.specs as end_model
+pub use Rattle.end_model.specs.end_rules as end_rules

@@ -3,12 +3,12 @@ use Rattle.std.specs.Prelude.{◌≡◌, List, ◌++◌, map, option_map, Some}
 use Rattle.osi_base.specs.declared.syntax.Pair.{Pair}
 use Rattle.osi_base.specs.declared.layer_words.SetItem.{SetItem}
 use Rattle.osi_base.specs.declared.layer_words.Proposal.{Proposal}
-use Rattle.dialogue.specs.declared.config.Mode.TheVariants.{Reliable}
-use Rattle.end_rules.specs.Base.{Base}
-use Rattle.end_rules.specs.State.{Body}
+use Rattle.end_model.specs.dialogue.declared.config.Mode.TheVariants.{Reliable}
+use Rattle.end_model.specs.end_rules.Base.{Base}
+use Rattle.end_model.specs.end_rules.State.{Body}
 use Rattle.osi_base.specs.SetPlaces.{pair_of}
-use Rattle.end_rules.specs.ByItself.{OwnAct, SendsNow, EncodesOn, next_own}
-use Rattle.end_rules.specs.History.{after_step, step_of}
+use Rattle.end_model.specs.end_rules.ByItself.{OwnAct, SendsNow, EncodesOn, next_own}
+use Rattle.end_model.specs.end_rules.History.{after_step, step_of}
 use Rattle.agreement.specs.Messages.{Act}
 use Rattle.agreement.specs.State.{Handed}
 use Rattle.agreement.specs.Worlds.Step.{Acts}

@@ -3,17 +3,17 @@
 -- and recoveries.
 use Rattle.std.specs.Prelude.{◌≡◌, ◌≤◌, List, ◌∷◌, true, false}
 use Rattle.std.specs.List.{list_any}
-use Rattle.dialogue.specs.declared.config.Config.{Config}
-use Rattle.dialogue.specs.declared.config.Mode.TheVariants.{Reliable}
-use Rattle.dialogue.specs.declared.indication.Indication.{Indication}
+use Rattle.end_model.specs.dialogue.declared.config.Config.{Config}
+use Rattle.end_model.specs.dialogue.declared.config.Mode.TheVariants.{Reliable}
+use Rattle.end_model.specs.dialogue.declared.indication.Indication.{Indication}
 use Rattle.stub_tables.specs.declared.tables.Tables.{Tables}
-use Rattle.end_rules.specs.Base.{Spellings, Fault}
-use Rattle.end_rules.specs.Sets.{proposed_ids}
-use Rattle.end_rules.specs.Altering.{is_no_context}
-use Rattle.end_rules.specs.Writing.{proposals}
-use Rattle.end_rules.specs.Messages.{Message}
-use Rattle.end_rules.specs.State.{Body, holds_turn}
-use Rattle.end_rules.specs.Reacting.{Fails, react}
+use Rattle.end_model.specs.end_rules.Base.{Spellings, Fault}
+use Rattle.end_model.specs.end_rules.Sets.{proposed_ids}
+use Rattle.end_model.specs.end_rules.Altering.{is_no_context}
+use Rattle.end_model.specs.end_rules.Writing.{proposals}
+use Rattle.end_model.specs.end_rules.Messages.{Message}
+use Rattle.end_model.specs.end_rules.State.{Body, holds_turn}
+use Rattle.end_model.specs.end_rules.Reacting.{Fails, react}
 use Rattle.agreement.specs.Sets.{Role}
 use Rattle.agreement.specs.Sets.Role.{Initiator}
 use Rattle.end_model.specs.Seen.{Free}

@@ -2,8 +2,8 @@
 use Rattle.std.specs.Prelude.{◌≡◌, ℕ, suc, ◌*◌, ◌≤◌, ◌⊎◌, List, [], ◌∷◌, ◌++◌, length, Option, Some, None}
 use Rattle.osi_base.specs.Limits.{checkpoint_unit}
 use Rattle.stub_tables.specs.declared.apdu.Apdu.{Apdu}
-use Rattle.end_rules.specs.Base.{Base}
-use Rattle.end_rules.specs.State.{Piece, Octets, Marked, Encoded, Transfer, Queued, Sending, joined, highest}
+use Rattle.end_model.specs.end_rules.Base.{Base}
+use Rattle.end_model.specs.end_rules.State.{Piece, Octets, Marked, Encoded, Transfer, Queued, Sending, joined, highest}
 use Rattle.reliable_model.specs.Codecs.{IsTransferable, IsPlaced}
 
 abbrev pub AreTransferable : Base → List Queued → Type 0

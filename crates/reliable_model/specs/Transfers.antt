@@ -1,15 +1,15 @@
 -- Transfers between two ends of reliable mode: they arrive whole and at most once, and are taken as sent (X.228 7).
 use Rattle.std.specs.Prelude.{◌≡◌, ℕ, suc, nat_eq, length, List, [], ◌∷◌, false, Option, Some, None, Ok, if◌then◌else◌}
-use Rattle.dialogue.specs.declared.config.Config.{Config}
-use Rattle.dialogue.specs.declared.indication.Indication.{Indication}
+use Rattle.end_model.specs.dialogue.declared.config.Config.{Config}
+use Rattle.end_model.specs.dialogue.declared.indication.Indication.{Indication}
 use Rattle.stub_tables.specs.declared.tables.Tables.{Tables}
 use Rattle.stub_tables.specs.declared.apdu.Apdu.{Apdu}
-use Rattle.end_rules.specs.Base.{Spellings, Item, Whole}
+use Rattle.end_model.specs.end_rules.Base.{Spellings, Item, Whole}
 use Rattle.osi_base.specs.SetPlaces.{pair_of}
-use Rattle.end_rules.specs.Messages.{Message, Session, OfActivities, End}
-use Rattle.end_rules.specs.State.{Body, Queued}
-use Rattle.end_rules.specs.TakesActivities.{arrived_now}
-use Rattle.end_rules.specs.Reacting.{Takes, react}
+use Rattle.end_model.specs.end_rules.Messages.{Message, Session, OfActivities, End}
+use Rattle.end_model.specs.end_rules.State.{Body, Queued}
+use Rattle.end_model.specs.end_rules.TakesActivities.{arrived_now}
+use Rattle.end_model.specs.end_rules.Reacting.{Takes, react}
 use Rattle.agreement.specs.Sets.{Role, other}
 use Rattle.agreement.specs.Sets.Role.{Initiator}
 use Rattle.agreement.specs.Laws.{AreFalling}

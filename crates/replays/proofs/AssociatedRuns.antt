@@ -10,15 +10,15 @@ use Rattle.dialogue.specs.declared.event.Entry.{Entry}
 use Rattle.dialogue.specs.declared.event.Transcript.{Transcript}
 use Rattle.end_rules.specs.Base.{base_of, is_bare}
 use Rattle.end_rules.specs.World.{World}
-use Rattle.said_worlds.specs.Laws.{AreEndsIn}
-use Rattle.association_reading.specs.Transfers.{association_spellings}
-use Rattle.association_line.specs.Line.{new_end}
-use Rattle.association_runs.specs.Worlds.{ends_of, Runs}
-use Rattle.association_runs.specs.Laws.{RunKeepsLaws}
-use Rattle.association_end.specs.View.{EndView, base, StandsFor}
+use Rattle.codec_runs.specs.said_worlds.Laws.{AreEndsIn}
+use Rattle.codec_runs.specs.association_reading.Transfers.{association_spellings}
+use Rattle.association_duo.specs.association_line.Line.{new_end}
+use Rattle.association_duo.specs.association_runs.Worlds.{ends_of, Runs}
+use Rattle.association_duo.specs.association_runs.Laws.{RunKeepsLaws}
+use Rattle.association_duo.specs.association_end.View.{EndView, base, StandsFor}
 use Rattle.association_duo.specs.Ran.{Told}
-use Rattle.direct_runs.specs.Laws.{DirectRunsKeepLaws}
-use Rattle.transfer_runs.specs.Laws.{ReliableRunsKeepLaws}
+use Rattle.codec_runs.specs.DirectLaws.{DirectRunsKeepLaws}
+use Rattle.codec_runs.specs.ReliableLaws.{ReliableRunsKeepLaws}
 use Rattle.schedule_text.specs.Schedules.{Said}
 use Rattle.replays.specs.Runs.{IsSetUp, RanOver, RanAssociated}
 

@@ -6,7 +6,7 @@ use Rattle.dialogue.specs.Config.{IsBare}
 use Rattle.dialogue.specs.declared.setup.Setup.{Setup}
 use Rattle.dialogue.specs.declared.event.Event.{Event}
 use Rattle.dialogue.specs.declared.event.Transcript.{Transcript}
-use Rattle.bare_end.specs.View.{EndView, StandsFor}
+use Rattle.bare_duo.specs.bare_end.View.{EndView, StandsFor}
 use Rattle.bare_duo.specs.Ran.{RanFromStart, RunsFromStart}
 use Rattle.schedule_text.specs.Schedules.{Said}
 use Rattle.replays.specs.Runs.{BareRanOver, RanBare}

@@ -10,11 +10,11 @@ use Rattle.dialogue.specs.declared.setup.Setup.{Setup}
 use Rattle.dialogue.specs.declared.event.Entry.{Entry}
 use Rattle.dialogue.specs.declared.event.Transcript.{Transcript}
 use Rattle.end_rules.specs.World.{Ends}
-use Rattle.end_wire.specs.Bare.{bare_base}
+use Rattle.bare_duo.specs.end_wire.Bare.{bare_base}
 use Rattle.bare_duo.specs.Worlds as bare
 use Rattle.bare_duo.specs.Laws.{OneRun}
-use Rattle.association_line.specs.OneFeed.{OneCall, OneFeed}
-use Rattle.association_runs.specs.Worlds as associated
+use Rattle.association_duo.specs.association_line.OneFeed.{OneCall, OneFeed}
+use Rattle.association_duo.specs.association_runs.Worlds as associated
 use Rattle.schedule_text.specs.Schedules.{Said}
 use Rattle.replays.specs.Runs.{RanBare, RanAssociated, RanIn, OneTranscript}
 use Rattle.replays.proofs.Unique.{same_runs}

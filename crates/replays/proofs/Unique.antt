@@ -7,8 +7,8 @@ use Rattle.dialogue.specs.declared.event.Entry.TheVariants as entries
 use Rattle.end_rules.specs.Calling.{can_call}
 use Rattle.end_rules.specs.History.{Step, gave, broke}
 use Rattle.end_rules.specs.World.{World, Ends, base_at, other}
-use Rattle.association_line.specs.OneFeed.{OneCall, OneFeed}
-use Rattle.association_runs.specs.Worlds.{end_at, stepping, first_octets, Runs, rests, calls, carries, breaks}
+use Rattle.association_duo.specs.association_line.OneFeed.{OneCall, OneFeed}
+use Rattle.association_duo.specs.association_runs.Worlds.{end_at, stepping, first_octets, Runs, rests, calls, carries, breaks}
 
 module _ (one_feed : OneFeed) (one_call : OneCall) (ends : Ends) where
   pub same_runs : (w v x : World) (all : List Event) (told later : List Entry) → Runs ends w all told v → Runs ends w all later x → (told ≡ later) × (v ≡ x)

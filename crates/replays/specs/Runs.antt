@@ -10,13 +10,13 @@ use Rattle.dialogue.specs.declared.event.Event.{Event}
 use Rattle.dialogue.specs.declared.event.Transcript.{Transcript}
 use Rattle.end_rules.specs.World.{World}
 use Rattle.bare_duo.specs.Worlds as bare
-use Rattle.bare_end.specs.View as bare_view
+use Rattle.bare_duo.specs.bare_end.View as bare_view
 use Rattle.bare_duo.specs.Laws.{KeepsLaws}
 use Rattle.bare_duo.specs.Ran.{RunsFromStart}
-use Rattle.said_spellings.specs.Laws.{IsEndIn}
-use Rattle.association_runs.specs.Worlds.{ends_of, end_at, Runs}
-use Rattle.association_runs.specs.Laws.{AreEvents, RunKeepsLaws}
-use Rattle.association_end.specs.View.{EndView}
+use Rattle.codec_runs.specs.said_spellings.Laws.{IsEndIn}
+use Rattle.association_duo.specs.association_runs.Worlds.{ends_of, end_at, Runs}
+use Rattle.association_duo.specs.association_runs.Laws.{AreEvents, RunKeepsLaws}
+use Rattle.association_duo.specs.association_end.View.{EndView}
 use Rattle.association_duo.specs.Ran.{RunsTold}
 use Rattle.schedule_text.specs.Meeting.{Meet}
 use Rattle.schedule_text.specs.Schedules.{Said}

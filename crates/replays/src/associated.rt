@@ -2,17 +2,17 @@
 
 ghost use Rattle.std.specs.Prelude.{◌≡◌, false, [], None, IfOk};
 ghost use Rattle.packed_codec.specs.Laws.{HasNoAny};
-ghost use Rattle.end_config.specs.Refusing.{config_refusal};
+ghost use Rattle.schedule_text.specs.end_config.Refusing.{config_refusal};
 ghost use Rattle.end_rules.specs.Base.{base_of, is_bare};
-ghost use Rattle.association_reading.specs.Transfers.{association_spellings};
-ghost use Rattle.association_line.specs.Line.{new_end};
-ghost use Rattle.association_end.specs.View.{StandsFor};
+ghost use Rattle.codec_runs.specs.association_reading.Transfers.{association_spellings};
+ghost use Rattle.association_duo.specs.association_line.Line.{new_end};
+ghost use Rattle.association_duo.specs.association_end.View.{StandsFor};
 ghost use Rattle.schedule_text.specs.Schedules.{said};
 ghost use Rattle.replays.specs.Runs.{IsSetUp, RanOver, RanAssociated};
 
 use crate::laws::associated_runs_keep_laws;
+use association_duo::association_end_layer::End;
 use association_duo::run_world;
-use association_end::End;
 use dialogue::{Config, ConfigRefusal, Events, Transcript};
 use osi_base::NoMemory;
 use schedule_text::Schedule;

@@ -3,12 +3,12 @@
 ghost use Rattle.std.specs.Prelude.{◌≡◌, true, false, [], None, IfOk};
 ghost use Rattle.dialogue.specs.declared.config.Mode.TheVariants as modes;
 ghost use Rattle.dialogue.specs.Config.{config_refusal, IsBare};
-ghost use Rattle.bare_end.specs.View.{StandsFor};
+ghost use Rattle.bare_duo.specs.bare_end.View.{StandsFor};
 ghost use Rattle.schedule_text.specs.Schedules.{said};
 ghost use Rattle.replays.specs.Runs.{BareRanOver, RanBare};
 
+use bare_duo::bare_end_layer::End;
 use bare_duo::run_world;
-use bare_end::End;
 use dialogue::{Config, ConfigRefusal, Events, Transcript};
 use osi_base::NoMemory;
 use schedule_text::Schedule;

@@ -1,13 +1,12 @@
 //! Laws of runs, each the contract of a function that does nothing.
 
-ghost use Rattle.direct_runs.specs.Laws.{DirectRunsKeepLaws};
-ghost use Rattle.transfer_runs.specs.Laws.{ReliableRunsKeepLaws};
+ghost use Rattle.codec_runs.specs.DirectLaws.{DirectRunsKeepLaws};
+ghost use Rattle.codec_runs.specs.ReliableLaws.{ReliableRunsKeepLaws};
 ghost use Rattle.replays.specs.Runs.{OneTranscript};
 
-use association_line::{one_call, one_feed};
+use association_duo::association_line_layer::{one_call, one_feed};
 use bare_duo::one_run;
-use direct_runs::direct_runs_keep_laws;
-use transfer_runs::reliable_runs_keep_laws;
+use codec_runs::{direct_runs_keep_laws, reliable_runs_keep_laws};
 
 /// A schedule has one transcript, whoever runs it.
 pub fn one_transcript()

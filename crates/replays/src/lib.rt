@@ -8,3 +8,4 @@ mod running;
 
 pub use laws::one_transcript;
 pub use running::run_schedule;
+pub use schedule_text as schedule_text_layer;

@@ -9,8 +9,8 @@ use Rattle.stub_tables.specs.Readable.{IsReadable}
 use Rattle.stub_tables.specs.Uses.{is_carried, may_lack}
 use Rattle.apdu_spelling.specs.Spellings.{CarriedAs}
 use Rattle.apdu_spelling.proofs.OneHead.{one_carried}
-use Rattle.end_rules.specs.Base.{Carried, Absent, Spelled, Unspelled}
-use Rattle.end_rules.specs.Hearing.{problem_if, value_in}
+use Rattle.end_wire.specs.end_rules.Base.{Carried, Absent, Spelled, Unspelled}
+use Rattle.end_wire.specs.end_rules.Hearing.{problem_if, value_in}
 use Rattle.rose_roles.specs.declared.apdu_problems.Judged.TheVariants as judged
 use Rattle.rose_roles.specs.Heads.{room_in, Carries}
 use Rattle.rose_roles.specs.Values.{IsAllowedIn}

@@ -12,7 +12,7 @@ use Rattle.linked_ops.specs.declared.key.ForestRefusal.TheVariants as refusals
 use Rattle.linked_ops.specs.Opening.{IsOpened}
 use Rattle.linked_ops.specs.Keys.{same_bool, same_key}
 use Rattle.linked_ops.specs.Entries.{Entry, is_open, closed}
-use Rattle.end_rules.specs.State as ends
+use Rattle.end_wire.specs.end_rules.State as ends
 use Rattle.rose_roles.specs.declared.invoked_with.InvokedWith.{InvokedWith}
 use Rattle.rose_roles.specs.Calls.{Kept, called, key_of, side, operation_or_none, context_or_none, parent_in, AreOpen, opens_in}
 use Rattle.rose_roles.proofs.Keys.{id_is, ids_are, key_is, keys_are, bool_cases, or_true, AreApart, open_closed, shut_closed}

@@ -9,7 +9,7 @@ use Rattle.std.specs.Map.{remove_entry, keys_of}
 use Rattle.std.specs.BTreeMap.{is_at}
 use Rattle.linked_ops.specs.Keys.{same_bool, same_key}
 use Rattle.linked_ops.specs.Entries.{Entry, is_open}
-use Rattle.end_rules.specs.State as ends
+use Rattle.end_wire.specs.end_rules.State as ends
 use Rattle.rose_roles.specs.declared.invoked_with.InvokedWith.{InvokedWith}
 use Rattle.rose_roles.specs.Calls.{Kept, called, key_of, AreOpen, open_call, opens_in}
 use Rattle.rose_roles.proofs.Keys.{id_is, ids_are, bool_cases, or_rest, AreApart, bools_are}

@@ -9,10 +9,10 @@ use Rattle.stub_tables.specs.declared.operation.Operation.{Operation}
 use Rattle.stub_tables.specs.Lookup.{operation_at, operation_with}
 use Rattle.stub_tables.specs.Apdus.{placed}
 use Rattle.linked_ops.specs.Entries.{Entry, is_open, is_open_or_none}
-use Rattle.end_rules.specs.Base.{Base, Carried, Absent, Spelled, Unspelled, InvokeHead}
-use Rattle.end_rules.specs.State as ends
-use Rattle.end_rules.specs.Invoking.{is_linked_to, operation_of}
-use Rattle.end_rules.specs.Hearing as rules
+use Rattle.end_wire.specs.end_rules.Base.{Base, Carried, Absent, Spelled, Unspelled, InvokeHead}
+use Rattle.end_wire.specs.end_rules.State as ends
+use Rattle.end_wire.specs.end_rules.Invoking.{is_linked_to, operation_of}
+use Rattle.end_wire.specs.end_rules.Hearing as rules
 use Rattle.rose_roles.specs.declared.invoked_with.InvokedWith.{InvokedWith}
 use Rattle.rose_roles.specs.declared.apdu_problems.Judged as judgeds
 use Rattle.rose_roles.specs.declared.apdu_problems.Judged.TheVariants as judged

@@ -17,9 +17,9 @@ use Rattle.apdu_spelling.specs.declared.head.ApduKind.{ApduKind}
 use Rattle.apdu_spelling.specs.declared.head.ApduKind.TheVariants as kinds
 use Rattle.dialogue.specs.declared.indication.Indication.TheVariants as indications
 use Rattle.linked_ops.specs.Entries.{Entry}
-use Rattle.end_rules.specs.Base.{Base, Carried, BadReject, InvokeHead, ResultHead, ErrorHead, RejectHead}
-use Rattle.end_rules.specs.State as ends
-use Rattle.end_rules.specs.Hearing as rules
+use Rattle.end_wire.specs.end_rules.Base.{Base, Carried, BadReject, InvokeHead, ResultHead, ErrorHead, RejectHead}
+use Rattle.end_wire.specs.end_rules.State as ends
+use Rattle.end_wire.specs.end_rules.Hearing as rules
 use Rattle.rose_roles.specs.declared.invoked_with.InvokedWith.{InvokedWith}
 use Rattle.rose_roles.specs.declared.apdu_problems.Judged as judgeds
 use Rattle.rose_roles.specs.declared.apdu_problems.Judged.TheVariants as judged

@@ -12,10 +12,10 @@ use Rattle.stub_tables.specs.Codes.{is_silent, is_error_of}
 use Rattle.stub_tables.specs.Lookup.{operation_at, error_at, operation_with}
 use Rattle.stub_tables.specs.Uses.{is_carried}
 use Rattle.stub_tables.specs.Apdus.{placed}
-use Rattle.end_rules.specs.Base.{Carried, Absent, Spelled, Unspelled}
-use Rattle.end_rules.specs.State.{is_empty}
-use Rattle.end_rules.specs.Invoking.{is_linked_to}
-use Rattle.end_rules.specs.Hearing.{first_problem, problem_if, has_links, is_place}
+use Rattle.end_wire.specs.end_rules.Base.{Carried, Absent, Spelled, Unspelled}
+use Rattle.end_wire.specs.end_rules.State.{is_empty}
+use Rattle.end_wire.specs.end_rules.Invoking.{is_linked_to}
+use Rattle.end_wire.specs.end_rules.Hearing.{first_problem, problem_if, has_links, is_place}
 use Rattle.rose_roles.specs.declared.invoked_with.InvokedWith.{InvokedWith}
 use Rattle.rose_roles.specs.declared.apdu_problems.Judged as judgeds
 use Rattle.rose_roles.specs.declared.apdu_problems.Judged.TheVariants as judged

@@ -1,12 +1,12 @@
 -- What an end keeps of open invocations: the forest of their keys, and for each end the operation and the context of
 -- each. Together they are the list of open invocations in order of opening.
-use Rattle.std.specs.Prelude.{◌≡◌, ℕ, ℤ, Bool, not, List, [], ◌∷◌, Option, Some, None, is_some, if◌then◌else◌}
+use Rattle.std.specs.Prelude.{◌≡◌, ℕ, ℤ, Bool, true, false, not, List, [], ◌∷◌, Option, Some, None, is_some, Result, OnErr, if◌then◌else◌}
 use Rattle.std.specs.Ordering.{int_cmp}
 use Rattle.std.specs.Map.{lookup}
 use Rattle.std.specs.BTreeMap.{is_at}
 use Rattle.linked_ops.specs.declared.key.Key.{Key}
 use Rattle.linked_ops.specs.Entries.{Entry, is_open}
-use Rattle.end_rules.specs.State as ends
+use Rattle.end_wire.specs.end_rules.State as ends
 use Rattle.rose_roles.specs.declared.invoked_with.InvokedWith.{InvokedWith}
 
 -- by rising identifier, each once
@@ -39,6 +39,16 @@ pub record AreOpen (own : Bool) (forest : List Entry) (kept : Kept) : Type 0 whe
 pub record KeepsOpen (own : Bool) (before after : List Entry) (kept : Kept) : Type 0 where
   pub these : AreOpen own after kept
   pub others : (others : Kept) → AreOpen (not own) before others → AreOpen (not own) after others
+
+-- What a step of the end that invokes keeps: its keys, and both as they were where the step fails.
+pub record InvokerKeeps {T E : Type 0} (before after : List Entry) (old new : Invoking) (answer : Result T E) : Type 0 where
+  pub keys : KeepsOpen true before after new.kept
+  pub err : OnErr answer ((new ≡ old) × (after ≡ before))
+
+-- What a step of the end that performs keeps: the context of the next APDU, and its keys.
+pub record PerformerKeeps (before after : List Entry) (old new : Performing) : Type 0 where
+  pub context : new.context ≡ old.context
+  pub keys : KeepsOpen false before after new.kept
 
 -- ---- the open invocations of both ends, in order of opening
 

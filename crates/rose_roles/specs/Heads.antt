@@ -16,7 +16,7 @@ use Rattle.apdu_spelling.specs.declared.head.ApduHead.{ApduHead}
 use Rattle.apdu_spelling.specs.declared.head.ApduKind.{ApduKind}
 use Rattle.apdu_spelling.specs.declared.head.ApduKind.TheVariants.{Invoke, Result, Error, Reject}
 use Rattle.apdu_spelling.specs.Spellings.{CarriedAs}
-use Rattle.end_rules.specs.Base.{Carried, Absent, Spelled, Unspelled, HeardHead, BadReject, InvokeHead, ResultHead, ErrorHead, RejectHead}
+use Rattle.end_wire.specs.end_rules.Base.{Carried, Absent, Spelled, Unspelled, HeardHead, BadReject, InvokeHead, ResultHead, ErrorHead, RejectHead}
 
 -- an APDU has at most 262,144 octets, in the packed syntax with those before its value
 abbrev pub room_in : Syntax → ℕ → ℕ

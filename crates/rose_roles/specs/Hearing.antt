@@ -6,12 +6,12 @@ use Rattle.osi_base.specs.declared.layer_words.ProblemKind.TheVariants as kinds
 use Rattle.stub_tables.specs.declared.tables.Tables.{Tables}
 use Rattle.asn1_types.specs.declared.value.Val.{Val}
 use Rattle.apdu_spelling.specs.declared.head.ApduHead.{ApduHead}
-use Rattle.apdu_codec.specs.declared.fault.HeadFault as faults
-use Rattle.apdu_codec.specs.declared.fault.HeadFault.TheVariants as fault
+use Rattle.end_wire.specs.apdu_codec.declared.fault.HeadFault as faults
+use Rattle.end_wire.specs.apdu_codec.declared.fault.HeadFault.TheVariants as fault
 use Rattle.dialogue.specs.declared.indication.Indication.TheVariants as indications
-use Rattle.end_rules.specs.Base.{Base, Carried, HeardHead}
-use Rattle.end_rules.specs.State as ends
-use Rattle.end_rules.specs.Hearing.{Heard, told, hear, problem_with}
+use Rattle.end_wire.specs.end_rules.Base.{Base, Carried, HeardHead}
+use Rattle.end_wire.specs.end_rules.State as ends
+use Rattle.end_wire.specs.end_rules.Hearing.{Heard, told, hear, problem_with}
 use Rattle.rose_roles.specs.declared.apdu_taken.RoseTaken as takens
 use Rattle.rose_roles.specs.declared.apdu_taken.RoseTaken.TheVariants as taken
 use Rattle.rose_roles.specs.declared.apdu_problems.Judged as judgeds

@@ -6,9 +6,9 @@ use Rattle.asn1_types.specs.Table.{AreSoundRows}
 use Rattle.ber_spelling.specs.Octets.{AreOctets}
 use Rattle.stub_tables.specs.declared.tables.Tables.{Tables}
 use Rattle.apdu_spelling.specs.declared.head.ApduHead.{ApduHead}
-use Rattle.end_rules.specs.Base.{Base, Carried, HeardHead}
-use Rattle.end_rules.specs.State.{Calls, opens_of}
-use Rattle.end_rules.specs.Hearing.{hear}
+use Rattle.end_wire.specs.end_rules.Base.{Base, Carried, HeardHead}
+use Rattle.end_wire.specs.end_rules.State.{Calls, opens_of}
+use Rattle.end_wire.specs.end_rules.Hearing.{hear}
 use Rattle.end_wire.specs.Heads.{carried_at}
 use Rattle.rose_roles.specs.Heads.{HeadCarries, room_in, use_by}
 

@@ -5,10 +5,10 @@ ghost use Rattle.std.specs.Option.{option_copied, option_map};
 ghost use Rattle.apdu_spelling.specs.declared.head.ApduKind.TheVariants as kinds;
 ghost use Rattle.stub_tables.specs.Lookup.{operation_at};
 ghost use Rattle.stub_tables.specs.Apdus.{placed, argument_of};
-ghost use Rattle.end_rules.specs.Base.{Carried};
-ghost use Rattle.end_rules.specs.Hearing.{has_links, problem_if, value_in};
-ghost use Rattle.end_rules.specs.Sets.{is_among};
-ghost use Rattle.end_rules.specs.Invoking.{is_linked_to};
+ghost use Rattle.end_wire.specs.end_rules.Base.{Carried};
+ghost use Rattle.end_wire.specs.end_rules.Hearing.{has_links, problem_if, value_in};
+ghost use Rattle.end_wire.specs.end_rules.Sets.{is_among};
+ghost use Rattle.end_wire.specs.end_rules.Invoking.{is_linked_to};
 ghost use Rattle.rose_roles.specs.ApduProblems.{silent, operation_called, argument_problem, link_problem, is_right, IsJudged, result_problem, error_problem, known_error_problem};
 ghost use Rattle.rose_roles.specs.Heads.{Carries, use_by, parameter_at, parameter_placed};
 

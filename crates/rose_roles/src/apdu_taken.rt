@@ -1,14 +1,14 @@
 //! What becomes of an APDU that was taken.
 
 ghost use Rattle.std.specs.Prelude.{◌≡◌, ℕ, Some, None};
-ghost use Rattle.end_rules.specs.Hearing.{problem_with, is_of_invocation};
+ghost use Rattle.end_wire.specs.end_rules.Hearing.{problem_with, is_of_invocation};
 ghost use Rattle.osi_base.specs.declared.layer_words.ProblemKind.TheVariants as kinds;
 ghost use Rattle.rose_roles.specs.declared.apdu_taken.RoseTaken.TheVariants as takens;
 ghost use Rattle.rose_roles.specs.Hearing.{refused_as, result_taken, error_taken};
 
 use crate::apdu_problems::Judged;
-use apdu_codec::HeadFault;
 use asn1_types::Val;
+use end_wire::apdu_codec_layer::HeadFault;
 use osi_base::{NoMemory, Problem, ProblemKind};
 
 /// What becomes of an APDU that was taken (X.880 9): what the user is told, or the reject that is

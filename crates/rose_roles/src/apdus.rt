@@ -1,7 +1,7 @@
 //! The APDUs that calls send (X.882 9).
 
 ghost use Rattle.std.specs.Prelude.{◌≡◌, IfOk};
-ghost use Rattle.end_rules.specs.Invoking.{invoke_apdu, result_apdu, error_apdu};
+ghost use Rattle.end_wire.specs.end_rules.Invoking.{invoke_apdu, result_apdu, error_apdu};
 
 use asn1_types::Val;
 use osi_base::{Copied, NoMemory};

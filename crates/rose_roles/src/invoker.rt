@@ -1,18 +1,18 @@
 //! The side that invokes: what becomes of outcomes and rejects.
 
-ghost use Rattle.std.specs.Prelude.{◌≡◌, ◌<◌, ◌≤◌, ◌+◌, ℕ, ℤ, pos, List, [], ◌∷◌, ◌++◌, length, None, Some, true, false, IfOk, OnOk, OnErr, is_some};
+ghost use Rattle.std.specs.Prelude.{◌≡◌, ◌<◌, ◌≤◌, ◌+◌, ℕ, ℤ, pos, List, [], ◌∷◌, ◌++◌, length, None, Some, true, false, IfOk, OnOk, is_some};
 ghost use Rattle.std.specs.Option.{option_map};
 ghost use Rattle.std.specs.Ordering.{int_cmp};
 ghost use Rattle.osi_base.specs.Limits.{last_invocation, most_open};
 ghost use Rattle.linked_ops.specs.Entries.{Entry, IsForest, is_open, is_open_or_none};
 ghost use Rattle.apdu_spelling.specs.declared.head.ApduKind.TheVariants as kinds;
 ghost use Rattle.stub_tables.specs.Lookup.{error_with};
-ghost use Rattle.end_rules.specs.Base.{Base, ResultHead, ErrorHead, RejectHead};
-ghost use Rattle.end_rules.specs.State.{close, opens_of};
-ghost use Rattle.end_rules.specs.Hearing.{hear, is_of_invocation};
+ghost use Rattle.end_wire.specs.end_rules.Base.{Base, ResultHead, ErrorHead, RejectHead};
+ghost use Rattle.end_wire.specs.end_rules.State.{close, opens_of};
+ghost use Rattle.end_wire.specs.end_rules.Hearing.{hear, is_of_invocation};
 ghost use Rattle.rose_roles.specs.Heads.{is_invocation, reject_by, Carries, use_by, parameter_placed};
 ghost use Rattle.rose_roles.specs.Hearing.{Hears, HearsHead, heard_with};
-ghost use Rattle.rose_roles.specs.Calls.{Kept, Invoking, called, key_of, AreOpen, calls_of, open_call, opens_in, KeepsOpen};
+ghost use Rattle.rose_roles.specs.Calls.{Kept, Invoking, called, key_of, AreOpen, calls_of, open_call, opens_in, KeepsOpen, InvokerKeeps};
 
 use crate::apdu_problems::{judge_error, judge_result};
 use crate::apdu_taken::{
@@ -108,8 +108,7 @@ impl Invoker {
                   } ∷ [];
               made = self.old.made + 1;
             }) }
-        ensures open { KeepsOpen true forest.old forest.new self.new.kept }
-        ensures err { OnErr result ((self.new ≡ self.old) × (forest.new ≡ forest.old)) }
+        ensures keeps { InvokerKeeps forest.old forest.new self.old self.new result }
     {
         let made = self.made + 1;
         let key = own_key(made);
@@ -167,8 +166,7 @@ impl Invoker {
         ensures heard { IfOk result (λ taken. (performed : Kept) (context : ℕ) →
             Hears tables.now syntax context head (calls_of forest.old self.old performed)
             (calls_of forest.new self.new performed) taken) }
-        ensures open { KeepsOpen true forest.old forest.new self.new.kept }
-        ensures err { OnErr result ((self.new ≡ self.old) × (forest.new ≡ forest.old)) }
+        ensures keeps { InvokerKeeps forest.old forest.new self.old self.new result }
     {
         let Some(id) = &head.id else {
             return Ok(RoseTaken::BadReject);
@@ -200,8 +198,7 @@ impl Invoker {
             (use_by tables.now kinds.Result head.now.code) head.now.rest)
             (calls_of forest.old self.old performed) (calls_of forest.new self.new performed)
             taken) }
-        ensures open { KeepsOpen true forest.old forest.new self.new.kept }
-        ensures err { OnErr result ((self.new ≡ self.old) × (forest.new ≡ forest.old)) }
+        ensures keeps { InvokerKeeps forest.old forest.new self.old self.new result }
     {
         let judged = judge_result(
             self.alloc,
@@ -229,8 +226,7 @@ impl Invoker {
         ensures heard { IfOk result (λ taken. (performed : Kept) (context : ℕ) →
             Hears tables.now syntax context head (calls_of forest.old self.old performed)
             (calls_of forest.new self.new performed) taken) }
-        ensures open { KeepsOpen true forest.old forest.new self.new.kept }
-        ensures err { OnErr result ((self.new ≡ self.old) × (forest.new ≡ forest.old)) }
+        ensures keeps { InvokerKeeps forest.old forest.new self.old self.new result }
     {
         let Some(id) = &head.id else {
             return Ok(RoseTaken::BadReject);
@@ -266,8 +262,7 @@ impl Invoker {
             (parameter_placed tables.now (error_with tables.now code.now)) head.now.rest)
             (calls_of forest.old self.old performed) (calls_of forest.new self.new performed)
             taken) }
-        ensures open { KeepsOpen true forest.old forest.new self.new.kept }
-        ensures err { OnErr result ((self.new ≡ self.old) × (forest.new ≡ forest.old)) }
+        ensures keeps { InvokerKeeps forest.old forest.new self.old self.new result }
     {
         let error = tables.error_with(code);
         let judged = judge_error(
@@ -341,8 +336,7 @@ impl Invoker {
         ensures heard { IfOk result (λ taken. (performed : Kept) (context : ℕ) →
             Hears tables.now syntax context head (calls_of forest.old self.old performed)
             (calls_of forest.new self.new performed) taken) }
-        ensures open { KeepsOpen true forest.old forest.new self.new.kept }
-        ensures err { OnErr result ((self.new ≡ self.old) × (forest.new ≡ forest.old)) }
+        ensures keeps { InvokerKeeps forest.old forest.new self.old self.new result }
     {
         match head.kind {
             ApduKind::Result => self.take_result(forest, syntax, tables, head),

@@ -7,10 +7,10 @@ ghost use Rattle.stub_tables.specs.Lookup.{operation_at};
 ghost use Rattle.stub_tables.specs.Apdus.{placed, argument_of};
 ghost use Rattle.apdu_spelling.specs.declared.head.ApduKind.TheVariants as kinds;
 ghost use Rattle.linked_ops.specs.Entries.{Entry, IsForest, is_open, is_open_or_none};
-ghost use Rattle.end_rules.specs.Base.{Base, Carried};
-ghost use Rattle.end_rules.specs.State.{close, opens_of};
-ghost use Rattle.end_rules.specs.Hearing.{opening, invoked, value_in, first_problem, problem_if};
-ghost use Rattle.rose_roles.specs.Calls.{Kept, Invoking, called, key_of, AreOpen, calls_of, opens_in, KeepsOpen};
+ghost use Rattle.end_wire.specs.end_rules.Base.{Base, Carried};
+ghost use Rattle.end_wire.specs.end_rules.State.{close, opens_of};
+ghost use Rattle.end_wire.specs.end_rules.Hearing.{opening, invoked, value_in, first_problem, problem_if};
+ghost use Rattle.rose_roles.specs.Calls.{Kept, Invoking, called, key_of, AreOpen, calls_of, opens_in, PerformerKeeps};
 ghost use Rattle.rose_roles.specs.Heads.{is_invocation, Carries};
 ghost use Rattle.rose_roles.specs.ApduProblems.{silent, known_problem, early_problem, invoke_problem, IsJudged, IsFree};
 ghost use Rattle.rose_roles.specs.Hearing.{Hears, heard_with};
@@ -127,8 +127,7 @@ impl Performer {
         requires { AreOpen false forest.old self.old.kept }
         ensures closed { (invoked : Invoking) → calls_of forest.new invoked self.new.kept
             ≡ close false id (calls_of forest.old invoked self.old.kept) }
-        ensures context { self.new.context ≡ self.old.context }
-        ensures open { KeepsOpen false forest.old forest.new self.new.kept }
+        ensures keeps { PerformerKeeps forest.old forest.new self.old self.new }
     {
         forest.is_forest();
         let key = key_of(false, &id);
@@ -140,8 +139,7 @@ impl Performer {
         requires { AreOpen false forest.old self.old.kept }
         ensures closed { (invoked : Invoking) → calls_of forest.new invoked self.new.kept
             ≡ close false id.now (calls_of forest.old invoked self.old.kept) }
-        ensures context { self.new.context ≡ self.old.context }
-        ensures open { KeepsOpen false forest.old forest.new self.new.kept }
+        ensures keeps { PerformerKeeps forest.old forest.new self.old self.new }
     {
         forest.is_forest();
         let key = key_of(false, id);
@@ -234,8 +232,7 @@ impl Performer {
               parent = linked;
             })
             (calls_of forest.old own self.old.kept)) }
-        ensures context { self.new.context ≡ self.old.context }
-        ensures open { KeepsOpen false forest.old forest.new self.new.kept }
+        ensures keeps { PerformerKeeps forest.old forest.new self.old self.new }
         ensures err { OnErr result ((self.new ≡ self.old) × (forest.new ≡ forest.old)) }
     {
         if is_silent_at(tables, Some(place)) {
@@ -268,8 +265,7 @@ impl Performer {
             heard_with (calls_of forest.new own self.new.kept) taken
             ≡ invoked base (calls_of forest.old own self.old.kept) self.old.context id.now linked
             place carried) }
-        ensures context { self.new.context ≡ self.old.context }
-        ensures open { KeepsOpen false forest.old forest.new self.new.kept }
+        ensures keeps { PerformerKeeps forest.old forest.new self.old self.new }
         ensures err { OnErr result ((self.new ≡ self.old) × (forest.new ≡ forest.old)) }
     {
         match place {
@@ -296,8 +292,7 @@ impl Performer {
         ensures heard { IfOk result (λ taken. Hears tables.now syntax self.old.context head
             (calls_of forest.old own.now self.old.kept) (calls_of forest.new own.now self.new.kept)
             taken) }
-        ensures context { self.new.context ≡ self.old.context }
-        ensures open { KeepsOpen false forest.old forest.new self.new.kept }
+        ensures keeps { PerformerKeeps forest.old forest.new self.old self.new }
         ensures err { OnErr result ((self.new ≡ self.old) × (forest.new ≡ forest.old)) }
     {
         forest.is_forest();
@@ -336,8 +331,7 @@ impl Performer {
         ensures heard { IfOk result (λ taken. Hears tables.now syntax self.old.context head
             (calls_of forest.old own.now self.old.kept) (calls_of forest.new own.now self.new.kept)
             taken) }
-        ensures context { self.new.context ≡ self.old.context }
-        ensures open { KeepsOpen false forest.old forest.new self.new.kept }
+        ensures keeps { PerformerKeeps forest.old forest.new self.old self.new }
         ensures err { OnErr result ((self.new ≡ self.old) × (forest.new ≡ forest.old)) }
     {
         self.take_invocation(own, forest, syntax, tables, head)

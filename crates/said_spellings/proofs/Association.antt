@@ -21,10 +21,10 @@ use Rattle.asn1_types.specs.Whole as whole
 use Rattle.asn1_types.specs.Writing.{written, writes}
 use Rattle.asn1_types.specs.Writing as writing
 use Rattle.acse.specs.Written.{written_acse}
-use Rattle.presentation_pdus.specs.declared.place.PpduPlace.TheVariants as place
-use Rattle.presentation_pdus.specs.Rows.{ppdu_rows, connect_row}
-use Rattle.presentation_pdus.specs.Words.{value_of, written_ppdu}
-use Rattle.ppdu_laws.specs.Written.{definition_sized, answer_sized, is_short}
+use Rattle.end_config.specs.presentation_pdus.declared.place.PpduPlace.TheVariants as place
+use Rattle.end_config.specs.presentation_pdus.Rows.{ppdu_rows, connect_row}
+use Rattle.end_config.specs.presentation_pdus.Words.{value_of, written_ppdu}
+use Rattle.association_worlds.specs.ppdu_laws.Written.{definition_sized, answer_sized, is_short}
 use Rattle.spdu_codec.specs.Written.{connect_data}
 use Rattle.tpkt.specs.Wire.{parameter}
 use Rattle.tpkt.specs.Written.{selector_parameter, connection_fields, control_packet}
@@ -41,8 +41,8 @@ use Rattle.end_rules.specs.Base.{Base, Spellings, acse_name, is_bare}
 use Rattle.end_rules.specs.Messages.{OfAssociation, AssociationWord, Connect, Accept, Refuse, Finish, Disconnect, Abort, AbortAccept, Message, Transport, Session, TransportUnit, ConnectionRequest, ConnectionConfirm, DisconnectRequest, TransportError}
 use Rattle.end_rules.specs.Writing.{acse_context, requirement_bits, proposals, session_connect, presentation_connect, proposal_in_ber}
 use Rattle.end_rules.specs.Policy.{opening_policy}
-use Rattle.association_wire.specs.Written.{request_ends, written_unit}
-use Rattle.association_reading.specs.Laws.{IsSendable}
+use Rattle.association_worlds.specs.association_wire.Written.{request_ends, written_unit}
+use Rattle.association_worlds.specs.association_reading.Laws.{IsSendable}
 use Rattle.association_worlds.specs.Ways.{IsOfTransport}
 use Rattle.agreement.specs.Sets.Role.{Initiator, Responder}
 use Rattle.end_model.specs.Pairs.{Common, base_at}

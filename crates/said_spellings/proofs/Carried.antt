@@ -7,15 +7,15 @@ use Rattle.osi_base.specs.declared.layer_words.RestoredItem.{RestoredItem}
 use Rattle.osi_base.specs.declared.presentation_word.PresentationWord.{PresentationWord}
 use Rattle.osi_base.specs.declared.presentation_word.PresentationWord.TheVariants as ppdus
 use Rattle.osi_base.specs.declared.session_word.SessionWord.TheVariants as units
-use Rattle.presentation_pdus.specs.declared.place.PpduPlace.TheVariants as place
-use Rattle.presentation_pdus.specs.Words.{written_ppdu}
+use Rattle.end_config.specs.presentation_pdus.declared.place.PpduPlace.TheVariants as place
+use Rattle.end_config.specs.presentation_pdus.Words.{written_ppdu}
 use Rattle.stub_tables.specs.declared.tables.Tables.{Tables}
 use Rattle.apdu_spelling.specs.Writing.{written_apdu, IsWritable}
 use Rattle.end_rules.specs.Base.{Base, Item}
 use Rattle.end_rules.specs.Messages.{DataValue, Word, OfData, OfMarks, DataWord, MarkWord, Values, AlterContext, AlterContextAck, Mark, MarkAck, Restart, RestartAck, Give, Please, GiveConfirm, GiveAck}
-use Rattle.association_wire.specs.Values.{in_form}
-use Rattle.association_wire.specs.Written.{session_units, tsdu_of}
-use Rattle.association_reading.specs.Laws.{IsSendable}
+use Rattle.association_worlds.specs.association_wire.Values.{in_form}
+use Rattle.association_worlds.specs.association_wire.Written.{session_units, tsdu_of}
+use Rattle.association_worlds.specs.association_reading.Laws.{IsSendable}
 use Rattle.reliable_model.specs.Codecs.{IsTransferable}
 use Rattle.transfer_spelling.specs.Laws.{IsModule}
 use Rattle.transfer_spelling.proofs.Writable.{transferables-writable}

@@ -28,7 +28,7 @@ use Rattle.apdu_spelling.specs.Writing.{written_apdu, written_typed, written_car
 use Rattle.der_octets.specs.Laws.{AreOctets, LeavesAre, LeavesInParts}
 use Rattle.der_octets.proofs.Octets.{der-octets}
 use Rattle.der_octets.proofs.Fitting.{fitting-leaves}
-use Rattle.association_wire.specs.Values.{in_form}
+use Rattle.association_worlds.specs.association_wire.Values.{in_form}
 use Rattle.transfer_spelling.specs.Laws.{IsModule, pdv_with}
 use Rattle.transfer_spelling.proofs.Transfers.{values-transfers}
 use Rattle.said_words.specs.Fields.{IsContext}

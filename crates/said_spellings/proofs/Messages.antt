@@ -8,7 +8,7 @@ use Rattle.apdu_spelling.specs.Writing.{written_apdu}
 use Rattle.end_rules.specs.Base.{Spellings}
 use Rattle.end_rules.specs.Messages.{Transport, Session, Word, OfAssociation, OfData, OfMarks, OfActivities}
 use Rattle.end_rules.specs.Writing.{proposals}
-use Rattle.association_reading.specs.Laws.{IsSendable}
+use Rattle.association_worlds.specs.association_reading.Laws.{IsSendable}
 use Rattle.agreement.specs.Sets.Role.{Initiator, Responder}
 use Rattle.end_model.specs.Pairs.{base_at}
 use Rattle.end_model.specs.DirectPairs.{ProposesRightly}

@@ -10,11 +10,11 @@ use Rattle.osi_base.specs.declared.layer_words.RestoredItem.{RestoredItem}
 use Rattle.osi_base.specs.declared.presentation_word.PdvContent.{PdvContent}
 use Rattle.osi_base.specs.declared.presentation_word.PresentationWord.{PresentationWord}
 use Rattle.osi_base.specs.declared.presentation_word.PresentationWord.TheVariants as unit
-use Rattle.presentation_pdus.specs.declared.place.PpduPlace.{PpduPlace}
-use Rattle.presentation_pdus.specs.declared.place.PpduPlace.TheVariants as place
-use Rattle.presentation_pdus.specs.Rows.{ppdu_rows}
-use Rattle.presentation_pdus.specs.Words.{row_of, value_of, written_ppdu}
-use Rattle.ppdu_laws.specs.Written.{carries, is_written_whole, is_short, is_small, all_of, definition_sized, answer_sized, restored_sized, IsWritable}
+use Rattle.end_config.specs.presentation_pdus.declared.place.PpduPlace.{PpduPlace}
+use Rattle.end_config.specs.presentation_pdus.declared.place.PpduPlace.TheVariants as place
+use Rattle.end_config.specs.presentation_pdus.Rows.{ppdu_rows}
+use Rattle.end_config.specs.presentation_pdus.Words.{row_of, value_of, written_ppdu}
+use Rattle.association_worlds.specs.ppdu_laws.Written.{carries, is_written_whole, is_short, is_small, all_of, definition_sized, answer_sized, restored_sized, IsWritable}
 use Rattle.der_octets.specs.Laws.{AreOctets}
 use Rattle.der_octets.proofs.Octets.{der-octets}
 use Rattle.said_words.specs.Fields.{IsContext, AreContexts, AreFew, IsReason, IsResult, AreResults, AreVerdicts, AreRestored, IsAlteration, AreAnswers}

@@ -23,10 +23,11 @@ use Rattle.asn1_types.specs.ValueView.{parts_of, values_of}
 use Rattle.asn1_types.specs.Whole.{is_whole}
 use Rattle.asn1_types.specs.Writing.{Writer, integer_octets, definite, subidentifiers, base_128, set_parts, values_contents, nothing_written, write_by, writes, written}
 use Rattle.fixed_tables.specs.Rows.{part}
-use Rattle.presentation_pdus.specs.Rows.{ppdu_rows, connect_row, accept_row, alter_row, alter_ack_row, restart_row, data_row}
+use Rattle.end_config.specs.presentation_pdus.Rows.{ppdu_rows, connect_row, accept_row, alter_row, alter_ack_row, restart_row, data_row}
 use Rattle.fixed_tables.specs.Pdvs.{pdv_value}
-use Rattle.presentation_pdus.specs.Items.{number_value, bits_value, list_value, some_list, definition_value, answer_value, restored_value}
-use Rattle.presentation_pdus.specs.Words.{normal_mode, with_mode}
+use Rattle.fixed_tables.specs.Values.{bits_value}
+use Rattle.end_config.specs.presentation_pdus.Items.{number_value, list_value, some_list, definition_value, answer_value, restored_value}
+use Rattle.end_config.specs.presentation_pdus.Words.{normal_mode, with_mode}
 use Rattle.said_words.specs.Calls.{IsName, AreNames, AreNamed}
 use Rattle.der_octets.specs.Laws.{AreOctets, LeavesAre, LeavesInParts, LeavesInValues}
 use Rattle.transfer_spelling.proofs.Lengths.{integer-length, definite-length}

@@ -12,10 +12,10 @@ use Rattle.osi_base.specs.declared.presentation_word.PresentationWord.TheVariant
 use Rattle.osi_base.specs.declared.session_word.SessionWord.TheVariants as units
 use Rattle.acse.specs.Written.{written_acse}
 use Rattle.rtse_apdus.specs.Written.{written_rtse}
-use Rattle.presentation_pdus.specs.declared.place.PpduPlace.TheVariants as place
-use Rattle.presentation_pdus.specs.Rows.{ppdu_rows, connect_row}
-use Rattle.presentation_pdus.specs.Words.{value_of, written_ppdu}
-use Rattle.ppdu_laws.specs.Written.{definition_sized}
+use Rattle.end_config.specs.presentation_pdus.declared.place.PpduPlace.TheVariants as place
+use Rattle.end_config.specs.presentation_pdus.Rows.{ppdu_rows, connect_row}
+use Rattle.end_config.specs.presentation_pdus.Words.{value_of, written_ppdu}
+use Rattle.association_worlds.specs.ppdu_laws.Written.{definition_sized}
 use Rattle.spdu_codec.specs.Written.{connect_data}
 use Rattle.stub_tables.specs.declared.tables.Tables.{Tables}
 use Rattle.dialogue.specs.declared.config.Config.{Config}
@@ -27,7 +27,7 @@ use Rattle.end_rules.specs.Messages.{OfAssociation, AssociationWord, Connect, Ac
 use Rattle.end_rules.specs.Writing.{acse_context, rtse_context, requirement_bits, proposals, session_connect, presentation_connect, connection_data, proposal_in_ber}
 use Rattle.end_rules.specs.Policy.{opening_policy}
 use Rattle.end_rules.specs.Connecting.{agreed_checkpoint, answering_data}
-use Rattle.association_reading.specs.Laws.{IsSendable}
+use Rattle.association_worlds.specs.association_reading.Laws.{IsSendable}
 use Rattle.agreement.specs.Sets.Role.{Initiator, Responder}
 use Rattle.end_model.specs.Pairs.{Common, base_at}
 use Rattle.end_model.specs.DirectPairs.{ProposesRightly}

@@ -12,8 +12,8 @@ use Rattle.osi_base.specs.declared.presentation_word.PresentationWord.TheVariant
 use Rattle.osi_base.specs.declared.rtse_word.Rtse.TheVariants as rtse
 use Rattle.osi_base.specs.declared.session_word.SessionWord.TheVariants as units
 use Rattle.asn1_types.specs.Fits.{is_octet}
-use Rattle.presentation_pdus.specs.declared.place.PpduPlace.TheVariants as place
-use Rattle.presentation_pdus.specs.Words.{written_ppdu}
+use Rattle.end_config.specs.presentation_pdus.declared.place.PpduPlace.TheVariants as place
+use Rattle.end_config.specs.presentation_pdus.Words.{written_ppdu}
 use Rattle.fixed_tables.specs.Pdvs.{pdv_value}
 use Rattle.rtse_apdus.specs.Transfer.{written_transfer, IsTransfer}
 use Rattle.rtse_apdus.specs.TransferRows.{transfer_row, transfer_rows}
@@ -24,9 +24,9 @@ use Rattle.stub_tables.specs.declared.apdu.Apdu.{Apdu}
 use Rattle.apdu_spelling.specs.Writing.{written_apdu, IsWritable}
 use Rattle.end_rules.specs.Base.{Base, Item}
 use Rattle.end_rules.specs.Messages.{DataValue, Plea, Part, OfData, OfMarks, OfActivities, DataWord, Values, AlterContext, AlterContextAck, MarkWord, Mark, MarkAck, Restart, RestartAck, Give, Please, GiveConfirm, GiveAck, ActivityWord, Start, Resume, End, EndAck, Interrupt, InterruptAck, Discard, DiscardAck}
-use Rattle.association_wire.specs.Values.{in_form}
-use Rattle.association_reading.specs.Laws.{IsSendable}
-use Rattle.association_reading.specs.Transfers.{transferred}
+use Rattle.association_worlds.specs.association_wire.Values.{in_form}
+use Rattle.association_worlds.specs.association_reading.Laws.{IsSendable}
+use Rattle.association_worlds.specs.association_reading.Transfers.{transferred}
 use Rattle.transfer_spelling.specs.Laws.{IsModule}
 use Rattle.transfer_spelling.proofs.Transfers.{values-transfers}
 use Rattle.transfer_spelling.proofs.Writable.{transferables-writable}

@@ -12,7 +12,7 @@ use Rattle.agreement.specs.Sets.Role.{Initiator, Responder}
 use Rattle.end_model.specs.Pairs.{Common, base_at}
 use Rattle.end_model.specs.DirectPairs.{ProposesRightly}
 use Rattle.transfer_spelling.specs.Laws.{IsModule}
-use Rattle.association_reading.specs.Transfers.{transferred}
+use Rattle.association_worlds.specs.association_reading.Transfers.{transferred}
 use Rattle.association_worlds.specs.Ways.{IsCarried}
 use Rattle.der_octets.specs.Laws.{AreOctets}
 use Rattle.said_words.specs.Calls.{AreNamed}

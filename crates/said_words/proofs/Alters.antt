@@ -8,11 +8,11 @@ use Rattle.osi_base.specs.Limits.{most_contexts, most_alterations}
 use Rattle.dialogue.specs.declared.config.Mode.TheVariants.{Direct}
 use Rattle.dialogue.specs.declared.call.CallRefusal.{CallRefusal}
 use Rattle.dialogue.specs.declared.call.CallRefusal.TheVariants as refusals
-use Rattle.end_rules.specs.Base.{Base}
-use Rattle.end_rules.specs.Sets.{Alteration, is_among, named_ids, proposed_ids, is_fixed, is_named_in, count_added}
+use Rattle.end_model.specs.end_rules.Base.{Base}
+use Rattle.end_model.specs.end_rules.Sets.{Alteration, is_among, named_ids, proposed_ids, is_fixed, is_named_in, count_added}
 use Rattle.osi_base.specs.SetPlaces.{pair_of}
-use Rattle.end_rules.specs.State.{Body, is_empty, is_free, is_current, is_ending}
-use Rattle.end_rules.specs.Altering.{used, has_double, is_no_context, has_bad_transfers, is_bad, additions_refusal, deletion_refusal, deletions_refusal, or_else, is_set_full, alteration_refusal, can_alter}
+use Rattle.end_model.specs.end_rules.State.{Body, is_empty, is_free, is_current, is_ending}
+use Rattle.end_model.specs.end_rules.Altering.{used, has_double, is_no_context, has_bad_transfers, is_bad, additions_refusal, deletion_refusal, deletions_refusal, or_else, is_set_full, alteration_refusal, can_alter}
 use Rattle.end_model.specs.Rows.{at}
 use Rattle.end_model.proofs.Ladder.{passed, unrefused}
 use Rattle.reliable_model.proofs.Fixed.{AreIdentifiers, good-identifiers}

@@ -8,14 +8,14 @@ use Rattle.osi_base.specs.declared.layer_words.Proposal.{Proposal}
 use Rattle.osi_base.specs.declared.layer_words.AddAnswer.{AddAnswer}
 use Rattle.stub_tables.specs.declared.tables.Tables.{Tables}
 use Rattle.dialogue.specs.declared.config.Config.{Config}
-use Rattle.end_rules.specs.Base.{Spellings, acse_name, ber_name}
-use Rattle.end_rules.specs.Sets.{same_name, is_among, put, put_accepted, pair_accepted, with_added, proposed_ids}
+use Rattle.end_model.specs.end_rules.Base.{Spellings, acse_name, ber_name}
+use Rattle.end_model.specs.end_rules.Sets.{same_name, is_among, put, put_accepted, pair_accepted, with_added, proposed_ids}
 use Rattle.osi_base.specs.SetPlaces.{pair_of}
-use Rattle.end_rules.specs.State.{Body}
-use Rattle.end_rules.specs.Altering.{has_double}
-use Rattle.end_rules.specs.Policy.{is_association, takes_syntax, acceptance, rejection, answer_within, answer_to_addition, counted_with, answers_to_additions, opening_policy}
-use Rattle.end_rules.specs.Writing.{acse_pair, acse_context, proposal_in_ber, proposals, session_connect, presentation_connect, connect_values}
-use Rattle.end_rules.specs.Connecting.{set_for, has_acse, is_refused}
+use Rattle.end_model.specs.end_rules.State.{Body}
+use Rattle.end_model.specs.end_rules.Altering.{has_double}
+use Rattle.end_model.specs.end_rules.Policy.{is_association, takes_syntax, acceptance, rejection, answer_within, answer_to_addition, counted_with, answers_to_additions, opening_policy}
+use Rattle.end_model.specs.end_rules.Writing.{acse_pair, acse_context, proposal_in_ber, proposals, session_connect, presentation_connect, connect_values}
+use Rattle.end_model.specs.end_rules.Connecting.{set_for, has_acse, is_refused}
 use Rattle.agreement.specs.Sets.Role.{Initiator, Responder}
 use Rattle.end_model.specs.Pairs.{Common, base_at}
 use Rattle.end_model.specs.DirectPairs.{direct_pair, ProposesRightly}

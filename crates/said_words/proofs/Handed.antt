@@ -13,14 +13,14 @@ use Rattle.dialogue.specs.declared.config.Config.{Config}
 use Rattle.dialogue.specs.declared.config.Mode.TheVariants.{Direct}
 use Rattle.dialogue.specs.declared.call.Call.TheVariants as the_calls
 use Rattle.dialogue.specs.declared.call.CallRefusal.TheVariants as refusals
-use Rattle.end_rules.specs.Base.{Base, Spellings}
+use Rattle.end_model.specs.end_rules.Base.{Base, Spellings}
 use Rattle.osi_base.specs.SetPlaces.{pair_of}
-use Rattle.end_rules.specs.State.{Body, OpenCall, opened_with}
-use Rattle.end_rules.specs.Messages.{Message, Remote}
-use Rattle.end_rules.specs.Hearing.{data_on}
-use Rattle.end_rules.specs.Invoking.{is_too_long, is_stopped, carrier_in, invoke_apdu, result_apdu, error_apdu}
-use Rattle.end_rules.specs.Calling.{can_call}
-use Rattle.end_rules.specs.Requesting.{due_of, due_invoke, due_outcome, sent_at_once, result_in, result_for, error_for, operation_opened}
+use Rattle.end_model.specs.end_rules.State.{Body, OpenCall, opened_with}
+use Rattle.end_model.specs.end_rules.Messages.{Message, Remote}
+use Rattle.end_model.specs.end_rules.Hearing.{data_on}
+use Rattle.end_model.specs.end_rules.Invoking.{is_too_long, is_stopped, carrier_in, invoke_apdu, result_apdu, error_apdu}
+use Rattle.end_model.specs.end_rules.Calling.{can_call}
+use Rattle.end_model.specs.end_rules.Requesting.{due_of, due_invoke, due_outcome, sent_at_once, result_in, result_for, error_for, operation_opened}
 use Rattle.agreement.specs.Sets.{Role}
 use Rattle.agreement.specs.Sets.Role.{Initiator, Responder}
 use Rattle.end_model.specs.Seen.{Free}

@@ -12,10 +12,10 @@ use Rattle.stub_tables.specs.declared.apdu.Apdu.{Apdu}
 use Rattle.stub_tables.specs.declared.apdu.Apdu.TheVariants as apdus
 use Rattle.stub_tables.specs.Codes.{is_error_of}
 use Rattle.stub_tables.specs.Lookup.{operation_at, operation_with, error_at, error_with}
-use Rattle.end_rules.specs.Base.{Base, Carried}
-use Rattle.end_rules.specs.State.{Calls, OpenCall, opened_with, opens_of, is_empty, close}
-use Rattle.end_rules.specs.Invoking.{is_linked_to, operation_of}
-use Rattle.end_rules.specs.Hearing.{Heard, Rejecting, reject_apdu, rejected, told, unless_problem, first_problem, problem_if, problem_with, is_silent_at, has_links, is_right, is_right_result, link_problem, argument_problem, operation_problem, invoke_problem, invoked, result_problem, known_error_problem, error_problem, error_told, hear_result_of, hear_error_of, hear_reject, is_of_invocation, hear, head_of_apdu, value_in, carried_in, code_returned, value_returned}
+use Rattle.end_model.specs.end_rules.Base.{Base, Carried}
+use Rattle.end_model.specs.end_rules.State.{Calls, OpenCall, opened_with, opens_of, is_empty, close}
+use Rattle.end_model.specs.end_rules.Invoking.{is_linked_to, operation_of}
+use Rattle.end_model.specs.end_rules.Hearing.{Heard, Rejecting, reject_apdu, rejected, told, unless_problem, first_problem, problem_if, problem_with, is_silent_at, has_links, is_right, is_right_result, link_problem, argument_problem, operation_problem, invoke_problem, invoked, result_problem, known_error_problem, error_problem, error_told, hear_result_of, hear_error_of, hear_reject, is_of_invocation, hear, head_of_apdu, value_in, carried_in, code_returned, value_returned}
 use Rattle.dialogue.specs.declared.indication.Indication.TheVariants as indications
 use Rattle.end_model.specs.Opens.{IsNumber, IsProper}
 use Rattle.reliable_model.specs.Codecs.{IsTransferable}

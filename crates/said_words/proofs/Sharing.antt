@@ -4,11 +4,11 @@ use Rattle.std.specs.Prelude.{Some, None}
 use Rattle.osi_base.specs.declared.layer_words.SetItem.{SetItem}
 use Rattle.stub_tables.specs.declared.tables.Tables.{Tables}
 use Rattle.dialogue.specs.declared.config.Config.{Config}
-use Rattle.end_rules.specs.Base.{Base, Spellings}
-use Rattle.end_rules.specs.Messages.{Message, Transport, Session}
-use Rattle.end_rules.specs.State.{Body}
-use Rattle.end_rules.specs.ByItself.{next_own}
-use Rattle.end_rules.specs.World.{Shared}
+use Rattle.end_model.specs.end_rules.Base.{Base, Spellings}
+use Rattle.end_model.specs.end_rules.Messages.{Message, Transport, Session}
+use Rattle.end_model.specs.end_rules.State.{Body}
+use Rattle.end_model.specs.end_rules.ByItself.{next_own}
+use Rattle.end_model.specs.end_rules.World.{Shared}
 use Rattle.agreement.specs.Sets.{Role}
 use Rattle.agreement.specs.Sets.Role.{Initiator, Responder}
 use Rattle.agreement.specs.Messages as model

@@ -20,29 +20,29 @@ use Rattle.dialogue.specs.declared.config.Phase.TheVariants.{Idle, Opening, Up, 
 use Rattle.dialogue.specs.declared.call.Call.{Call}
 use Rattle.dialogue.specs.declared.call.Call.TheVariants as the_calls
 use Rattle.dialogue.specs.declared.call.CallRefusal.TheVariants as refusals
-use Rattle.end_rules.specs.Base.{Base, Spellings, Fault}
-use Rattle.end_rules.specs.Sets.{Alteration, is_fixed}
+use Rattle.end_model.specs.end_rules.Base.{Base, Spellings, Fault}
+use Rattle.end_model.specs.end_rules.Sets.{Alteration, is_fixed}
 use Rattle.osi_base.specs.SetPlaces.{pair_of}
-use Rattle.end_rules.specs.State.{Body, Link, Calls, Sending, OpenCall, Queued, Transfer, Encoded, Suspended, NoAnswer, opened_with, is_up, is_broken, is_carrying, is_joined, is_current, is_suspended, is_free, passes_over, on_current, highest, pieces_of, confirmed_of, joined}
-use Rattle.end_rules.specs.Messages.{Message, Session, TransportUnit, ConnectionRequest, ConnectionConfirm, DisconnectRequest, TransportError, ValueContent, DataValue, Association, Part, Plea, UserValues}
-use Rattle.end_rules.specs.Messages.{Word, OfAssociation, OfData, OfMarks, OfActivities, AssociationWord, Connect, Accept, Refuse, Finish, Disconnect, Abort, AbortAccept, Values, AlterContext, AlterContextAck, Mark, MarkAck, Restart, RestartAck, Give, Please, GiveConfirm, GiveAck}
-use Rattle.end_rules.specs.Messages.{Start, Resume, End, EndAck, Interrupt, InterruptAck, Discard, DiscardAck, unit_of}
-use Rattle.end_rules.specs.Writing.{acse_pair, acse_context, rtse_context, rtse_value, session_connect, presentation_connect, connect_values, connection_data, connect_message, is_recovering, user_abort, proposals}
-use Rattle.end_rules.specs.Faults.{fault_if, transport_fault}
-use Rattle.end_rules.specs.Units.{has_marks, has_activities, has_typed_data, has_version_two, has_units, needed_units, selected_with}
-use Rattle.end_rules.specs.Connecting.{refused_connect, accepted_connect, refusal_message, acceptance_message, after_accept, has_association, same_octets, recovers_in}
-use Rattle.end_rules.specs.Calling.{can_call, is_phase_for, is_idle}
-use Rattle.end_rules.specs.Requesting.{due_of, due_invoke, due_outcome, after_invoke, after_outcome, begun, result_in, error_for}
-use Rattle.end_rules.specs.ByItself.{OwnAct, next_own, next_in, next_start, left_of, part_size}
-use Rattle.end_rules.specs.Invoking.{carrier_in}
-use Rattle.end_rules.specs.Hearing.{Rejecting, hear, head_of, with_reject, take_head, take_values}
-use Rattle.end_rules.specs.TakesTransport.{transport_unit_fault, after_transport, answers_to_transport, phase_asked, is_waiting}
-use Rattle.end_rules.specs.TakesData.{alteration, settled}
-use Rattle.end_rules.specs.TakesActivities.{received, handed_up}
-use Rattle.end_rules.specs.TakesMarks.{priority_in}
-use Rattle.end_rules.specs.InPlace.{is_in_place, is_opening, awaits_release, awaits_interrupt, awaits_discard}
-use Rattle.end_rules.specs.Reacting.{after_word, answers_to_word, word_fault}
-use Rattle.end_rules.specs.History.{after_broke, broken_phase, after_step, step_of}
+use Rattle.end_model.specs.end_rules.State.{Body, Link, Calls, Sending, OpenCall, Queued, Transfer, Encoded, Suspended, NoAnswer, opened_with, is_up, is_broken, is_carrying, is_joined, is_current, is_suspended, is_free, passes_over, on_current, highest, pieces_of, confirmed_of, joined}
+use Rattle.end_model.specs.end_rules.Messages.{Message, Session, TransportUnit, ConnectionRequest, ConnectionConfirm, DisconnectRequest, TransportError, ValueContent, DataValue, Association, Part, Plea, UserValues}
+use Rattle.end_model.specs.end_rules.Messages.{Word, OfAssociation, OfData, OfMarks, OfActivities, AssociationWord, Connect, Accept, Refuse, Finish, Disconnect, Abort, AbortAccept, Values, AlterContext, AlterContextAck, Mark, MarkAck, Restart, RestartAck, Give, Please, GiveConfirm, GiveAck}
+use Rattle.end_model.specs.end_rules.Messages.{Start, Resume, End, EndAck, Interrupt, InterruptAck, Discard, DiscardAck, unit_of}
+use Rattle.end_model.specs.end_rules.Writing.{acse_pair, acse_context, rtse_context, rtse_value, session_connect, presentation_connect, connect_values, connection_data, connect_message, is_recovering, user_abort, proposals}
+use Rattle.end_model.specs.end_rules.Faults.{fault_if, transport_fault}
+use Rattle.end_model.specs.end_rules.Units.{has_marks, has_activities, has_typed_data, has_version_two, has_units, needed_units, selected_with}
+use Rattle.end_model.specs.end_rules.Connecting.{refused_connect, accepted_connect, refusal_message, acceptance_message, after_accept, has_association, same_octets, recovers_in}
+use Rattle.end_model.specs.end_rules.Calling.{can_call, is_phase_for, is_idle}
+use Rattle.end_model.specs.end_rules.Requesting.{due_of, due_invoke, due_outcome, after_invoke, after_outcome, begun, result_in, error_for}
+use Rattle.end_model.specs.end_rules.ByItself.{OwnAct, next_own, next_in, next_start, left_of, part_size}
+use Rattle.end_model.specs.end_rules.Invoking.{carrier_in}
+use Rattle.end_model.specs.end_rules.Hearing.{Rejecting, hear, head_of, with_reject, take_head, take_values}
+use Rattle.end_model.specs.end_rules.TakesTransport.{transport_unit_fault, after_transport, answers_to_transport, phase_asked, is_waiting}
+use Rattle.end_model.specs.end_rules.TakesData.{alteration, settled}
+use Rattle.end_model.specs.end_rules.TakesActivities.{received, handed_up}
+use Rattle.end_model.specs.end_rules.TakesMarks.{priority_in}
+use Rattle.end_model.specs.end_rules.InPlace.{is_in_place, is_opening, awaits_release, awaits_interrupt, awaits_discard}
+use Rattle.end_model.specs.end_rules.Reacting.{after_word, answers_to_word, word_fault}
+use Rattle.end_model.specs.end_rules.History.{after_broke, broken_phase, after_step, step_of}
 use Rattle.agreement.specs.Sets.{Role, is_initiator}
 use Rattle.agreement.specs.Sets.Role.{Initiator, Responder}
 use Rattle.end_model.specs.Seen.{Free}

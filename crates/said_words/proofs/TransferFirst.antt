@@ -11,14 +11,14 @@ use Rattle.osi_base.specs.declared.layer_words.AddAnswer.{AddAnswer}
 use Rattle.stub_tables.specs.declared.tables.Tables.{Tables}
 use Rattle.dialogue.specs.declared.config.Config.{Config}
 use Rattle.dialogue.specs.declared.config.Mode.TheVariants.{Reliable}
-use Rattle.end_rules.specs.Base.{Spellings}
-use Rattle.end_rules.specs.Sets.{is_among, put, put_accepted, pair_accepted, with_added, proposed_ids, has_parity}
+use Rattle.end_model.specs.end_rules.Base.{Spellings}
+use Rattle.end_model.specs.end_rules.Sets.{is_among, put, put_accepted, pair_accepted, with_added, proposed_ids, has_parity}
 use Rattle.osi_base.specs.SetPlaces.{pair_of}
-use Rattle.end_rules.specs.State.{Body}
-use Rattle.end_rules.specs.Altering.{has_double}
-use Rattle.end_rules.specs.Policy.{answers_to_additions}
-use Rattle.end_rules.specs.Writing.{acse_pair, acse_context, rtse_context, proposals, session_connect, presentation_connect, connect_values, connection_data}
-use Rattle.end_rules.specs.Connecting.{has_acse, has_rtse, has_association, is_refused}
+use Rattle.end_model.specs.end_rules.State.{Body}
+use Rattle.end_model.specs.end_rules.Altering.{has_double}
+use Rattle.end_model.specs.end_rules.Policy.{answers_to_additions}
+use Rattle.end_model.specs.end_rules.Writing.{acse_pair, acse_context, rtse_context, proposals, session_connect, presentation_connect, connect_values, connection_data}
+use Rattle.end_model.specs.end_rules.Connecting.{has_acse, has_rtse, has_association, is_refused}
 use Rattle.agreement.specs.Sets.Role.{Initiator, Responder}
 use Rattle.end_model.specs.Pairs.{Common, base_at}
 use Rattle.end_model.specs.DirectPairs.{ProposesRightly}

@@ -7,17 +7,17 @@ use Rattle.stub_tables.specs.declared.tables.Tables.{Tables}
 use Rattle.dialogue.specs.declared.config.Config.{Config}
 use Rattle.dialogue.specs.declared.config.Phase.TheVariants.{Broken, Over}
 use Rattle.dialogue.specs.declared.indication.Indication.{Indication}
-use Rattle.end_rules.specs.Base.{Base, Spellings, Fault, Item, Arrived, Whole}
+use Rattle.end_model.specs.end_rules.Base.{Base, Spellings, Fault, Item, Arrived, Whole}
 use Rattle.osi_base.specs.SetPlaces.{pair_of}
-use Rattle.end_rules.specs.State.{Body, Joined, Carrying, is_broken, passes_over}
-use Rattle.end_rules.specs.Messages.{Message, Transport, Session, TransportUnit, Word, OfAssociation, OfData, OfMarks, OfActivities, Connect, Accept, Refuse, Finish, Disconnect, Abort, AbortAccept, Values, Please, Start, Resume, End, EndAck, Interrupt, InterruptAck, Discard, DiscardAck, unit_of}
-use Rattle.end_rules.specs.Writing.{acse_pair, proposals}
-use Rattle.end_rules.specs.Connecting.{recovers_in}
-use Rattle.end_rules.specs.Requesting.{due_of}
-use Rattle.end_rules.specs.Purging.{is_transport_purged}
-use Rattle.end_rules.specs.TakesTransport.{transport_unit_fault, after_transport, answers_to_transport}
-use Rattle.end_rules.specs.InPlace.{is_in_place}
-use Rattle.end_rules.specs.Reacting.{Passes, Takes, react, on_transport, after_word, answers_to_word}
+use Rattle.end_model.specs.end_rules.State.{Body, Joined, Carrying, is_broken, passes_over}
+use Rattle.end_model.specs.end_rules.Messages.{Message, Transport, Session, TransportUnit, Word, OfAssociation, OfData, OfMarks, OfActivities, Connect, Accept, Refuse, Finish, Disconnect, Abort, AbortAccept, Values, Please, Start, Resume, End, EndAck, Interrupt, InterruptAck, Discard, DiscardAck, unit_of}
+use Rattle.end_model.specs.end_rules.Writing.{acse_pair, proposals}
+use Rattle.end_model.specs.end_rules.Connecting.{recovers_in}
+use Rattle.end_model.specs.end_rules.Requesting.{due_of}
+use Rattle.end_model.specs.end_rules.Purging.{is_transport_purged}
+use Rattle.end_model.specs.end_rules.TakesTransport.{transport_unit_fault, after_transport, answers_to_transport}
+use Rattle.end_model.specs.end_rules.InPlace.{is_in_place}
+use Rattle.end_model.specs.end_rules.Reacting.{Passes, Takes, react, on_transport, after_word, answers_to_word}
 use Rattle.agreement.specs.Sets.{Role}
 use Rattle.agreement.specs.Sets.Role.{Initiator, Responder}
 use Rattle.end_model.specs.Seen.{Free}

@@ -19,27 +19,27 @@ use Rattle.dialogue.specs.declared.call.Call.{Call}
 use Rattle.dialogue.specs.declared.call.Call.TheVariants as the_calls
 use Rattle.dialogue.specs.declared.call.CallRefusal.TheVariants as refusals
 use Rattle.dialogue.specs.declared.indication.Indication.{Indication}
-use Rattle.end_rules.specs.Base.{Base, Spellings, Fault, Item}
-use Rattle.end_rules.specs.Sets.{Alteration, count_added, next_number, below, newest, listed}
-use Rattle.end_rules.specs.State.{Body, Calls, OpenCall, NoAnswer, Carrying, opened_with, is_up, is_carrying, is_joined, is_asked, is_unused, is_empty, is_free, passes_over}
-use Rattle.end_rules.specs.Messages.{Message, Transport, Session, TransportUnit, ConnectionRequest, ConnectionConfirm, DisconnectRequest, TransportError, Association, UserValues}
-use Rattle.end_rules.specs.Messages.{Word, OfAssociation, OfData, OfMarks, OfActivities, Connect, Accept, Refuse, Finish, Disconnect, Abort, AbortAccept, Values, AlterContext, AlterContextAck, Mark, MarkAck, Restart, RestartAck, Give, Please, GiveConfirm, GiveAck, unit_of}
-use Rattle.end_rules.specs.Writing.{acse_pair, acse_context, session_connect, presentation_connect, connect_values, connect_message, is_recovering, user_abort, proposals}
-use Rattle.end_rules.specs.Hearing.{Rejecting, reject_apdu, with_reject, sent_on, hear, head_of_apdu}
-use Rattle.end_rules.specs.Invoking.{carrier_in}
-use Rattle.end_rules.specs.Faults.{fault_if, over, transport_fault}
-use Rattle.end_rules.specs.Units.{has_marks, has_restarts, has_token, has_typed_data, has_version_two, has_units, needed_units, selected_with}
-use Rattle.end_rules.specs.Policy.{policy}
-use Rattle.end_rules.specs.Connecting.{refused_connect, accepted_connect, refusal_message, acceptance_message, after_accept}
-use Rattle.end_rules.specs.Calling.{can_call, is_phase_for, is_idle}
-use Rattle.end_rules.specs.Requesting.{due_of, due_invoke, due_outcome, after_invoke, after_outcome, answering, sent_at_once, result_in, error_for}
-use Rattle.end_rules.specs.TakesTransport.{transport_unit_fault, after_transport, answers_to_transport, phase_asked, is_waiting, is_size}
-use Rattle.end_rules.specs.TakesMarks.{restored_set}
-use Rattle.end_rules.specs.TakesData.{alteration, settled}
-use Rattle.end_rules.specs.InPlace.{is_in_place, is_opening, is_peers, awaits_restart}
-use Rattle.end_rules.specs.Purging.{is_purged, is_transport_purged}
-use Rattle.end_rules.specs.Reacting.{Passes, Takes, react, fails as failing, on_word, on_transport, word_fault, after_word, answers_to_word}
-use Rattle.end_rules.specs.History.{after_broke, broken_phase}
+use Rattle.end_model.specs.end_rules.Base.{Base, Spellings, Fault, Item}
+use Rattle.end_model.specs.end_rules.Sets.{Alteration, count_added, next_number, below, newest, listed}
+use Rattle.end_model.specs.end_rules.State.{Body, Calls, OpenCall, NoAnswer, Carrying, opened_with, is_up, is_carrying, is_joined, is_asked, is_unused, is_empty, is_free, passes_over}
+use Rattle.end_model.specs.end_rules.Messages.{Message, Transport, Session, TransportUnit, ConnectionRequest, ConnectionConfirm, DisconnectRequest, TransportError, Association, UserValues}
+use Rattle.end_model.specs.end_rules.Messages.{Word, OfAssociation, OfData, OfMarks, OfActivities, Connect, Accept, Refuse, Finish, Disconnect, Abort, AbortAccept, Values, AlterContext, AlterContextAck, Mark, MarkAck, Restart, RestartAck, Give, Please, GiveConfirm, GiveAck, unit_of}
+use Rattle.end_model.specs.end_rules.Writing.{acse_pair, acse_context, session_connect, presentation_connect, connect_values, connect_message, is_recovering, user_abort, proposals}
+use Rattle.end_model.specs.end_rules.Hearing.{Rejecting, reject_apdu, with_reject, sent_on, hear, head_of_apdu}
+use Rattle.end_model.specs.end_rules.Invoking.{carrier_in}
+use Rattle.end_model.specs.end_rules.Faults.{fault_if, over, transport_fault}
+use Rattle.end_model.specs.end_rules.Units.{has_marks, has_restarts, has_token, has_typed_data, has_version_two, has_units, needed_units, selected_with}
+use Rattle.end_model.specs.end_rules.Policy.{policy}
+use Rattle.end_model.specs.end_rules.Connecting.{refused_connect, accepted_connect, refusal_message, acceptance_message, after_accept}
+use Rattle.end_model.specs.end_rules.Calling.{can_call, is_phase_for, is_idle}
+use Rattle.end_model.specs.end_rules.Requesting.{due_of, due_invoke, due_outcome, after_invoke, after_outcome, answering, sent_at_once, result_in, error_for}
+use Rattle.end_model.specs.end_rules.TakesTransport.{transport_unit_fault, after_transport, answers_to_transport, phase_asked, is_waiting, is_size}
+use Rattle.end_model.specs.end_rules.TakesMarks.{restored_set}
+use Rattle.end_model.specs.end_rules.TakesData.{alteration, settled}
+use Rattle.end_model.specs.end_rules.InPlace.{is_in_place, is_opening, is_peers, awaits_restart}
+use Rattle.end_model.specs.end_rules.Purging.{is_purged, is_transport_purged}
+use Rattle.end_model.specs.end_rules.Reacting.{Passes, Takes, react, fails as failing, on_word, on_transport, word_fault, after_word, answers_to_word}
+use Rattle.end_model.specs.end_rules.History.{after_broke, broken_phase}
 use Rattle.agreement.specs.Sets.{Role, is_initiator}
 use Rattle.agreement.specs.Sets.Role.{Initiator, Responder}
 use Rattle.end_model.specs.Seen.{Free}

@@ -3,10 +3,10 @@ use Rattle.std.specs.Prelude.{◌≡◌, ◌≤◌, false}
 use Rattle.std.specs.List.{list_any}
 use Rattle.dialogue.specs.declared.config.Config.{Config}
 use Rattle.stub_tables.specs.declared.tables.Tables.{Tables}
-use Rattle.end_rules.specs.Base.{Spellings}
-use Rattle.end_rules.specs.Sets.{proposed_ids}
-use Rattle.end_rules.specs.Altering.{is_no_context}
-use Rattle.end_rules.specs.Writing.{proposals}
+use Rattle.end_model.specs.end_rules.Base.{Spellings}
+use Rattle.end_model.specs.end_rules.Sets.{proposed_ids}
+use Rattle.end_model.specs.end_rules.Altering.{is_no_context}
+use Rattle.end_model.specs.end_rules.Writing.{proposals}
 use Rattle.agreement.specs.Sets.{Role}
 use Rattle.agreement.specs.Sets.Role.{Initiator, Responder}
 use Rattle.end_model.specs.Seen.{Free}

@@ -7,10 +7,10 @@ use Rattle.osi_base.specs.declared.acse_word.Acse.TheVariants as acse
 use Rattle.osi_base.specs.Limits.{most_marks, last_activity, most_contexts}
 use Rattle.dialogue.specs.declared.config.Mode.{Mode}
 use Rattle.dialogue.specs.declared.config.Mode.TheVariants.{Bare, Direct, Reliable}
-use Rattle.end_rules.specs.Base.{Base, Item, rtse_name}
-use Rattle.end_rules.specs.Messages.{TransportUnit, ConnectionRequest, ConnectionConfirm, DisconnectRequest, TransportError, ValueContent, DataValue, Remote, Plea, Part, UserValues, Word, OfAssociation, OfData, OfMarks, OfActivities, AssociationWord, Connect, Accept, Refuse, Finish, Disconnect, Abort, AbortAccept, DataWord, Values, AlterContext, AlterContextAck, MarkWord, Mark, MarkAck, Restart, RestartAck, Give, Please, GiveConfirm, GiveAck, ActivityWord, Start, Resume, End, EndAck, Interrupt, InterruptAck, Discard, DiscardAck, Message, Transport, Session}
-use Rattle.end_rules.specs.Writing.{acse_value, session_connect, presentation_connect, connect_values}
-use Rattle.end_rules.specs.Connecting.{acceptance_message}
+use Rattle.end_model.specs.end_rules.Base.{Base, Item, rtse_name}
+use Rattle.end_model.specs.end_rules.Messages.{TransportUnit, ConnectionRequest, ConnectionConfirm, DisconnectRequest, TransportError, ValueContent, DataValue, Remote, Plea, Part, UserValues, Word, OfAssociation, OfData, OfMarks, OfActivities, AssociationWord, Connect, Accept, Refuse, Finish, Disconnect, Abort, AbortAccept, DataWord, Values, AlterContext, AlterContextAck, MarkWord, Mark, MarkAck, Restart, RestartAck, Give, Please, GiveConfirm, GiveAck, ActivityWord, Start, Resume, End, EndAck, Interrupt, InterruptAck, Discard, DiscardAck, Message, Transport, Session}
+use Rattle.end_model.specs.end_rules.Writing.{acse_value, session_connect, presentation_connect, connect_values}
+use Rattle.end_model.specs.end_rules.Connecting.{acceptance_message}
 use Rattle.said_words.specs.Fields.{IsContext, IsAlteration, AreAnswers, AreRestored}
 use Rattle.reliable_model.specs.Codecs.{IsTransferable, IsPlaced}
 

@@ -8,13 +8,13 @@ use Rattle.dialogue.specs.declared.config.Config.{Config}
 use Rattle.dialogue.specs.declared.config.ConfigRefusal.TheVariants as refusals
 use Rattle.dialogue.specs.declared.config.ConfigRefusal.{ConfigRefusal}
 use Rattle.dialogue.specs.declared.config.Mode.TheVariants.{Direct, Reliable}
-use Rattle.end_config.specs.Refusing.{config_refusal, early_refusal, or_refusal, is_too_long, has_connect}
-use Rattle.end_config.specs.Connecting.{connect_octets, connection_data, transfer_request}
+use Rattle.end_laws.specs.end_config.Refusing.{config_refusal, early_refusal, or_refusal, is_too_long, has_connect}
+use Rattle.end_laws.specs.end_config.Connecting.{connect_octets, connection_data, transfer_request}
 use Rattle.end_rules.specs.Base.{acse_name, rtse_name}
 use Rattle.end_rules.specs.Cases.{calc, config_of}
 use Rattle.end_rules.specs.Writing.{proposal_in_ber, requirement_bits}
 use Rattle.transfer_spelling.specs.Laws.{IsModule}
-use Rattle.acse.specs.Written.{written_acse}
+use Rattle.said_spellings.specs.acse.Written.{written_acse}
 use Rattle.said_spellings.specs.Laws.{IsEndIn}
 use Rattle.said_spellings.proofs.Sizes.{Each}
 use Rattle.said_spellings.proofs.Ppdus.{Defined, connect-few}

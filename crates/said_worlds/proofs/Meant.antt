@@ -6,14 +6,14 @@ use Rattle.osi_base.specs.declared.layer_words.Proposal.{Proposal}
 use Rattle.osi_base.specs.declared.layer_words.RestoredItem.{RestoredItem}
 use Rattle.osi_base.specs.declared.acse_word.Acse.TheVariants as acse
 use Rattle.osi_base.specs.declared.acse_word.Diagnostic.TheVariants.{User}
-use Rattle.acse.specs.Written as acse_written
+use Rattle.said_spellings.specs.acse.Written as acse_written
 use Rattle.end_rules.specs.Base.{Base}
 use Rattle.osi_base.specs.SetPlaces.{pair_of}
 use Rattle.end_rules.specs.State.{Body}
 use Rattle.end_rules.specs.Messages.{OfAssociation, OfData, OfMarks, AlterContext, AlterContextAck, Restart, RestartAck}
 use Rattle.end_rules.specs.Writing.{acse_pair}
-use Rattle.association_reading.specs.Laws.{AlterationsAreReadBack, DataAreReadBack, RemoteIsReadBack, AssociationIsReadBack, TransferWordsAreReadBack}
-use Rattle.association_reading.specs.Associating.{IsMeantAs, AssociationsAreReadBack}
+use Rattle.transfer_laws.specs.association_reading.Laws.{AlterationsAreReadBack, DataAreReadBack, RemoteIsReadBack, AssociationIsReadBack, TransferWordsAreReadBack}
+use Rattle.transfer_laws.specs.association_reading.Associating.{IsMeantAs, AssociationsAreReadBack}
 use Rattle.said_words.specs.Fields.{IsAlteration, AreAnswers}
 use Rattle.said_words.specs.Words.{IsRestart, the_finish, the_disconnect, the_abort}
 use Rattle.said_spellings.proofs.Places.{alter-in, ack-in, restart-in, restart_ack-in}

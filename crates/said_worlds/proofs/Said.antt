@@ -16,10 +16,10 @@ use Rattle.end_rules.specs.Connecting.{has_acse}
 use Rattle.end_rules.specs.InPlace.{is_in_place, is_opening}
 use Rattle.end_rules.specs.Units.{has_version_two, has_units, needed_units, selected_with}
 use Rattle.dialogue.specs.declared.config.Mode.TheVariants.{Direct}
-use Rattle.association_wire.specs.Units.{user_octets}
-use Rattle.association_wire.specs.Written.{with_user}
-use Rattle.association_reading.specs.Laws.{IsOfSession}
-use Rattle.association_reading.specs.Meaning.{meaning}
+use Rattle.transfer_laws.specs.association_wire.Units.{user_octets}
+use Rattle.transfer_laws.specs.association_wire.Written.{with_user}
+use Rattle.transfer_laws.specs.association_reading.Laws.{IsOfSession}
+use Rattle.transfer_laws.specs.association_reading.Meaning.{meaning}
 use Rattle.agreement.specs.Sets.{Role, is_initiator}
 use Rattle.agreement.specs.Sets.Role.{Initiator, Responder}
 use Rattle.end_model.specs.Pairs.{Common, base_at, Two, body_at, coming_to}
@@ -33,7 +33,7 @@ use Rattle.reliable_model.specs.Codecs.{IsTransferable}
 use Rattle.reliable_model.proofs.Fixed.{AreIdentifiers, listed-identifiers}
 use Rattle.transfer_spelling.proofs.Writable.{transferables-writable}
 use Rattle.transfer_laws.proofs.Configs.{identifiers-right}
-use Rattle.association_worlds.specs.Ways.{AreCarried}
+use Rattle.said_spellings.specs.association_worlds.Ways.{AreCarried}
 use Rattle.said_words.specs.Calls.{Speaks}
 use Rattle.said_words.specs.Laws.{ProposesContexts}
 use Rattle.said_words.specs.Words.{IsWord, AreMessages, IsOfAssociation, value_of_item, the_connect, the_acceptance}

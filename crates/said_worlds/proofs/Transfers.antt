@@ -19,8 +19,8 @@ use Rattle.end_rules.specs.Connecting.{has_acse, has_rtse, is_on_rtse, agreed_ch
 use Rattle.end_rules.specs.InPlace.{is_in_place, is_opening}
 use Rattle.end_rules.specs.Reacting.{Takes, react}
 use Rattle.end_rules.specs.Units.{has_version_two, has_units, needed_units, selected_with}
-use Rattle.association_reading.specs.Laws.{IsOfSession}
-use Rattle.association_reading.specs.Associating.{IsMeantAs}
+use Rattle.transfer_laws.specs.association_reading.Laws.{IsOfSession}
+use Rattle.transfer_laws.specs.association_reading.Associating.{IsMeantAs}
 use Rattle.agreement.specs.Sets.{Role, is_initiator}
 use Rattle.agreement.specs.Sets.Role.{Initiator, Responder}
 use Rattle.end_model.specs.Pairs.{Common, base_at, Two, body_at, coming_to}
@@ -32,7 +32,7 @@ use Rattle.reliable_model.proofs.OnWay.{took-word}
 use Rattle.transfer_laws.specs.Laws.{reliable_ends, IsReliable}
 use Rattle.transfer_laws.proofs.Configs.{has-window}
 use Rattle.transfer_laws.proofs.Premises.{has-free, fit}
-use Rattle.association_worlds.specs.Ways.{AreCarried}
+use Rattle.said_spellings.specs.association_worlds.Ways.{AreCarried}
 use Rattle.said_words.specs.Calls.{Speaks}
 use Rattle.said_words.specs.Words.{rtse_pair, transfer_value, IsReliableWord, IsPart, IsPlea, IsOfAssociation, AreMessages, the_connect, the_acceptance}
 use Rattle.said_words.proofs.First.{first_of}

@@ -8,7 +8,7 @@ use Rattle.end_rules.specs.Cases.{calc, config_of}
 use Rattle.end_laws.specs.Codecs.{Transfers, direct_ends}
 use Rattle.transfer_spelling.specs.Laws.{IsModule}
 use Rattle.transfer_laws.specs.Laws.{reliable_ends}
-use Rattle.association_worlds.specs.Laws.{IsSaid}
+use Rattle.said_spellings.specs.association_worlds.Laws.{IsSaid}
 use Rattle.said_spellings.specs.Laws.{IsEndIn}
 
 -- A module without any type, and two configurations of a mode that no end refuses, the first of an initiator.

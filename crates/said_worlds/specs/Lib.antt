@@ -1,1 +1,2 @@
 pub mod Laws
+pub use Rattle.said_spellings.specs as said_spellings

@@ -2,7 +2,7 @@
 
 ghost use Rattle.said_worlds.specs.Laws.{DirectIsSaid, EndsAreMet, ReliableIsSaid};
 
-use association_reading::{
+use transfer_laws::association_reading_layer::{
     alterations_are_read_back, associations_are_read_back, data_are_read_back,
     layers_are_read_back, remote_is_read_back,
 };

@@ -11,9 +11,9 @@ use Rattle.dialogue.specs.declared.config.Mode.{Mode}
 use Rattle.dialogue.specs.declared.config.Mode.TheVariants.{Bare, Direct, Reliable}
 use Rattle.dialogue.specs.declared.event.Event.{Event}
 use Rattle.dialogue.specs.declared.event.Event.TheVariants as events
-use Rattle.end_config.specs.Refusing.{config_refusal}
+use Rattle.schedule_text.specs.end_config.Refusing.{config_refusal}
 use Rattle.said_words.specs.Calls.{AreNames, AreNamed, IsCall}
-use Rattle.said_spellings.specs.Laws.{AreReferences, IsEndIn}
+use Rattle.said_worlds.specs.said_spellings.Laws.{AreReferences, IsEndIn}
 use Rattle.association_runs.specs.Laws.{IsEvent, AreEvents}
 use Rattle.schedule_ends.specs.Fitting.{name_fits, proposal_fits, call_fits, event_fits}
 

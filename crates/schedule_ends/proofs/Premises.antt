@@ -3,8 +3,8 @@ use Rattle.std.proofs.Common.{◌≡◌, ℕ, None, List, Ok, subst}
 use Rattle.stub_tables.specs.declared.tables.Tables.{Tables}
 use Rattle.stub_tables.specs.Readable.{IsReadable}
 use Rattle.dialogue.specs.declared.config.Mode.{Mode}
-use Rattle.end_config.specs.Refusing.{config_refusal}
-use Rattle.said_spellings.specs.Laws.{IsEndIn}
+use Rattle.schedule_text.specs.end_config.Refusing.{config_refusal}
+use Rattle.said_worlds.specs.said_spellings.Laws.{IsEndIn}
 use Rattle.association_runs.specs.Laws.{AreEvents}
 use Rattle.schedule_text.specs.declared.setting.Modes.{Modes}
 use Rattle.schedule_text.specs.Schedules.{Said, schedule_of}

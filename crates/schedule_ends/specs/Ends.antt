@@ -3,7 +3,7 @@ use Rattle.std.specs.Prelude.{◌≡◌, true, false}
 use Rattle.stub_tables.specs.declared.tables.Tables.{Tables}
 use Rattle.stub_tables.specs.Readable.{IsReadable}
 use Rattle.packed_codec.specs.Laws.{HasNoAny}
-use Rattle.said_spellings.specs.Laws.{IsEndIn}
+use Rattle.said_worlds.specs.said_spellings.Laws.{IsEndIn}
 use Rattle.said_worlds.specs.Laws.{AreEndsIn}
 use Rattle.association_runs.specs.Laws.{AreEvents}
 use Rattle.schedule_text.specs.declared.setting.Modes.{Modes}

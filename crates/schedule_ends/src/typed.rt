@@ -5,8 +5,8 @@ ghost use Rattle.std.specs.Prelude.{◌≡◌, true, None};
 ghost use Rattle.std.specs.List.{list_all};
 ghost use Rattle.asn1_types.specs.Fits.{has_32_bits};
 ghost use Rattle.der_octets.specs.Laws.{AreOctets};
-ghost use Rattle.end_config.specs.Refusing.{config_refusal};
-ghost use Rattle.said_spellings.specs.Laws.{IsEndIn};
+ghost use Rattle.schedule_text.specs.end_config.Refusing.{config_refusal};
+ghost use Rattle.said_worlds.specs.said_spellings.Laws.{IsEndIn};
 ghost use Rattle.association_runs.specs.Laws.{AreEvents};
 ghost use Rattle.schedule_ends.specs.Fitting.{name_fits, proposal_fits, call_fits, event_fits};
 

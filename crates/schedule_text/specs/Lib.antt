@@ -6,3 +6,4 @@ pub mod Events
 pub mod SetupLines
 pub mod Schedules
 pub mod Laws
+pub use Rattle.end_config.specs as end_config

@@ -4,8 +4,8 @@ use Rattle.osi_base.specs.declared.layer_words.Proposal.{Proposal}
 use Rattle.osi_base.specs.declared.layer_words.AddAnswer.{AddAnswer}
 use Rattle.stub_tables.specs.declared.tables.Tables.{Tables}
 use Rattle.dialogue.specs.declared.config.Config.{Config}
-use Rattle.end_rules.specs.Base.{Spellings, base_of}
-use Rattle.end_rules.specs.Policy.{answer_to_addition, counted_with, answers_to_additions}
+use Rattle.association_sets.specs.end_rules.Base.{Spellings, base_of}
+use Rattle.association_sets.specs.end_rules.Policy.{answer_to_addition, counted_with, answers_to_additions}
 use Rattle.set_rules.specs.Plain.{plain_base}
 
 pub plain_answers : (tables : Tables) (config : Config) (spellings : Spellings) (connecting : Bool) (count : ℕ) (ps : List Proposal)

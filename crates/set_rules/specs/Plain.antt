@@ -3,10 +3,10 @@ use Rattle.std.specs.Prelude.{ℕ, List, [], Bool, not, ◌||◌, is_some, Err}
 use Rattle.osi_base.specs.declared.layer_words.SetItem.{SetItem}
 use Rattle.stub_tables.specs.declared.tables.Tables.{Tables}
 use Rattle.dialogue.specs.declared.config.Config.{Config}
-use Rattle.end_rules.specs.Base.{Base, Spellings, BadReject, base_of}
-use Rattle.end_rules.specs.Sets.{has_parity}
+use Rattle.association_sets.specs.end_rules.Base.{Base, Spellings, BadReject, base_of}
+use Rattle.association_sets.specs.end_rules.Sets.{has_parity}
 use Rattle.osi_base.specs.SetPlaces.{pair_of}
-use Rattle.end_rules.specs.Faults.{rtse_fault}
+use Rattle.association_sets.specs.end_rules.Faults.{rtse_fault}
 
 abbrev pub no_spellings : Spellings
 no_spellings =

@@ -2,11 +2,13 @@
 
 ghost use Rattle.std.specs.Prelude.{◌≡◌, ◌≤◌, ◌+◌, find, IfOk, ◌<◌, ◌^◌};
 ghost use Rattle.std.specs.Option.{option_copied, option_map};
-ghost use Rattle.end_rules.specs.Base.{Spellings, base_of};
-ghost use Rattle.end_rules.specs.Policy.{is_association, is_taken, takes_syntax, rejection, answer_within, answer_to_addition, counted_with, answers_to_additions};
+ghost use Rattle.association_sets.specs.end_rules.Base.{Spellings, base_of};
+ghost use Rattle.association_sets.specs.end_rules.Policy.{is_association, is_taken, takes_syntax, rejection, answer_within, answer_to_addition, counted_with, answers_to_additions};
 ghost use Rattle.set_rules.specs.Plain.{plain_base};
 
-use association_ground::{is_acse, is_ber, is_reliable, is_rtse, same_name, syntax_named};
+use association_sets::association_ground_layer::{
+    is_acse, is_ber, is_reliable, is_rtse, same_name, syntax_named,
+};
 use association_sets::is_listed;
 use dialogue::Config;
 use osi_base::{AddAnswer, AddAnswers, Copied, ListOf, NoMemory, Oid, Proposal};

@@ -1,18 +1,18 @@
 //! The contexts of an opening: what an initiator proposes, and which stand as one is answered.
 
 ghost use Rattle.std.specs.Prelude.{◌≡◌, ◌++◌, ◌∷◌, [], true, IfOk, is_some};
-ghost use Rattle.end_rules.specs.Base.{Spellings, base_of};
+ghost use Rattle.association_sets.specs.end_rules.Base.{Spellings, base_of};
 ghost use Rattle.std.specs.List.{list_any};
 ghost use Rattle.osi_base.specs.Oid.{IsOid};
-ghost use Rattle.end_rules.specs.Sets.{proposed_ids, accepted_set, lowest_with};
-ghost use Rattle.end_rules.specs.Altering.{has_double};
-ghost use Rattle.end_rules.specs.Policy.{opening_policy, is_faulty_proposal};
-ghost use Rattle.end_rules.specs.Writing.{proposal_in_ber, own_proposals, proposals};
-ghost use Rattle.end_rules.specs.Connecting.{set_for, set_accepted};
+ghost use Rattle.association_sets.specs.end_rules.Sets.{proposed_ids, accepted_set, lowest_with};
+ghost use Rattle.association_sets.specs.end_rules.Altering.{has_double};
+ghost use Rattle.association_sets.specs.end_rules.Policy.{opening_policy, is_faulty_proposal};
+ghost use Rattle.association_sets.specs.end_rules.Writing.{proposal_in_ber, own_proposals, proposals};
+ghost use Rattle.association_sets.specs.end_rules.Connecting.{set_for, set_accepted};
 ghost use Rattle.set_rules.specs.Plain.{plain_base, is_taken_id};
 
 use crate::answering::plain_answers;
-use association_ground::is_reliable;
+use association_sets::association_ground_layer::is_reliable;
 use association_sets::{accepted_set, has_name, has_parity, is_proposed};
 use dialogue::Config;
 use osi_base::{

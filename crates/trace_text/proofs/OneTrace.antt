@@ -25,7 +25,7 @@ use Rattle.tpkt.specs.declared.packet.Packet.TheVariants as packets
 use Rattle.tpkt.specs.declared.packet.TFault.{TFault}
 use Rattle.tpkt.specs.Reader.{reading, nothing}
 use Rattle.trace_file.specs.declared.reading.Recorded.{Recorded}
-use Rattle.trace_values.specs.Values.{HeadOf, value_text, pdv_text, IsContentText, IsPdvText, ArePdvsText}
+use Rattle.trace_units.specs.trace_values.Values.{HeadOf, value_text, pdv_text, IsContentText, IsPdvText, ArePdvsText}
 use Rattle.trace_units.specs.declared.said_text.Said.{Said}
 use Rattle.trace_units.specs.declared.said_text.Said.TheVariants as said
 use Rattle.trace_units.specs.Names.{ppdu_name, spdu_name}

@@ -7,7 +7,7 @@ use Rattle.dialogue.specs.declared.config.Mode.{Mode}
 use Rattle.end_rules.specs.Base.{Base, Item, Fault, Arrived}
 use Rattle.end_wire.specs.Values.{spellings_with}
 use Rattle.end_model.specs.Seen.{Free}
-use Rattle.reliable_model.specs.Codecs.{SpellsTransfers, Carries}
+use Rattle.transfer_spelling.specs.reliable_model.Codecs.{SpellsTransfers, Carries}
 use Rattle.transfer_spelling.specs.Laws.{IsModule}
 
 -- what an end stands on, where APDUs are spelled by the codecs

@@ -5,6 +5,7 @@
 
 mod laws;
 
+pub use association_reading as association_reading_layer;
 pub use laws::{
     premises_are_met, reliable_ends_are_modelled, reliable_ends_have_one_holder,
     reliable_ends_take_as_sent, reliable_ends_tell_answers,

@@ -41,10 +41,10 @@ use Rattle.apdu_spelling.specs.Heads as heads
 use Rattle.apdu_spelling.specs.Rows.{head_rows, apdu_row, packed_apdu_row}
 use Rattle.apdu_spelling.specs.Values.{ber_value, packed_value}
 use Rattle.apdu_spelling.specs.Writing.{written_apdu, written_typed, written_carried, outcome_of, is_identifier, is_identifier_or_none, may_carry, may_return, is_typed, IsWritable}
-use Rattle.end_rules.specs.Base.{Base}
-use Rattle.end_rules.specs.Invoking.{is_too_long, is_too_long_in}
-use Rattle.end_model.specs.Seen.{number_seen}
-use Rattle.end_model.specs.Opens.{IsNumber, IsNamed, IsProblem, FitsReturned, fits_argument, fits_result, fits_parameter, operation_of_code, error_of_code}
+use Rattle.reliable_model.specs.end_rules.Base.{Base}
+use Rattle.reliable_model.specs.end_rules.Invoking.{is_too_long, is_too_long_in}
+use Rattle.reliable_model.specs.end_model.Seen.{number_seen}
+use Rattle.reliable_model.specs.end_model.Opens.{IsNumber, IsNamed, IsProblem, FitsReturned, fits_argument, fits_result, fits_parameter, operation_of_code, error_of_code}
 use Rattle.reliable_model.specs.Codecs.{IsTransferable}
 use Rattle.transfer_spelling.specs.Laws.{IsModule, TransferablesAreWritable}
 use Rattle.transfer_spelling.proofs.Lengths.{integer-length, definite-length}

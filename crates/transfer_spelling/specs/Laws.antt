@@ -12,7 +12,7 @@ use Rattle.stub_tables.specs.declared.tables.Tables.{Tables}
 use Rattle.stub_tables.specs.declared.apdu.Apdu.{Apdu}
 use Rattle.stub_tables.specs.Readable.{IsReadable}
 use Rattle.apdu_spelling.specs.Writing.{written_apdu, IsWritable}
-use Rattle.end_rules.specs.Base.{Base}
+use Rattle.reliable_model.specs.end_rules.Base.{Base}
 use Rattle.reliable_model.specs.Codecs.{IsTransferable}
 
 -- A module's tables: they are readable, and no type of it is any type, as the notation has none.

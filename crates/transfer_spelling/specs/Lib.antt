@@ -1,1 +1,2 @@
 pub mod Laws
+pub use Rattle.reliable_model.specs as reliable_model

@@ -1,6 +1,6 @@
 use Rattle.std.proofs.Common.{◌≡◌, ◌++◌, map, take}
 use Rattle.end_rules.specs.State.{Queued}
-use Rattle.association_pieces.specs.Sending.{seen_queued}
+use Rattle.association_state.specs.association_pieces.Sending.{seen_queued}
 use Rattle.association_calls.proofs.in_use.push_queue.Given as goal
 
 abbrev pub invariant-loop-item : goal.invariant-loop-item

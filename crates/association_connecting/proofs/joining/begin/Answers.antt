@@ -1,7 +1,7 @@
 use Rattle.std.proofs.Common.{ap, ◌∙◌}
 use Rattle.end_rules.specs.State as rules
-use Rattle.association_state.specs.declared.body.Body.{Body}
-use Rattle.association_state.specs.Seen.{base_in, seen}
+use Rattle.association_answers.specs.association_state.declared.body.Body.{Body}
+use Rattle.association_answers.specs.association_state.Seen.{base_in, seen}
 use Rattle.association_connecting.proofs.joining.begin.Goals as goal
 
 pub returns : goal.returns

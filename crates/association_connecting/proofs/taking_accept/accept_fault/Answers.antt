@@ -1,9 +1,9 @@
 use Rattle.std.proofs.Common.{List, sym, ap, ◌∙◌}
 use Rattle.osi_base.specs.declared.layer_words.SetItem.{SetItem}
 use Rattle.end_rules.specs.Sets.{fit_proposals}
-use Rattle.association_reading.specs.Transfers.{association_spellings}
+use Rattle.association_answers.specs.association_reading.Transfers.{association_spellings}
 use Rattle.association_words.specs.Seen.{seen_values}
-use Rattle.association_state.specs.Seen.{base_in}
+use Rattle.association_answers.specs.association_state.Seen.{base_in}
 use Rattle.association_connecting.specs.Accepted.{accepted_fault}
 use Rattle.association_connecting.proofs.Requests.{fits_then}
 use Rattle.association_connecting.proofs.taking_accept.accept_fault.Goals as goal

@@ -1,5 +1,5 @@
 use Rattle.std.proofs.Common.{◌∙◌}
-use Rattle.association_reading.specs.Transfers.{association_spellings}
+use Rattle.association_answers.specs.association_reading.Transfers.{association_spellings}
 use Rattle.association_connecting.proofs.taking_accept.take_accept.Goals as goal
 
 pub stand_on-requires : goal.stand_on-requires

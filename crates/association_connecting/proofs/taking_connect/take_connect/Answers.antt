@@ -1,6 +1,6 @@
 use Rattle.std.proofs.Common.{sym, ◌∙◌}
 use Rattle.association_words.specs.Seen.{seen_values}
-use Rattle.association_state.specs.Seen.{base_in, seen}
+use Rattle.association_answers.specs.association_state.Seen.{base_in, seen}
 use Rattle.association_connecting.proofs.Requests.{requested, has_control}
 use Rattle.association_connecting.proofs.taking_connect.take_connect.Goals as goal
 

@@ -5,7 +5,7 @@ use Rattle.end_rules.specs.State as rules
 use Rattle.end_rules.specs.ByItself.{item_on}
 use Rattle.association_pieces.specs.declared.sending.Transfer.{Transfer}
 use Rattle.association_pieces.specs.Sending.{seen_transfer}
-use Rattle.association_state.specs.Seen.{base_in, seen}
+use Rattle.association_reacting.specs.association_state.Seen.{base_in, seen}
 use Rattle.association_end.proofs.Own.{encoding_none, encoding_some, encoded_by}
 use Rattle.association_end.proofs.own_acts.encode.Goals as goal
 

@@ -6,7 +6,7 @@ use Rattle.end_rules.specs.Base.{Item}
 use Rattle.osi_base.specs.SetPlaces.{pair_of}
 use Rattle.end_rules.specs.ByItself.{item_on, encoded_as}
 use Rattle.association_pieces.specs.Sending.{seen_queued, seen_transfer}
-use Rattle.association_state.specs.Seen.{base_in, seen}
+use Rattle.association_reacting.specs.association_state.Seen.{base_in, seen}
 use Rattle.std.proofs.Common.{List}
 use Rattle.association_end.proofs.own_acts.encoded_on.Goals as goal
 

@@ -1,6 +1,6 @@
 use Rattle.std.proofs.Common.{List, ℕ, Some, ap}
 use Rattle.association_pieces.specs.Sending.{seen_transfer}
-use Rattle.association_state.specs.Seen.{seen}
+use Rattle.association_reacting.specs.association_state.Seen.{seen}
 use Rattle.association_end.proofs.own_acts.encoded_under.Goals as goal
 
 pub returns-in-Ok : goal.returns-in-Ok

@@ -1,5 +1,5 @@
 use Rattle.std.proofs.Common.{sym, subst, ◌∙◌}
-use Rattle.association_state.specs.Seen.{base_in, seen}
+use Rattle.association_reacting.specs.association_state.Seen.{base_in, seen}
 use Rattle.association_meaning.specs.Grounds.{FailsAs}
 use Rattle.end_rules.specs.State.{joined}
 use Rattle.association_end.proofs.Arriving.{read_so, arrives_handed, arrives_value, arrives_fault}

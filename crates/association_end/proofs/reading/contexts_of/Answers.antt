@@ -4,8 +4,8 @@ use Rattle.std.proofs.lemmas.Result.{IfOk-weaker}
 use Rattle.osi_base.specs.declared.session_word.SessionWord.{SessionWord}
 use Rattle.presentation_pdus.specs.declared.place.PpduPlace.TheVariants.{Cn}
 use Rattle.presentation_pdus.specs.Units.{ppdu_at}
-use Rattle.association_reading.specs.Reacting.{contexts_read, contexts_of_unit}
-use Rattle.association_state.specs.Seen.{base_in, seen}
+use Rattle.association_line.specs.association_reading.Reacting.{contexts_read, contexts_of_unit}
+use Rattle.association_reacting.specs.association_state.Seen.{base_in, seen}
 use Rattle.association_end.proofs.Units.{not_connecting}
 use Rattle.association_end.proofs.reading.contexts_of.Goals as goal
 

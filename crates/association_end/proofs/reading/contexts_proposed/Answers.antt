@@ -5,8 +5,8 @@ use Rattle.osi_base.specs.declared.presentation_word.PresentationWord.{Presentat
 use Rattle.presentation_pdus.specs.declared.place.PpduPlace.TheVariants.{Cn}
 use Rattle.presentation_pdus.specs.declared.place.PpduFault.{PpduFault}
 use Rattle.presentation_pdus.specs.Units.{ppdu_at}
-use Rattle.association_reading.specs.Reacting.{contexts_read}
-use Rattle.association_state.specs.Seen.{base_in, seen}
+use Rattle.association_line.specs.association_reading.Reacting.{contexts_read}
+use Rattle.association_reacting.specs.association_state.Seen.{base_in, seen}
 use Rattle.association_end.proofs.Units.{unread_proposal}
 use Rattle.association_end.proofs.reading.contexts_proposed.Goals as goal
 

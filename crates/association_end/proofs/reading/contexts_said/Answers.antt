@@ -2,9 +2,9 @@ use Rattle.std.proofs.Common.{sym, subst, ◌≡◌, ◌∙◌}
 use Rattle.std.specs.Prelude.{IfOk, Ok}
 use Rattle.std.proofs.lemmas.Result.{IfOk-weaker}
 use Rattle.osi_base.specs.declared.presentation_word.PresentationWord.{PresentationWord}
-use Rattle.association_reading.specs.Transfers.{association_spellings}
-use Rattle.association_reading.specs.Reacting.{contexts_read}
-use Rattle.association_state.specs.Seen.{base_in, seen}
+use Rattle.association_line.specs.association_reading.Transfers.{association_spellings}
+use Rattle.association_line.specs.association_reading.Reacting.{contexts_read}
+use Rattle.association_reacting.specs.association_state.Seen.{base_in, seen}
 use Rattle.association_end.proofs.Units.{not_proposed}
 use Rattle.association_end.proofs.reading.contexts_said.Goals as goal
 

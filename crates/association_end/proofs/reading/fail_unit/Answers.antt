@@ -1,7 +1,7 @@
 use Rattle.std.proofs.Common.{◌∙◌}
-use Rattle.association_reading.specs.Reacting.{contexts_of_unit}
+use Rattle.association_line.specs.association_reading.Reacting.{contexts_of_unit}
 use Rattle.association_words.specs.Seen.{seen_fault}
-use Rattle.association_state.specs.Seen.{base_in, seen}
+use Rattle.association_reacting.specs.association_state.Seen.{base_in, seen}
 use Rattle.association_reacting.proofs.Reactions.{result_failed}
 use Rattle.association_end.proofs.reading.fail_unit.Goals as goal
 

@@ -1,5 +1,5 @@
 use Rattle.std.proofs.Common.{sym, ◌∙◌}
-use Rattle.association_state.specs.Seen.{seen}
+use Rattle.association_reacting.specs.association_state.Seen.{seen}
 use Rattle.association_end.proofs.Units.{of_grammar, before_connection, other_layer}
 use Rattle.association_end.proofs.reading.grammar_fault.Goals as goal
 

@@ -1,8 +1,8 @@
 use Rattle.std.proofs.Common.{sym, subst}
 use Rattle.end_rules.specs.Base.{Base}
-use Rattle.association_reading.specs.Meaning.{meaning}
+use Rattle.association_line.specs.association_reading.Meaning.{meaning}
 use Rattle.association_words.specs.Seen.{seen_word}
-use Rattle.association_state.specs.Seen.{seen}
+use Rattle.association_reacting.specs.association_state.Seen.{seen}
 use Rattle.association_meaning.specs.Grounds.{association_base, GivesAs}
 use Rattle.association_end.proofs.reading.meant.Goals as goal
 

@@ -1,10 +1,10 @@
 use Rattle.std.proofs.Common.{sym, subst}
 use Rattle.std.specs.Prelude.{IfOk}
 use Rattle.std.proofs.lemmas.Result.{IfOk-weaker}
-use Rattle.association_intake.specs.declared.front.Front.{Front}
-use Rattle.association_intake.specs.Seen.{seen_front, IsPlaced}
+use Rattle.association_meaning.specs.association_intake.declared.front.Front.{Front}
+use Rattle.association_meaning.specs.association_intake.Seen.{seen_front, IsPlaced}
 use Rattle.association_words.specs.Seen.{seen_transport}
-use Rattle.association_state.specs.Seen.{base_in, seen}
+use Rattle.association_reacting.specs.association_state.Seen.{base_in, seen}
 use Rattle.association_end.specs.Reacted.{ReactsTo}
 use Rattle.association_end.specs.Sound.{IsMessage}
 use Rattle.association_end.proofs.Units.{transport_reacts, unit_reacts, fault_reacts}

@@ -1,9 +1,9 @@
 use Rattle.end_rules.specs.Messages.{Session}
 use Rattle.end_rules.specs.Reacting.{fails, react}
-use Rattle.association_reading.specs.Meaning.{meaning}
-use Rattle.association_reading.specs.Reacting.{contexts_of_unit, on_meaning}
+use Rattle.association_line.specs.association_reading.Meaning.{meaning}
+use Rattle.association_line.specs.association_reading.Reacting.{contexts_of_unit, on_meaning}
 use Rattle.association_words.specs.Seen.{seen_word, seen_fault}
-use Rattle.association_state.specs.Seen.{base_in, seen}
+use Rattle.association_reacting.specs.association_state.Seen.{base_in, seen}
 use Rattle.association_reacting.proofs.Reactions.{result_by}
 use Rattle.association_end.proofs.Units.{read_so, unread_so, halted_so}
 use Rattle.association_end.proofs.reading.react_to_meaning.Goals as goal

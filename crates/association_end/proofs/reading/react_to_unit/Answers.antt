@@ -1,10 +1,10 @@
 use Rattle.std.proofs.Common.{refl, sym, ap, ◌∙◌}
 use Rattle.end_rules.specs.Base.{Fault}
 use Rattle.end_rules.specs.Reacting.{fails}
-use Rattle.association_reading.specs.Meaning.{meaning}
-use Rattle.association_reading.specs.Reacting.{on_meaning, react_to_unit}
+use Rattle.association_line.specs.association_reading.Meaning.{meaning}
+use Rattle.association_line.specs.association_reading.Reacting.{on_meaning, react_to_unit}
 use Rattle.association_words.specs.Seen.{seen_fault}
-use Rattle.association_state.specs.Seen.{base_in, seen}
+use Rattle.association_reacting.specs.association_state.Seen.{base_in, seen}
 use Rattle.association_reacting.proofs.Reactions.{result_by}
 use Rattle.association_end.proofs.Units.{unconnected, purged, misplaced, meant_so}
 use Rattle.association_end.proofs.reading.react_to_unit.Goals as goal

@@ -1,7 +1,7 @@
 use Rattle.std.proofs.Common.{◌≡◌, ℤ, None, w64, sym, ap, ◌∙◌, refl}
 use Rattle.std.proofs.lemmas.Int.{to_z-of_z}
 use mir.Val.{to_z, of_z}
-use Rattle.association_state.specs.Seen.{base_in}
+use Rattle.association_answers.specs.association_state.Seen.{base_in}
 use Rattle.end_rules.specs.Hearing.{carried_in, invoke_problem}
 use Rattle.association_hearing.proofs.Invoked.{heard_at, right_heard}
 use Rattle.association_hearing.proofs.invocations.hear_invoke.Goals as goal

@@ -1,5 +1,5 @@
 use Rattle.std.proofs.Common.{refl}
-use Rattle.association_state.specs.Seen.{base_in}
+use Rattle.association_answers.specs.association_state.Seen.{base_in}
 use Rattle.association_hearing.proofs.HeadsHeard.{fields_carry, heard_so, refused_heard}
 use Rattle.association_hearing.proofs.unread.hear_octets.Goals as goal
 

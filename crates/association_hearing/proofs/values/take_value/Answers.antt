@@ -1,6 +1,6 @@
 use Rattle.std.proofs.lemmas.Result.{IfOk-weaker}
 use Rattle.association_words.specs.Seen.{seen_value}
-use Rattle.association_state.specs.Seen.{base_in, seen}
+use Rattle.association_answers.specs.association_state.Seen.{base_in, seen}
 use Rattle.end_rules.specs.Hearing.{head_of}
 use Rattle.association_hearing.proofs.Taking.{took_so}
 use Rattle.association_hearing.proofs.values.take_value.Goals as goal

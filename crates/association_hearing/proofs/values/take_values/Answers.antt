@@ -1,4 +1,4 @@
-use Rattle.association_state.specs.Seen.{base_in, seen}
+use Rattle.association_answers.specs.association_state.Seen.{base_in, seen}
 use Rattle.association_hearing.proofs.Taking.{took_next}
 use Rattle.association_hearing.proofs.values.take_values.Goals as goal
 

@@ -1,6 +1,6 @@
 use Rattle.association_words.specs.Seen.{seen_values}
 use Rattle.end_rules.specs.Hearing.{take_values}
-use Rattle.association_state.specs.Seen.{base_in, seen}
+use Rattle.association_answers.specs.association_state.Seen.{base_in, seen}
 use Rattle.association_hearing.specs.ValuesTaken.{TookAs}
 use Rattle.association_hearing.proofs.values.take_values.Given as goal
 

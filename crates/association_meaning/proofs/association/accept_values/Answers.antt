@@ -1,7 +1,7 @@
 use Rattle.std.proofs.Common.{◌≡◌, sym, subst, ◌∙◌}
-use Rattle.association_reading.specs.Places.{pdv_places}
+use Rattle.association_intake.specs.association_reading.Places.{pdv_places}
 use Rattle.end_rules.specs.Connecting.{set_accepted}
-use Rattle.association_reading.specs.Transfers.{association_spellings}
+use Rattle.association_intake.specs.association_reading.Transfers.{association_spellings}
 use Rattle.association_words.specs.Seen.{seen_values}
 use Rattle.association_meaning.specs.Grounds.{association_base, GivesAs}
 use Rattle.association_meaning.proofs.Openings.{stands_so}

@@ -1,8 +1,8 @@
 use Rattle.std.proofs.Common.{sym, ap, ◌∙◌, arith}
-use Rattle.association_reading.specs.Association.{value_or_left}
+use Rattle.association_intake.specs.association_reading.Association.{value_or_left}
 use Rattle.association_meaning.specs.Grounds.{association_base}
 use Rattle.association_words.specs.Seen.{seen_values}
-use Rattle.association_reading.specs.Values.{all_values}
+use Rattle.association_intake.specs.association_reading.Values.{all_values}
 use Rattle.association_meaning.proofs.Alls.{all_step, fails_at, all_done}
 use Rattle.association_meaning.proofs.Fails.{halts}
 use Rattle.association_meaning.proofs.association.all_or_left.Goals as goal

@@ -1,8 +1,8 @@
 use Rattle.std.proofs.Common.{◌≡◌, drop}
 use Rattle.association_meaning.specs.Steps as steps
 use Rattle.association_words.specs.Seen.{seen_values}
-use Rattle.association_reading.specs.Values as values_read
-use Rattle.association_reading.specs.Association as reading
+use Rattle.association_intake.specs.association_reading.Values as values_read
+use Rattle.association_intake.specs.association_reading.Association as reading
 use Rattle.association_meaning.proofs.association.all_unasked.Given as goal
 
 abbrev pub invariant-loop-pdv : goal.invariant-loop-pdv

@@ -1,9 +1,9 @@
 use Rattle.std.proofs.Common.{◌≡◌, List, [], true, false, sym, ap, subst, ◌∙◌}
 use Rattle.osi_base.specs.declared.layer_words.Proposal.{Proposal}
-use Rattle.association_reading.specs.Places.{pdv_places}
+use Rattle.association_intake.specs.association_reading.Places.{pdv_places}
 use Rattle.end_rules.specs.Policy.{is_faulty_proposal}
 use Rattle.end_rules.specs.Connecting.{set_for}
-use Rattle.association_reading.specs.Transfers.{association_spellings}
+use Rattle.association_intake.specs.association_reading.Transfers.{association_spellings}
 use Rattle.association_words.specs.Seen.{seen_values}
 use Rattle.association_meaning.specs.Grounds.{association_base, GivesAs}
 use Rattle.association_meaning.proofs.Openings.{opens_so}

@@ -1,5 +1,5 @@
 use Rattle.std.proofs.Common.{◌≡◌, drop}
-use Rattle.association_reading.specs.Association as reading
+use Rattle.association_intake.specs.association_reading.Association as reading
 use Rattle.association_meaning.proofs.association.is_left.Given as goal
 
 abbrev pub invariant-loop-proposal : goal.invariant-loop-proposal

@@ -1,6 +1,6 @@
 use Rattle.std.proofs.Common.{subst}
-use Rattle.association_reading.specs.Places.{pdv_places}
-use Rattle.association_reading.specs.Association.{left_values}
+use Rattle.association_intake.specs.association_reading.Places.{pdv_places}
+use Rattle.association_intake.specs.association_reading.Association.{left_values}
 use Rattle.association_meaning.specs.Grounds.{association_base, GivesAs}
 use Rattle.association_words.specs.Seen.{seen_values}
 use Rattle.association_meaning.proofs.Judged.{left_right, left_wrong}

@@ -2,9 +2,9 @@ use Rattle.std.proofs.Common.{List, Result, Ok, sym, subst, ◌∙◌}
 use Rattle.osi_base.specs.declared.layer_words.SetItem.{SetItem}
 use Rattle.end_rules.specs.Base.{Fault}
 use Rattle.end_rules.specs.Messages.{DataValue}
-use Rattle.association_reading.specs.Values.{and_informed}
-use Rattle.association_reading.specs.Places.{pdv_places}
-use Rattle.association_reading.specs.Association.{is_response, unasked_values, set_refused, refuse_values}
+use Rattle.association_intake.specs.association_reading.Values.{and_informed}
+use Rattle.association_intake.specs.association_reading.Places.{pdv_places}
+use Rattle.association_intake.specs.association_reading.Association.{is_response, unasked_values, set_refused, refuse_values}
 use Rattle.association_words.specs.Seen.{seen_values}
 use Rattle.association_meaning.specs.Grounds.{association_base, GivesAs}
 use Rattle.association_meaning.proofs.Fails.{halts, informed_fails}

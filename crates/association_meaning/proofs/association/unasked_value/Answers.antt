@@ -2,8 +2,8 @@ use Rattle.std.proofs.Common.{Some}
 use Rattle.osi_base.specs.PdvContent.{octets_of}
 use Rattle.acse.specs.Fields.{acse_at}
 use Rattle.end_rules.specs.Writing.{acse_pair}
-use Rattle.association_reading.specs.Values.{acse_content}
-use Rattle.association_reading.specs.Association.{unasked_value}
+use Rattle.association_intake.specs.association_reading.Values.{acse_content}
+use Rattle.association_intake.specs.association_reading.Association.{unasked_value}
 use Rattle.association_words.specs.Seen.{seen_value}
 use Rattle.association_meaning.proofs.Fails.{halts, content_fails}
 use Rattle.association_meaning.proofs.association.unasked_value.Goals as goal

@@ -1,7 +1,7 @@
-use Rattle.association_reading.specs.declared.layer_of_values.Carriage.TheVariants as carriage
-use Rattle.association_reading.specs.Places.{pdv_places}
-use Rattle.association_reading.specs.Values.{values_under}
-use Rattle.association_reading.specs.Association.{is_aarq}
+use Rattle.association_intake.specs.association_reading.declared.layer_of_values.Carriage.TheVariants as carriage
+use Rattle.association_intake.specs.association_reading.Places.{pdv_places}
+use Rattle.association_intake.specs.association_reading.Values.{values_under}
+use Rattle.association_intake.specs.association_reading.Association.{is_aarq}
 use Rattle.association_words.specs.Seen.{seen_values}
 use Rattle.association_meaning.specs.Grounds.{association_base}
 use Rattle.association_meaning.specs.Steps.{values_associated}

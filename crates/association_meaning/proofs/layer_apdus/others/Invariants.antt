@@ -1,5 +1,5 @@
 use Rattle.std.proofs.Common.{◌≡◌, ◌++◌, drop, map}
-use Rattle.association_reading.specs.Values as reading
+use Rattle.association_intake.specs.association_reading.Values as reading
 use Rattle.association_words.specs.Seen.{seen_information}
 use Rattle.association_meaning.proofs.layer_apdus.others.Given as goal
 

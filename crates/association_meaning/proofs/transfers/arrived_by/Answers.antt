@@ -1,6 +1,6 @@
 use Rattle.std.proofs.Common.{sym, subst}
 use Rattle.std.specs.Option.{option_copied}
-use Rattle.association_reading.specs.Places.{places_of, spot_at}
+use Rattle.association_intake.specs.association_reading.Places.{places_of, spot_at}
 use Rattle.association_words.specs.Seen.{seen_arrived}
 use Rattle.association_meaning.specs.Grounds.{GivesAs}
 use Rattle.association_meaning.proofs.Judged.{wrong_arrives, right_arrives}

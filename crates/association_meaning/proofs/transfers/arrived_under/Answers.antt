@@ -1,9 +1,9 @@
 use Rattle.std.specs.Option.{option_copied}
 use Rattle.osi_base.specs.PdvContent.{octets_of}
-use Rattle.association_reading.specs.declared.layer_of_values.Carriage.TheVariants as carriage
-use Rattle.association_reading.specs.Places.{places_of, spot_at}
-use Rattle.association_reading.specs.Values.{content_under}
-use Rattle.association_reading.specs.Transfers.{arrived_under}
+use Rattle.association_intake.specs.association_reading.declared.layer_of_values.Carriage.TheVariants as carriage
+use Rattle.association_intake.specs.association_reading.Places.{places_of, spot_at}
+use Rattle.association_intake.specs.association_reading.Values.{content_under}
+use Rattle.association_intake.specs.association_reading.Transfers.{arrived_under}
 use Rattle.association_words.specs.Seen.{seen_arrived}
 use Rattle.association_meaning.proofs.Fails.{halts, arrived_fails}
 use Rattle.association_meaning.proofs.transfers.arrived_under.Goals as goal

@@ -4,8 +4,8 @@ use Rattle.end_rules.specs.Base.{Fault}
 use Rattle.presentation_pdus.specs.declared.place.PpduPlace.TheVariants as place
 use Rattle.presentation_pdus.specs.Units.{ppdu_at}
 use Rattle.end_rules.specs.Messages.{DataValue, OfAssociation, Connect}
-use Rattle.association_reading.specs.Places.{pdv_places}
-use Rattle.association_reading.specs.Association.{connect_values}
+use Rattle.association_intake.specs.association_reading.Places.{pdv_places}
+use Rattle.association_intake.specs.association_reading.Association.{connect_values}
 use Rattle.association_words.specs.Seen.{seen_word}
 use Rattle.association_meaning.specs.Grounds.{association_base, FailsAs}
 use Rattle.association_meaning.specs.Words.{connect_in, connected}

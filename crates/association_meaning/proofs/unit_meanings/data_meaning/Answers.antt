@@ -1,7 +1,7 @@
 use Rattle.std.proofs.Common.{List}
 use Rattle.presentation_pdus.specs.declared.place.PpduPlace.TheVariants as place
 use Rattle.end_rules.specs.Messages.{DataValue, OfData, Values}
-use Rattle.association_reading.specs.Meaning.{carried_by_data}
+use Rattle.association_intake.specs.association_reading.Meaning.{carried_by_data}
 use Rattle.association_words.specs.Seen.{seen_word}
 use Rattle.association_meaning.specs.Grounds.{association_base}
 use Rattle.association_meaning.specs.Words.{values_with, sent}

@@ -1,6 +1,6 @@
 use Rattle.presentation_pdus.specs.declared.place.PpduPlace.TheVariants as place
 use Rattle.presentation_pdus.specs.Units.{ppdu_at}
-use Rattle.association_reading.specs.Meaning as reading
+use Rattle.association_intake.specs.association_reading.Meaning as reading
 use Rattle.association_words.specs.Seen.{seen_word}
 use Rattle.association_meaning.specs.Steps.{read_unit}
 use Rattle.association_meaning.specs.Words.{restart_acked}

@@ -1,5 +1,5 @@
-use Rattle.association_reading.specs.Places.{pdv_places}
-use Rattle.association_reading.specs.Association.{abort_values}
+use Rattle.association_intake.specs.association_reading.Places.{pdv_places}
+use Rattle.association_intake.specs.association_reading.Association.{abort_values}
 use Rattle.association_words.specs.Seen.{seen_abort}
 use Rattle.association_meaning.specs.Grounds.{association_base}
 use Rattle.association_meaning.specs.Words.{user_abort}

@@ -1,5 +1,5 @@
 use Rattle.presentation_pdus.specs.Units.{ppdu_at}
-use Rattle.association_reading.specs.Places.{pdv_places}
+use Rattle.association_intake.specs.association_reading.Places.{pdv_places}
 use Rattle.association_words.specs.Seen.{seen_values}
 use Rattle.association_meaning.specs.Words.{data_in, values_with}
 use Rattle.association_meaning.proofs.Fails.{halts, under_fails}

@@ -3,7 +3,7 @@ use Rattle.std.specs.Prelude.{slice_get}
 use Rattle.std.specs.Option.{option_copied}
 use Rattle.end_rules.specs.Base.{Fault}
 use Rattle.end_rules.specs.Messages as meant
-use Rattle.association_reading.specs.Values.{first_informed}
+use Rattle.association_intake.specs.association_reading.Values.{first_informed}
 use Rattle.association_words.specs.declared.values.Information.{Information}
 use Rattle.association_meaning.specs.Informing.{seen_items, with_first}
 use Rattle.association_meaning.proofs.FirstItems.{first_read, first_fails}

@@ -1,5 +1,5 @@
 use Rattle.std.proofs.Common.{sym, ◌∙◌}
-use Rattle.association_reading.specs.Values.{informed_value}
+use Rattle.association_intake.specs.association_reading.Values.{informed_value}
 use Rattle.association_words.specs.Seen.{seen_value, seen_values}
 use Rattle.association_meaning.specs.Informing.{kind_of}
 use Rattle.association_meaning.proofs.FirstItems.{value_fails}

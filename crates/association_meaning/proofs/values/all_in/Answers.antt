@@ -1,6 +1,6 @@
 use Rattle.std.proofs.Common.{sym, ap, ◌∙◌, arith}
 use Rattle.association_words.specs.Seen.{seen_values}
-use Rattle.association_reading.specs.Values.{all_values, value_in}
+use Rattle.association_intake.specs.association_reading.Values.{all_values, value_in}
 use Rattle.association_meaning.proofs.Alls.{all_step, fails_at, all_done}
 use Rattle.association_meaning.proofs.Fails.{halts}
 use Rattle.association_meaning.proofs.values.all_in.Goals as goal

@@ -1,7 +1,7 @@
 use Rattle.std.proofs.Common.{◌≡◌, drop}
 use Rattle.association_meaning.specs.Steps as steps
 use Rattle.association_words.specs.Seen.{seen_values}
-use Rattle.association_reading.specs.Values as values_read
+use Rattle.association_intake.specs.association_reading.Values as values_read
 use Rattle.association_meaning.proofs.values.all_in.Given as goal
 
 abbrev pub invariant-loop-pdv : goal.invariant-loop-pdv

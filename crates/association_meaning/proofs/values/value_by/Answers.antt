@@ -1,6 +1,6 @@
 use Rattle.std.specs.Option.{option_copied}
 use Rattle.osi_base.specs.PdvContent.{octets_of}
-use Rattle.association_reading.specs.Values.{content_by, value_by}
+use Rattle.association_intake.specs.association_reading.Values.{content_by, value_by}
 use Rattle.association_words.specs.Seen.{seen_value}
 use Rattle.association_meaning.proofs.Fails.{halts, content_fails}
 use Rattle.association_meaning.proofs.values.value_by.Goals as goal

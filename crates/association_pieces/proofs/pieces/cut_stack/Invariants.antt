@@ -1,5 +1,5 @@
 use Rattle.std.proofs.Common.{◌≡◌, length}
-use Rattle.end_rules.specs.State.{joined, from_mark}
+use Rattle.association_sets.specs.end_rules.State.{joined, from_mark}
 use Rattle.association_pieces.proofs.pieces.cut_stack.Given as goal
 
 abbrev pub invariant-loop-stack : goal.invariant-loop-stack

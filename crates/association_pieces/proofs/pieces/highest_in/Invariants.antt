@@ -1,5 +1,5 @@
 use Rattle.std.proofs.Common.{◌≡◌, drop}
-use Rattle.end_rules.specs.State.{highest}
+use Rattle.association_sets.specs.end_rules.State.{highest}
 use Rattle.association_pieces.proofs.pieces.highest_in.Given as goal
 
 abbrev pub invariant-loop-place : goal.invariant-loop-place

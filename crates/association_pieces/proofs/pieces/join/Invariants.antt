@@ -1,5 +1,5 @@
 use Rattle.std.proofs.Common.{◌≡◌, reverse, take}
-use Rattle.end_rules.specs.State.{joined}
+use Rattle.association_sets.specs.end_rules.State.{joined}
 use Rattle.association_pieces.proofs.pieces.join.Given as goal
 
 abbrev pub invariant-loop-piece : goal.invariant-loop-piece

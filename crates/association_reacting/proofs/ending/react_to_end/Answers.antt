@@ -1,7 +1,7 @@
 use Rattle.std.proofs.Common.{refl, sym, ◌∙◌}
 use Rattle.end_rules.specs.Messages.{OfActivities, End, Session}
 use Rattle.end_rules.specs.Reacting.{react, react_to_word}
-use Rattle.association_state.specs.Seen.{base_in, seen}
+use Rattle.association_place.specs.association_state.Seen.{base_in, seen}
 use Rattle.association_reacting.proofs.Reactions.{result_by, passed_over, of_word}
 use Rattle.association_reacting.proofs.ending.react_to_end.Goals as goal
 

@@ -3,7 +3,7 @@ use Rattle.end_rules.specs.Base.{Fault}
 use Rattle.end_rules.specs.Messages.{Word, OfActivities, End}
 use Rattle.end_rules.specs.Reacting.{fails, react_to_word, on_word, word_fault}
 use Rattle.association_words.specs.Seen.{seen_fault}
-use Rattle.association_state.specs.Seen.{base_in, seen}
+use Rattle.association_place.specs.association_state.Seen.{base_in, seen}
 use Rattle.association_reacting.proofs.Reactions.{result_by, unconnected, purged, looked_at}
 use Rattle.association_reacting.proofs.ending.react_to_end_word.Goals as goal
 

@@ -7,7 +7,7 @@ use Rattle.end_rules.specs.Reacting.{fails, on_word, word_fault}
 use Rattle.association_words.specs.declared.faults.Fault as faults
 use Rattle.association_words.specs.declared.values.Value.{Value}
 use Rattle.association_words.specs.Seen.{seen_fault}
-use Rattle.association_state.specs.Seen.{base_in, seen}
+use Rattle.association_place.specs.association_state.Seen.{base_in, seen}
 use Rattle.association_reacting.specs.ActivityEnds.{Arrives, ArrivesAs}
 use Rattle.association_reacting.proofs.Reactions.{result_by, taken_so, misplaced, in_place}
 use Rattle.association_reacting.proofs.ending.take_or_fail_end.Goals as goal

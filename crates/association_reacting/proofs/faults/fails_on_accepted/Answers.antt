@@ -1,6 +1,6 @@
 use Rattle.std.proofs.Common.{◌∙◌}
 use Rattle.association_words.specs.Seen.{seen_fault}
-use Rattle.association_state.specs.Seen.{seen}
+use Rattle.association_place.specs.association_state.Seen.{seen}
 use Rattle.association_reacting.proofs.Reactions.{result_failed}
 use Rattle.association_reacting.proofs.faults.fails_on_accepted.Goals as goal
 

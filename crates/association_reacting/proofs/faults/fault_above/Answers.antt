@@ -4,7 +4,7 @@ use Rattle.end_rules.specs.Reacting.{fault_above}
 use Rattle.association_words.specs.declared.faults.Fault.{Fault}
 use Rattle.association_words.specs.declared.words.Word.{Word}
 use Rattle.association_words.specs.Seen.{seen_fault, seen_word, seen_activities}
-use Rattle.association_state.specs.Seen.{base_in, seen}
+use Rattle.association_place.specs.association_state.Seen.{base_in, seen}
 use Rattle.association_reacting.specs.ActivityEnds.{is_end_word}
 use Rattle.association_reacting.proofs.Reactions.{no_fault}
 use Rattle.association_reacting.proofs.faults.fault_above.Goals as goal

@@ -3,7 +3,7 @@ use Rattle.std.specs.Prelude.{IfOk, option_map}
 use Rattle.end_rules.specs.Base as base
 use Rattle.association_words.specs.declared.faults.Fault.{Fault}
 use Rattle.association_words.specs.Seen.{seen_fault, seen_word}
-use Rattle.association_state.specs.Seen.{base_in, seen}
+use Rattle.association_place.specs.association_state.Seen.{base_in, seen}
 use Rattle.association_reacting.proofs.Reactions.{misplaced, in_place}
 use Rattle.association_reacting.proofs.faults.word_fault.Goals as goal
 

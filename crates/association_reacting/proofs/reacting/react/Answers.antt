@@ -2,7 +2,7 @@ use Rattle.std.proofs.Common.{refl, sym, ap, ◌∙◌}
 use Rattle.end_rules.specs.Reacting.{react, react_to_word, react_to_transport}
 use Rattle.association_words.specs.declared.words.Message.{Message}
 use Rattle.association_words.specs.Seen.{seen_message, seen_word, seen_transport}
-use Rattle.association_state.specs.Seen.{base_in, seen}
+use Rattle.association_place.specs.association_state.Seen.{base_in, seen}
 use Rattle.association_reacting.specs.ActivityEnds.{is_end_message}
 use Rattle.association_reacting.proofs.Reactions.{result_by, passed_over, of_transport, of_word}
 use Rattle.association_reacting.proofs.reacting.react.Goals as goal

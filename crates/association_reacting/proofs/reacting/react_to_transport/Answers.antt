@@ -3,7 +3,7 @@ use Rattle.std.specs.Prelude.{option_map}
 use Rattle.end_rules.specs.Reacting.{fails, react_to_transport}
 use Rattle.end_rules.specs.TakesTransport.{after_transport, answers_to_transport, shown_of_transport}
 use Rattle.association_words.specs.Seen.{seen_fault, seen_transport}
-use Rattle.association_state.specs.Seen.{base_in, seen}
+use Rattle.association_place.specs.association_state.Seen.{base_in, seen}
 use Rattle.association_reacting.proofs.Reactions.{result_by, taken_so, transport_purged, transport_looked_at}
 use Rattle.association_reacting.proofs.reacting.react_to_transport.Goals as goal
 

@@ -2,7 +2,7 @@ use Rattle.std.proofs.Common.{refl, sym, ap, ◌∙◌}
 use Rattle.end_rules.specs.Base.{Fault}
 use Rattle.end_rules.specs.Reacting.{fails, react_to_word, on_word, word_fault}
 use Rattle.association_words.specs.Seen.{seen_fault, seen_word}
-use Rattle.association_state.specs.Seen.{base_in, seen}
+use Rattle.association_place.specs.association_state.Seen.{base_in, seen}
 use Rattle.association_reacting.proofs.Reactions.{result_by, unconnected, purged, looked_at}
 use Rattle.association_reacting.proofs.reacting.react_to_word.Goals as goal
 

@@ -1,7 +1,7 @@
 use Rattle.std.proofs.Common.{◌∙◌}
 use Rattle.end_rules.specs.Reacting.{contexts_of_word}
 use Rattle.association_words.specs.Seen.{seen_fault, seen_word}
-use Rattle.association_state.specs.Seen.{base_in, seen}
+use Rattle.association_place.specs.association_state.Seen.{base_in, seen}
 use Rattle.association_reacting.proofs.Reactions.{result_failed}
 use Rattle.association_reacting.proofs.taking.fail_word.Goals as goal
 

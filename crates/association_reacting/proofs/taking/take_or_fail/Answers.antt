@@ -2,7 +2,7 @@ use Rattle.std.proofs.Common.{sym, ap, ◌∙◌}
 use Rattle.std.specs.Prelude.{option_map}
 use Rattle.end_rules.specs.Reacting.{fails, on_word, word_fault, contexts_of_word, after_word, answers_to_word, shown_of_word}
 use Rattle.association_words.specs.Seen.{seen_fault, seen_word}
-use Rattle.association_state.specs.Seen.{base_in, seen}
+use Rattle.association_place.specs.association_state.Seen.{base_in, seen}
 use Rattle.association_reacting.proofs.Reactions.{result_by, taken_so}
 use Rattle.association_reacting.proofs.taking.take_or_fail.Goals as goal
 

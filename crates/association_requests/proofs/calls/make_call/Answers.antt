@@ -1,4 +1,4 @@
-use Rattle.association_state.specs.Seen.{base_in, seen}
+use Rattle.association_hearing.specs.association_state.Seen.{base_in, seen}
 use Rattle.association_requests.proofs.Rows.{refused_first, by_rows}
 use Rattle.association_requests.proofs.calls.make_call.Goals as goal
 

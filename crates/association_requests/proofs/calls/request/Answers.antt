@@ -2,7 +2,7 @@ use Rattle.std.proofs.Common.{None}
 use Rattle.std.proofs.lemmas.Result.{err_from_is_err_and}
 use Rattle.end_rules.specs.Calling.{can_by_rows}
 use Rattle.end_rules.specs.Requesting.{due_of_accepted}
-use Rattle.association_state.specs.Seen.{base_in, seen}
+use Rattle.association_hearing.specs.association_state.Seen.{base_in, seen}
 use Rattle.association_requests.proofs.Rows.{refused_due, made_so}
 use Rattle.association_requests.proofs.calls.request.Goals as goal
 

@@ -3,7 +3,7 @@ use Rattle.std.proofs.lemmas.Result.{err_from_is_err_and}
 use Rattle.dialogue.specs.declared.call.Call.TheVariants as the_calls
 use Rattle.end_rules.specs.Invoking.{can_answer}
 use Rattle.end_rules.specs.Requesting.{result_in}
-use Rattle.association_state.specs.Seen.{base_in, seen}
+use Rattle.association_hearing.specs.association_state.Seen.{base_in, seen}
 use Rattle.association_requests.proofs.Outcomes.{refused_checked, answered_open, answer_made}
 use Rattle.association_requests.proofs.operations.answer.Goals as goal
 

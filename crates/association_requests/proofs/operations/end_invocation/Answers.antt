@@ -1,7 +1,7 @@
 use Rattle.std.proofs.Common.{None, false, sym, ◌∙◌}
 use Rattle.end_rules.specs.State.{opened_with}
 use Rattle.end_rules.specs.Requesting.{handed_in, sent_at_once}
-use Rattle.association_state.specs.Seen.{base_in, seen}
+use Rattle.association_hearing.specs.association_state.Seen.{base_in, seen}
 use Rattle.association_requests.specs.Called.{sent_by}
 use Rattle.association_requests.proofs.Outcomes.{ended_due, ended_body}
 use Rattle.association_requests.proofs.operations.end_invocation.Goals as goal

@@ -6,7 +6,7 @@ use Rattle.std.proofs.lemmas.Result.{err_from_is_err_and}
 use Rattle.dialogue.specs.declared.call.Call.TheVariants as the_calls
 use Rattle.stub_tables.specs.Lookup.{operation_at}
 use Rattle.end_rules.specs.Invoking.{can_invoke, next_id, invoke_apdu}
-use Rattle.association_state.specs.Seen.{base_in, seen}
+use Rattle.association_hearing.specs.association_state.Seen.{base_in, seen}
 use Rattle.association_requests.proofs.Outcomes.{refused_checked}
 use Rattle.association_requests.proofs.Invoked.{there, invoke_made}
 use Rattle.association_requests.proofs.operations.invoke.Goals as goal

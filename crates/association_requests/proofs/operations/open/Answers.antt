@@ -2,7 +2,7 @@ use Rattle.std.proofs.Common.{◌+◌, refl, sym, ◌∙◌}
 use Rattle.std.proofs.lemmas.Result.{IfOk-weaker, on_ok_weaker}
 use Rattle.stub_tables.specs.Lookup.{operation_at}
 use Rattle.end_rules.specs.State.{Calls}
-use Rattle.association_state.specs.Seen.{base_in, seen}
+use Rattle.association_hearing.specs.association_state.Seen.{base_in, seen}
 use Rattle.association_requests.proofs.Invoked.{numbered, roomy, next_is, silent_invoked, open_invoked}
 use Rattle.association_requests.proofs.operations.open.Goals as goal
 

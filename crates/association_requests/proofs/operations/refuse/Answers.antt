@@ -4,7 +4,7 @@ use Rattle.dialogue.specs.declared.call.Call.TheVariants as the_calls
 use Rattle.stub_tables.specs.Lookup.{error_at}
 use Rattle.end_rules.specs.Invoking.{can_refuse}
 use Rattle.end_rules.specs.Requesting.{error_for}
-use Rattle.association_state.specs.Seen.{base_in, seen}
+use Rattle.association_hearing.specs.association_state.Seen.{base_in, seen}
 use Rattle.association_requests.proofs.Outcomes.{refused_checked, refused_open, refuse_made}
 use Rattle.association_requests.proofs.operations.refuse.Goals as goal
 

@@ -1,5 +1,5 @@
 use Rattle.std.proofs.Common.{◌≡◌, drop}
-use Rattle.end_rules.specs.Sets.{with_added}
+use Rattle.association_ground.specs.end_rules.Sets.{with_added}
 use Rattle.association_sets.proofs.altering.add.Given as goal
 
 abbrev pub invariant-loop-place : goal.invariant-loop-place

@@ -1,6 +1,6 @@
 use Rattle.std.proofs.Common.{◌≡◌, ◌∙◌, ℕ, List, [], drop, sym, ap, arith}
 use Rattle.std.proofs.lemmas.List.{drop_all}
-use Rattle.end_rules.specs.Sets.{with_deleted}
+use Rattle.association_ground.specs.end_rules.Sets.{with_deleted}
 use Rattle.association_sets.proofs.Fits.{none_deleted}
 use Rattle.association_sets.proofs.altering.delete.Goals as goal
 

@@ -1,5 +1,5 @@
 use Rattle.std.proofs.Common.{◌≡◌, drop}
-use Rattle.end_rules.specs.Sets.{with_deleted}
+use Rattle.association_ground.specs.end_rules.Sets.{with_deleted}
 use Rattle.association_sets.proofs.altering.delete.Given as goal
 
 abbrev pub invariant-loop-place : goal.invariant-loop-place

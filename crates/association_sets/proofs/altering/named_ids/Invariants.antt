@@ -1,5 +1,5 @@
 use Rattle.std.proofs.Common.{◌≡◌, ◌++◌, drop}
-use Rattle.end_rules.specs.Sets.{named_ids}
+use Rattle.association_ground.specs.end_rules.Sets.{named_ids}
 use Rattle.association_sets.proofs.altering.named_ids.Given as goal
 
 abbrev pub invariant-loop-id : goal.invariant-loop-id

@@ -1,5 +1,5 @@
 use Rattle.std.proofs.Common.{◌≡◌, ◌+◌, ◌≤◌, min, drop}
-use Rattle.end_rules.specs.Sets.{count_added}
+use Rattle.association_ground.specs.end_rules.Sets.{count_added}
 use Rattle.association_sets.proofs.asking.count_added.Given as goal
 
 abbrev pub invariant-loop-alteration : goal.invariant-loop-alteration

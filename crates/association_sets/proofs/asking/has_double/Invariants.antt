@@ -1,5 +1,5 @@
 use Rattle.std.proofs.Common.{◌≡◌, drop}
-use Rattle.end_rules.specs.Altering.{has_double}
+use Rattle.association_ground.specs.end_rules.Altering.{has_double}
 use Rattle.association_sets.proofs.asking.has_double.Given as goal
 
 abbrev pub invariant-loop-i : goal.invariant-loop-i

@@ -1,6 +1,6 @@
 use Rattle.std.proofs.Common.{◌≡◌, drop}
 use Rattle.std.specs.List.{list_any}
-use Rattle.end_rules.specs.Altering.{has_bad_transfers}
+use Rattle.association_ground.specs.end_rules.Altering.{has_bad_transfers}
 use Rattle.association_sets.proofs.asking.is_badly_offered.Given as goal
 
 abbrev pub invariant-loop-proposal : goal.invariant-loop-proposal

@@ -1,5 +1,5 @@
 use Rattle.std.proofs.Common.{◌≡◌, drop}
-use Rattle.end_rules.specs.Sets.{is_deleted_in}
+use Rattle.association_ground.specs.end_rules.Sets.{is_deleted_in}
 use Rattle.association_sets.proofs.asking.is_deleted_in.Given as goal
 
 abbrev pub invariant-loop-alteration : goal.invariant-loop-alteration

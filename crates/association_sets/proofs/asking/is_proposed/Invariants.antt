@@ -1,5 +1,5 @@
 use Rattle.std.proofs.Common.{◌≡◌, drop}
-use Rattle.end_rules.specs.Sets.{is_among, proposed_ids}
+use Rattle.association_ground.specs.end_rules.Sets.{is_among, proposed_ids}
 use Rattle.association_sets.proofs.asking.is_proposed.Given as goal
 
 abbrev pub invariant-loop-proposal : goal.invariant-loop-proposal

@@ -1,7 +1,7 @@
 use Rattle.std.proofs.Common.{◌≡◌, ◌∙◌, ℕ, List, [], length, drop, nat_le, sym, ap, arith}
 use Rattle.std.proofs.lemmas.List.{drop_all}
 use Rattle.osi_base.specs.declared.layer_words.Proposal.{Proposal}
-use Rattle.end_rules.specs.Sets.{fit_proposals}
+use Rattle.association_ground.specs.end_rules.Sets.{fit_proposals}
 use Rattle.association_sets.proofs.Fits.{all_fit}
 use Rattle.association_sets.proofs.fitting.fit_proposals.Goals as goal
 

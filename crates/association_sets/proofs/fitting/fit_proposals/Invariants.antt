@@ -1,5 +1,5 @@
 use Rattle.std.proofs.Common.{◌≡◌, drop}
-use Rattle.end_rules.specs.Sets.{fit_proposals}
+use Rattle.association_ground.specs.end_rules.Sets.{fit_proposals}
 use Rattle.association_sets.proofs.fitting.fit_proposals.Given as goal
 
 abbrev pub invariant-loop-place : goal.invariant-loop-place

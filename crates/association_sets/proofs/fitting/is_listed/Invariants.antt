@@ -1,6 +1,6 @@
 use Rattle.std.proofs.Common.{◌≡◌, drop}
 use Rattle.std.specs.List.{list_any}
-use Rattle.end_rules.specs.Sets.{same_name}
+use Rattle.association_ground.specs.end_rules.Sets.{same_name}
 use Rattle.association_sets.proofs.fitting.is_listed.Given as goal
 
 abbrev pub invariant-loop-other : goal.invariant-loop-other

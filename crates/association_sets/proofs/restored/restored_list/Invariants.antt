@@ -1,5 +1,5 @@
 use Rattle.std.proofs.Common.{◌≡◌, ◌++◌, drop}
-use Rattle.end_rules.specs.Sets.{listed}
+use Rattle.association_ground.specs.end_rules.Sets.{listed}
 use Rattle.association_sets.proofs.restored.restored_list.Given as goal
 
 abbrev pub invariant-loop-item : goal.invariant-loop-item

@@ -1,5 +1,5 @@
 use Rattle.std.proofs.Common.{◌≡◌, drop}
-use Rattle.end_rules.specs.Sets.{same_lists}
+use Rattle.association_ground.specs.end_rules.Sets.{same_lists}
 use Rattle.association_sets.proofs.restored.same_lists.Given as goal
 
 abbrev pub invariant-loop-place : goal.invariant-loop-place

@@ -1,5 +1,5 @@
 use Rattle.std.proofs.Common.{◌≡◌, drop}
-use Rattle.end_rules.specs.Sets.{lowest_with}
+use Rattle.association_ground.specs.end_rules.Sets.{lowest_with}
 use Rattle.association_sets.proofs.sets.lowest_with.Given as goal
 
 abbrev pub invariant-loop-item : goal.invariant-loop-item

@@ -1,6 +1,6 @@
 use Rattle.std.proofs.Common.{◌≡◌, ◌∙◌, sym, ap, length, insert, Ok, Err, arith}
 use Rattle.std.proofs.lemmas.Grind.{common_steps}
-use Rattle.end_rules.specs.Sets.{put}
+use Rattle.association_ground.specs.end_rules.Sets.{put}
 use Rattle.osi_base.specs.SetPlaces.{place_of}
 use Rattle.osi_base.proofs.Placing.{found_within}
 use Rattle.association_sets.proofs.Placing.{put_as}

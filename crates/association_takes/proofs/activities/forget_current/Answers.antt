@@ -2,7 +2,7 @@ use Rattle.std.proofs.Common.{Option, ap}
 use Rattle.std.specs.Prelude.{option_map}
 use Rattle.association_pieces.specs.declared.sending.Transfer.{Transfer}
 use Rattle.association_pieces.specs.Sending.{seen_transfer}
-use Rattle.association_state.specs.Seen.{seen}
+use Rattle.association_hearing.specs.association_state.Seen.{seen}
 use Rattle.association_takes.proofs.activities.forget_current.Goals as goal
 
 pub returns : goal.returns

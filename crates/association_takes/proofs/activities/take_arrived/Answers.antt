@@ -3,8 +3,8 @@ use Rattle.std.proofs.lemmas.Result.{IfOk-weaker}
 use Rattle.end_rules.specs.Hearing.{take_values}
 use Rattle.association_words.specs.declared.values.Value.{Value}
 use Rattle.association_words.specs.Seen.{seen_value}
-use Rattle.association_sends.specs.Due.{listed}
-use Rattle.association_state.specs.Seen.{base_in, seen}
+use Rattle.association_hearing.specs.association_sends.Due.{listed}
+use Rattle.association_hearing.specs.association_state.Seen.{base_in, seen}
 use Rattle.association_hearing.specs.ValuesTaken.{TookAs}
 use Rattle.association_hearing.proofs.Taking.{took_one}
 use Rattle.association_takes.proofs.activities.take_arrived.Goals as goal

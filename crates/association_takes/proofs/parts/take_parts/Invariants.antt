@@ -1,7 +1,7 @@
 use Rattle.std.proofs.Common.{◌≡◌, drop}
 use Rattle.end_rules.specs.TakesData.{with_parts}
 use Rattle.association_words.specs.Seen.{seen_values}
-use Rattle.association_state.specs.Seen.{seen}
+use Rattle.association_hearing.specs.association_state.Seen.{seen}
 use Rattle.association_takes.proofs.parts.take_parts.Given as goal
 
 abbrev pub invariant-loop-value : goal.invariant-loop-value

@@ -1,5 +1,5 @@
 use Rattle.std.proofs.Common.{◌≡◌, drop}
-use Rattle.end_rules.specs.State.{post_order_on, post_order}
+use Rattle.rose_roles.specs.end_rules.State.{post_order_on, post_order}
 use Rattle.open_invocations.proofs.order.post_order.Given as goal
 
 abbrev pub invariant-loop-call : goal.invariant-loop-call

@@ -1,5 +1,5 @@
 use Rattle.std.proofs.Common.{◌≡◌, ◌++◌, map, take}
-use Rattle.end_rules.specs.Faults.{cut_of}
+use Rattle.rose_roles.specs.end_rules.Faults.{cut_of}
 use Rattle.open_invocations.proofs.order.push_cuts.Given as goal
 
 abbrev pub invariant-loop-call : goal.invariant-loop-call

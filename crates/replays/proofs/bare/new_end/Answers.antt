@@ -1,5 +1,5 @@
 use Rattle.std.proofs.Common.{ap}
-use Rattle.bare_end.specs.View.{EndView}
+use Rattle.bare_duo.specs.bare_end.View.{EndView}
 use Rattle.replays.proofs.bare.new_end.Goals as goal
 
 pub returns-in-Ok-clause-tables : goal.returns-in-Ok-clause-tables

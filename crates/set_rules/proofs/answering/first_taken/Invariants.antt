@@ -1,6 +1,6 @@
 use Rattle.std.proofs.Common.{◌≡◌, drop}
 use Rattle.std.specs.Prelude.{find}
-use Rattle.end_rules.specs.Policy.{takes_syntax}
+use Rattle.association_sets.specs.end_rules.Policy.{takes_syntax}
 use Rattle.set_rules.specs.Plain.{plain_base}
 use Rattle.set_rules.proofs.answering.first_taken.Given as goal
 

@@ -1,5 +1,5 @@
 use Rattle.std.proofs.Common.{◌≡◌, ◌+◌, ◌≤◌, ◌++◌, drop}
-use Rattle.end_rules.specs.Policy.{answers_to_additions}
+use Rattle.association_sets.specs.end_rules.Policy.{answers_to_additions}
 use Rattle.set_rules.specs.Plain.{plain_base}
 use Rattle.set_rules.proofs.answering.plain_answers.Given as goal
 

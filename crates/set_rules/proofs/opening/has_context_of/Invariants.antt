@@ -1,6 +1,6 @@
 use Rattle.std.proofs.Common.{◌≡◌, [], drop}
 use Rattle.std.specs.Prelude.{is_some}
-use Rattle.end_rules.specs.Sets.{lowest_with}
+use Rattle.association_sets.specs.end_rules.Sets.{lowest_with}
 use Rattle.set_rules.proofs.opening.has_context_of.Given as goal
 
 abbrev pub invariant-loop-item : goal.invariant-loop-item

@@ -1,6 +1,6 @@
 use Rattle.std.proofs.Common.{◌≡◌, drop}
-use Rattle.end_rules.specs.Sets.{proposed_ids}
-use Rattle.end_rules.specs.Altering.{has_double}
+use Rattle.association_sets.specs.end_rules.Sets.{proposed_ids}
+use Rattle.association_sets.specs.end_rules.Altering.{has_double}
 use Rattle.set_rules.proofs.opening.has_double.Given as goal
 
 abbrev pub invariant-loop-place : goal.invariant-loop-place

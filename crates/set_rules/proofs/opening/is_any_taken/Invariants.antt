@@ -1,6 +1,6 @@
 use Rattle.std.proofs.Common.{◌≡◌, drop}
 use Rattle.std.specs.List.{list_any}
-use Rattle.end_rules.specs.Sets.{proposed_ids}
+use Rattle.association_sets.specs.end_rules.Sets.{proposed_ids}
 use Rattle.set_rules.specs.Plain.{is_taken_id}
 use Rattle.set_rules.proofs.opening.is_any_taken.Given as goal
 

@@ -1,7 +1,7 @@
 use Rattle.std.proofs.Common.{refl, sym, subst, ◌∙◌}
 use Rattle.dialogue.specs.declared.config.Phase.TheVariants.{Dead}
 use Rattle.end_rules.specs.State.{Body}
-use Rattle.association_state.specs.Seen.{seen}
+use Rattle.association_reacting.specs.association_state.Seen.{seen}
 use Rattle.association_end.specs.View.{EndView}
 use Rattle.association_end.specs.Changed.{ChangedBy}
 use Rattle.association_end.specs.Reacted.{with_body}

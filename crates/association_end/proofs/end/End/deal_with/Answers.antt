@@ -1,4 +1,4 @@
-use Rattle.association_intake.specs.Seen.{seen_front}
+use Rattle.association_meaning.specs.association_intake.Seen.{seen_front}
 use Rattle.association_end.proofs.Dealing.{sent_stands, over_for, deals_result}
 use Rattle.association_end.proofs.end.End.deal_with.Goals as goal
 

@@ -3,7 +3,7 @@ use Rattle.std.proofs.lemmas.Result.{on_ok_weaker}
 use Rattle.std.specs.Prelude.{OnOk}
 use Rattle.end_rules.specs.State.{Link}
 use Rattle.end_rules.specs.History.{encoded}
-use Rattle.association_state.specs.Seen.{seen}
+use Rattle.association_reacting.specs.association_state.Seen.{seen}
 use Rattle.association_end.specs.View.{EndView, Stepped}
 use Rattle.association_end.specs.Reacted.{with_body}
 use Rattle.association_end.proofs.Inside.{view_in}

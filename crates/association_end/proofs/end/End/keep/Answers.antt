@@ -1,6 +1,6 @@
 use Rattle.std.proofs.Common.{[], ◌∷◌, Option, None, refl, ap, sym, subst, ◌∙◌}
 use Rattle.end_rules.specs.History.{fed}
-use Rattle.association_reading.specs.Front.{Intake}
+use Rattle.association_line.specs.association_reading.Front.{Intake}
 use Rattle.association_end.specs.View.{EndView, Stepped}
 use Rattle.association_end.specs.Seen.{came_in}
 use Rattle.association_end.specs.Sound.{HasMessages}

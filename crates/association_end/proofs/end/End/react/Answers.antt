@@ -1,8 +1,8 @@
 use Rattle.std.proofs.Common.{refl, ap, subst, ◌∙◌}
 use Rattle.std.specs.Prelude.{IfOk, OnErr}
 use Rattle.end_rules.specs.State.{passes_over}
-use Rattle.association_intake.specs.Seen.{seen_front}
-use Rattle.association_state.specs.Seen.{seen}
+use Rattle.association_meaning.specs.association_intake.Seen.{seen_front}
+use Rattle.association_reacting.specs.association_state.Seen.{seen}
 use Rattle.association_end.specs.View.{EndView}
 use Rattle.association_end.specs.Progress.{Keeps}
 use Rattle.association_end.specs.Reacted.{ReactedTo, with_body}

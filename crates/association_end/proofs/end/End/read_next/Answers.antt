@@ -1,7 +1,7 @@
 use Rattle.std.proofs.Common.{Bool, sym, subst, ◌≡◌, ◌∙◌}
 use Rattle.std.specs.Bool.{MatchBool}
-use Rattle.association_reading.specs.Front.{Short}
-use Rattle.association_intake.specs.Seen.{seen_front}
+use Rattle.association_line.specs.association_reading.Front.{Short}
+use Rattle.association_meaning.specs.association_intake.Seen.{seen_front}
 use Rattle.association_end.specs.Sound.{IsMessage}
 use Rattle.association_end.proofs.Dealt.{waited}
 use Rattle.association_end.proofs.Dealing.{up_behind, next_read}

@@ -4,7 +4,7 @@ use Rattle.std.specs.Prelude.{OnOk}
 use Rattle.end_rules.specs.State.{passes_over}
 use Rattle.end_rules.specs.History.{sent}
 use Rattle.association_words.specs.Seen.{seen_message}
-use Rattle.association_state.specs.Seen.{seen}
+use Rattle.association_reacting.specs.association_state.Seen.{seen}
 use Rattle.association_end.specs.View.{EndView, Stepped}
 use Rattle.association_end.proofs.Inside.{view_in}
 use Rattle.association_end.proofs.Sounds.{up_some, sound_body}

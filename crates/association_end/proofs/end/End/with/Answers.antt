@@ -1,6 +1,6 @@
 use Rattle.std.proofs.Common.{is_some, sym, ap, subst}
 use Rattle.end_rules.specs.State.{passes_over}
-use Rattle.association_state.specs.Seen.{seen}
+use Rattle.association_reacting.specs.association_state.Seen.{seen}
 use Rattle.association_end.specs.Sound.{HasMessages}
 use Rattle.association_end.proofs.Sounds.{listens_some}
 use Rattle.association_end.proofs.end.End.with.Goals as goal

@@ -1,5 +1,5 @@
 use Rattle.std.proofs.Common.{◌≡◌, drop}
-use Rattle.end_rules.specs.State.{from_mark, newest_set}
+use Rattle.association_sets.specs.end_rules.State.{from_mark, newest_set}
 use Rattle.association_pieces.proofs.pieces.Pieces.set_of.Given as goal
 
 abbrev pub invariant-loop-place : goal.invariant-loop-place

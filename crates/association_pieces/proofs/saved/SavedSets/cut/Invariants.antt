@@ -1,5 +1,5 @@
 use Rattle.std.proofs.Common.{◌≡◌, length}
-use Rattle.end_rules.specs.Sets.{below}
+use Rattle.association_sets.specs.end_rules.Sets.{below}
 use Rattle.association_pieces.proofs.saved.SavedSets.cut.Given as goal
 
 abbrev pub invariant-loop-self : goal.invariant-loop-self

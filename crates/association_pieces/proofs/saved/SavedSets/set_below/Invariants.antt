@@ -1,5 +1,5 @@
 use Rattle.std.proofs.Common.{◌≡◌, drop}
-use Rattle.end_rules.specs.Sets.{below, newest}
+use Rattle.association_sets.specs.end_rules.Sets.{below, newest}
 use Rattle.association_pieces.proofs.saved.SavedSets.set_below.Given as goal
 
 abbrev pub invariant-loop-place : goal.invariant-loop-place

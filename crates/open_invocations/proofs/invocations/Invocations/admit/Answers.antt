@@ -1,6 +1,6 @@
 use Rattle.std.proofs.Common.{◌≡◌, None, true, false, sym, ap, subst, ◌∙◌}
-use Rattle.end_rules.specs.State.{Calls, opened_with}
-use Rattle.end_rules.specs.Hearing.{opening}
+use Rattle.rose_roles.specs.end_rules.State.{Calls, opened_with}
+use Rattle.rose_roles.specs.end_rules.Hearing.{opening}
 use Rattle.rose_roles.specs.Calls.{Performing, called, calls_of}
 use Rattle.open_invocations.specs.Invocations.{AreKept, is_link_back}
 use Rattle.open_invocations.proofs.Kept.{shut_is, link_back_is, admitted_kept, on_ok}
@@ -22,7 +22,7 @@ invariant_of-self c =
     let i = c.self.inside in
     let p = c.set_context.new.self in
     admitted_kept c.args.tables.now i.forest c.admit.new.forest i.invoker p c.admit.new.self c.args.id.now c.args.called.operation p.context c.args.linked
-    (subst (λ (x : Performing). AreKept i.forest i.invoker x.kept) (sym c.set_context.ensures) c.self.invariant) (c.admit.ensures.open.others i.invoker.kept c.self.invariant.own) c.admit.ensures.open.these c.admit.result c.admit.ensures.admitted c.admit.ensures.err
+    (subst (λ (x : Performing). AreKept i.forest i.invoker x.kept) (sym c.set_context.ensures) c.self.invariant) (c.admit.ensures.keeps.keys.others i.invoker.kept c.self.invariant.own) c.admit.ensures.keeps.keys.these c.admit.result c.admit.ensures.admitted c.admit.ensures.err
 
 pub returns-clause-admitted : goal.returns-clause-admitted
 returns-clause-admitted c =

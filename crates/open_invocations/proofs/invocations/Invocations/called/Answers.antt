@@ -1,5 +1,5 @@
 use Rattle.std.proofs.Common.{ap, ◌∙◌}
-use Rattle.end_rules.specs.State.{Calls, opened_with}
+use Rattle.rose_roles.specs.end_rules.State.{Calls, opened_with}
 use Rattle.open_invocations.specs.Invocations.{called_in}
 use Rattle.open_invocations.proofs.Kept.{called_so}
 use Rattle.open_invocations.proofs.invocations.Invocations.called.Goals as goal

@@ -1,5 +1,5 @@
 use Rattle.std.proofs.Common.{false, sym, subst}
-use Rattle.end_rules.specs.State.{Calls}
+use Rattle.rose_roles.specs.end_rules.State.{Calls}
 use Rattle.rose_roles.specs.Calls.{calls_of}
 use Rattle.open_invocations.proofs.Kept.{Quiet, quiet_closed, quiet_kept}
 use Rattle.open_invocations.proofs.invocations.Invocations.close.Goals as goal
@@ -8,5 +8,5 @@ pub invariant_of-self : goal.invariant_of-self
 invariant_of-self c =
     let i = c.self.inside in
     let before = calls_of i.forest i.invoker i.performer.kept in
-    quiet_kept i.forest c.close_at.new.forest i.invoker i.invoker i.performer.kept c.close_at.new.self.kept c.self.invariant (c.close_at.ensures.open.others i.invoker.kept c.self.invariant.own) c.close_at.ensures.open.these
+    quiet_kept i.forest c.close_at.new.forest i.invoker i.invoker i.performer.kept c.close_at.new.self.kept c.self.invariant (c.close_at.ensures.keeps.keys.others i.invoker.kept c.self.invariant.own) c.close_at.ensures.keeps.keys.these
     (subst (λ (k : Calls). Quiet before k) (sym (c.close_at.ensures.closed i.invoker)) (quiet_closed false c.args.id.now before))

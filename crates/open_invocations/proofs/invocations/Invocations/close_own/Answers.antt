@@ -1,5 +1,5 @@
 use Rattle.std.proofs.Common.{true, sym, subst}
-use Rattle.end_rules.specs.State.{Calls}
+use Rattle.rose_roles.specs.end_rules.State.{Calls}
 use Rattle.rose_roles.specs.Calls.{calls_of}
 use Rattle.open_invocations.proofs.Kept.{Quiet, quiet_closed, quiet_kept}
 use Rattle.open_invocations.proofs.invocations.Invocations.close_own.Goals as goal

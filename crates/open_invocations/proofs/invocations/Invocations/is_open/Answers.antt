@@ -1,5 +1,5 @@
 use Rattle.std.proofs.Common.{sym, ◌∙◌}
-use Rattle.end_rules.specs.State.{opened_with}
+use Rattle.rose_roles.specs.end_rules.State.{opened_with}
 use Rattle.open_invocations.proofs.Kept.{some_in}
 use Rattle.open_invocations.proofs.invocations.Invocations.is_open.Goals as goal
 

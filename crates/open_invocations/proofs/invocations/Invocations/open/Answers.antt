@@ -1,5 +1,5 @@
 use Rattle.std.proofs.Common.{◌+◌, ◌<◌, pos, true, sym, ap, subst, ◌∙◌, arith}
-use Rattle.end_rules.specs.State.{Calls}
+use Rattle.rose_roles.specs.end_rules.State.{Calls}
 use Rattle.open_invocations.specs.Invocations.{is_link}
 use Rattle.open_invocations.proofs.Kept.{not_open, link_is, opened_or_kept}
 use Rattle.open_invocations.proofs.invocations.Invocations.open.Goals as goal
@@ -17,5 +17,5 @@ open-requires-clause-linked c =
 pub invariant_of-self : goal.invariant_of-self
 invariant_of-self c =
     let i = c.self.inside in
-    opened_or_kept i.forest c.open.new.forest i.invoker c.open.new.self i.performer.kept c.args.operation c.args.context c.args.linked c.self.invariant (subst (λ (k : Calls). k.made < 2147483647) (sym c.self.view_is) c.requires.numbers) c.open.ensures.open.these
-    (c.open.ensures.open.others i.performer.kept c.self.invariant.peer) c.open.result c.open.ensures.opened c.open.ensures.err
+    opened_or_kept i.forest c.open.new.forest i.invoker c.open.new.self i.performer.kept c.args.operation c.args.context c.args.linked c.self.invariant (subst (λ (k : Calls). k.made < 2147483647) (sym c.self.view_is) c.requires.numbers) c.open.ensures.keeps.keys.these
+    (c.open.ensures.keeps.keys.others i.performer.kept c.self.invariant.peer) c.open.result c.open.ensures.opened c.open.ensures.keeps.err

@@ -1,6 +1,6 @@
 use Rattle.std.proofs.Common.{sym, ap, ◌∙◌}
 use Rattle.std.specs.Option.{option_map}
-use Rattle.end_rules.specs.State.{Calls, opened_with}
+use Rattle.rose_roles.specs.end_rules.State.{Calls, opened_with}
 use Rattle.rose_roles.specs.declared.invoked_with.InvokedWith.{InvokedWith}
 use Rattle.open_invocations.specs.Invocations.{operation_in}
 use Rattle.open_invocations.proofs.Kept.{operation_called}

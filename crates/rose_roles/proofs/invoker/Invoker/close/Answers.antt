@@ -2,7 +2,7 @@ use Rattle.std.proofs.Common.{cond, None, true, false, refl, sym, ap, subst, ◌
 use Rattle.std.specs.Ordering.{int_eq}
 use Rattle.linked_ops.specs.declared.key.Key.{Key}
 use Rattle.linked_ops.specs.Entries.{closed}
-use Rattle.end_rules.specs.State as ends
+use Rattle.end_wire.specs.end_rules.State as ends
 use Rattle.rose_roles.specs.Calls.{Invoking, called, AreOpen, opens_in}
 use Rattle.rose_roles.proofs.Keys.{apart}
 use Rattle.rose_roles.proofs.Changes.{leaves_own, left_after, beside_after}

@@ -1,5 +1,5 @@
 use Rattle.std.proofs.Common.{ℕ, true, Option, sym, ap, subst, ◌∙◌}
-use Rattle.end_rules.specs.State as ends
+use Rattle.end_wire.specs.end_rules.State as ends
 use Rattle.rose_roles.specs.Calls.{calls_of}
 use Rattle.rose_roles.specs.Hearing.{heard_with}
 use Rattle.rose_roles.specs.Heads.{Carries, parameter_placed}

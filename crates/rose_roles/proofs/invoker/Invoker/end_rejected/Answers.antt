@@ -1,7 +1,7 @@
 use Rattle.std.proofs.Common.{ℤ, true, Option, sym, ap, ◌∙◌}
-use Rattle.end_rules.specs.State as ends
-use Rattle.end_rules.specs.Base.{RejectHead}
-use Rattle.end_rules.specs.Hearing as rules
+use Rattle.end_wire.specs.end_rules.State as ends
+use Rattle.end_wire.specs.end_rules.Base.{RejectHead}
+use Rattle.end_wire.specs.end_rules.Hearing as rules
 use Rattle.rose_roles.specs.Calls.{calls_of}
 use Rattle.rose_roles.specs.Hearing.{heard_with}
 use Rattle.rose_roles.specs.declared.apdu_taken.RoseTaken.TheVariants as taken

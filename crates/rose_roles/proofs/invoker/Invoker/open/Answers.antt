@@ -33,17 +33,21 @@ returns-clause-opened c = λ performed.
     c.self.view_is in
     let y = ap (λ (i : Invoking). i.made + 1) c.self.view_is in λ k. record { opens = x k; made = y k }
 
-pub returns-clause-open : goal.returns-clause-open
-returns-clause-open c =
+pub returns-clause-keeps : goal.returns-clause-keeps
+returns-clause-keeps c =
     let e = c.own_key-key.ensures ∙ ap (λ (i : Invoking). key_of true (pos (i.made + 1))) c.self.view_is in
     record {
-      these =
-          own_after (pos (c.args.self.now.made + 1)) c.args.called c.args.linked c.self.inside.kept.entries c.enter.new.kept.entries
-          (λ q. c.in_ok-enter.ensures.updated q ∙ ap (λ (k : Key). cond (int_eq k.id q) (Some c.args.called) (called q c.self.inside.kept.entries)) e) c.args.forest.now c.enter.new.forest
-          (c.in_ok-enter.ensures.forest ∙ ap (λ (k : Key). c.args.forest.now ++ (k, option_map (key_of (not k.own)) c.args.linked) ∷ []) e)
-          (subst (λ (i : Invoking). AreOpen true c.args.forest.now i.kept) (sym c.self.view_is) c.requires.own);
-      others = λ performed h.
-          peer_after (pos (c.args.self.now.made + 1)) c.args.called c.args.linked c.self.inside.kept.entries c.enter.new.kept.entries
-          (λ q. c.in_ok-enter.ensures.updated q ∙ ap (λ (k : Key). cond (int_eq k.id q) (Some c.args.called) (called q c.self.inside.kept.entries)) e) c.args.forest.now c.enter.new.forest
-          (c.in_ok-enter.ensures.forest ∙ ap (λ (k : Key). c.args.forest.now ++ (k, option_map (key_of (not k.own)) c.args.linked) ∷ []) e) performed h;
+      keys =
+          record {
+            these =
+                own_after (pos (c.args.self.now.made + 1)) c.args.called c.args.linked c.self.inside.kept.entries c.enter.new.kept.entries
+                (λ q. c.in_ok-enter.ensures.updated q ∙ ap (λ (k : Key). cond (int_eq k.id q) (Some c.args.called) (called q c.self.inside.kept.entries)) e) c.args.forest.now c.enter.new.forest
+                (c.in_ok-enter.ensures.forest ∙ ap (λ (k : Key). c.args.forest.now ++ (k, option_map (key_of (not k.own)) c.args.linked) ∷ []) e)
+                (subst (λ (i : Invoking). AreOpen true c.args.forest.now i.kept) (sym c.self.view_is) c.requires.own);
+            others = λ performed h.
+                peer_after (pos (c.args.self.now.made + 1)) c.args.called c.args.linked c.self.inside.kept.entries c.enter.new.kept.entries
+                (λ q. c.in_ok-enter.ensures.updated q ∙ ap (λ (k : Key). cond (int_eq k.id q) (Some c.args.called) (called q c.self.inside.kept.entries)) e) c.args.forest.now c.enter.new.forest
+                (c.in_ok-enter.ensures.forest ∙ ap (λ (k : Key). c.args.forest.now ++ (k, option_map (key_of (not k.own)) c.args.linked) ∷ []) e) performed h;
+          };
+      err = tt;
     }

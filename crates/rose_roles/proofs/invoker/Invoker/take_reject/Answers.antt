@@ -1,5 +1,5 @@
 use Rattle.std.proofs.Common.{sym, ◌∙◌}
-use Rattle.end_rules.specs.Hearing as rules
+use Rattle.end_wire.specs.end_rules.Hearing as rules
 use Rattle.rose_roles.specs.Calls.{calls_of}
 use Rattle.rose_roles.specs.Heads.{reject_by}
 use Rattle.rose_roles.proofs.Outcomes.{heard_other}

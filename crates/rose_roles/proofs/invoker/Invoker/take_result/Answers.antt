@@ -1,5 +1,5 @@
 use Rattle.std.proofs.Common.{ℤ, Option, sym, ap, ◌∙◌}
-use Rattle.end_rules.specs.Hearing as rules
+use Rattle.end_wire.specs.end_rules.Hearing as rules
 use Rattle.rose_roles.specs.Calls.{calls_of}
 use Rattle.rose_roles.specs.Hearing.{heard_with}
 use Rattle.apdu_spelling.specs.declared.head.ApduKind.TheVariants as kinds

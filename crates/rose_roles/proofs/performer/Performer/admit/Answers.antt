@@ -38,14 +38,18 @@ returns-clause-admitted c = λ base own same.
     ∙ admitted base c.args.tables.now same (record { own = false; id = c.args.id.now; operation = c.args.place; context = c.args.self.now.context; parent = c.args.linked })
     (calls_of c.args.forest.now own c.args.self.now.kept) (sym c.is_silent_at.ensures ∙ c.if-is_silent_at.false)
 
-pub returns-clause-open : goal.returns-clause-open
-returns-clause-open c =
+pub returns-clause-keeps : goal.returns-clause-keeps
+returns-clause-keeps c =
     let call : InvokedWith = record { operation = c.args.place; context = c.self.inside.context } in
     let updated = λ (q : ℤ). c.in_ok-enter.ensures.updated q ∙ ap (λ (k : Key). cond (int_eq k.id q) (Some call) (called q c.self.inside.kept.entries)) c.key_of-key.ensures in
     let opened = c.in_ok-enter.ensures.forest ∙ ap (λ (k : Key). c.args.forest.now ++ (k, option_map (key_of (not k.own)) c.args.linked) ∷ []) c.key_of-key.ensures in
     record {
-      these =
-          their_after c.args.id.now call c.args.linked c.self.inside.kept.entries c.enter.new.kept.entries updated c.args.forest.now c.enter.new.forest opened
-          (subst (λ (p : Performing). AreOpen false c.args.forest.now p.kept) (sym c.self.view_is) c.requires.peer);
-      others = λ own h. ours_after c.args.id.now call c.args.linked c.self.inside.kept.entries c.enter.new.kept.entries updated c.args.forest.now c.enter.new.forest opened own h;
+      context = ap (λ (p : Performing). p.context) c.self.view_is;
+      keys =
+          record {
+            these =
+                their_after c.args.id.now call c.args.linked c.self.inside.kept.entries c.enter.new.kept.entries updated c.args.forest.now c.enter.new.forest opened
+                (subst (λ (p : Performing). AreOpen false c.args.forest.now p.kept) (sym c.self.view_is) c.requires.peer);
+            others = λ own h. ours_after c.args.id.now call c.args.linked c.self.inside.kept.entries c.enter.new.kept.entries updated c.args.forest.now c.enter.new.forest opened own h;
+          };
     }

@@ -2,7 +2,7 @@ use Rattle.std.proofs.Common.{ℕ, Option, sym, ap, ◌∙◌}
 use Rattle.std.specs.Option.{option_map}
 use Rattle.stub_tables.specs.Lookup.{operation_at}
 use Rattle.stub_tables.specs.Apdus.{placed, argument_of}
-use Rattle.end_rules.specs.Hearing.{first_problem}
+use Rattle.end_wire.specs.end_rules.Hearing.{first_problem}
 use Rattle.rose_roles.specs.Heads.{Carries}
 use Rattle.rose_roles.specs.ApduProblems.{argument_problem}
 use Rattle.rose_roles.proofs.Hearings.{later, is_free_of}

@@ -1,5 +1,5 @@
 use Rattle.std.proofs.Common.{ap, subst, ◌∙◌}
-use Rattle.end_rules.specs.Hearing as rules
+use Rattle.end_wire.specs.end_rules.Hearing as rules
 use Rattle.rose_roles.specs.declared.apdu_problems.Judged.{Judged}
 use Rattle.rose_roles.specs.Calls.{Performing, calls_of}
 use Rattle.rose_roles.specs.Hearing.{heard_with}

@@ -1,0 +1,1 @@
+pub use Rattle.end_rules.specs as end_rules

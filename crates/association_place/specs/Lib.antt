@@ -1,0 +1,2 @@
+pub use Rattle.association_calls.specs.association_reading as association_reading
+pub use Rattle.association_calls.specs.association_state as association_state

@@ -1,0 +1,293 @@
+-- In reliable mode each transfer of a run arrives whole, and at most once.
+use Rattle.std.proofs.Common.{◌≡◌, refl, true, false, ◌∙◌, sym, ap, subst, ℕ, List, [], ◌∷◌, ◌++◌, map, inl, inr, ◌⊎◌, None, Ok}
+use Rattle.std.specs.Prelude.{Bool, ◌||◌, Option, Some, if◌then◌else◌, Result, nat_eq, suc, length}
+use Rattle.osi_base.specs.declared.layer_words.Side.{Side}
+use Rattle.osi_base.specs.declared.layer_words.Side.TheVariants.{A, B}
+use Rattle.osi_base.specs.declared.layer_words.SetItem.{SetItem}
+use Rattle.stub_tables.specs.declared.tables.Tables.{Tables}
+use Rattle.stub_tables.specs.declared.apdu.Apdu.{Apdu}
+use Rattle.dialogue.specs.declared.config.Config.{Config}
+use Rattle.dialogue.specs.declared.indication.Indication.{Indication}
+use Rattle.end_rules.specs.Base.{Base, Spellings, Item, Arrived, Whole as WholeItem, Fault}
+use Rattle.end_rules.specs.Messages.{Message, Session, OfAssociation, OfActivities, Connect, Start, End}
+use Rattle.end_rules.specs.State.{Body, Queued, Transfer}
+use Rattle.osi_base.specs.SetPlaces.{pair_of}
+use Rattle.end_rules.specs.Connecting.{is_refused, recovers_in}
+use Rattle.end_rules.specs.Requesting.{due_of}
+use Rattle.end_rules.specs.ByItself.{OwnAct, SendsNow, EncodesOn}
+use Rattle.end_rules.specs.TakesActivities.{arrived_now, values_arrived, handed_up}
+use Rattle.end_rules.specs.Reacting.{Takes, react}
+use Rattle.end_rules.specs.History.{Step, called, sent, encoded, took, answered, step_of}
+use Rattle.end_rules.specs.World as sides
+use Rattle.end_rules.specs.World.{World, Moment, Ends, is_side, shared_at}
+use Rattle.agreement.specs.Sets.{Role}
+use Rattle.agreement.specs.Sets.Role.{Initiator, Responder}
+use Rattle.agreement.specs.Laws as model
+use Rattle.end_model.specs.Seen.{Free}
+use Rattle.end_model.specs.Pairs as pairs
+use Rattle.end_model.specs.Pairs.{Common, Two, coming_to}
+use Rattle.end_model.specs.Sharing.{side_of}
+use Rattle.reliable_model.specs.Goes as goes
+use Rattle.reliable_model.specs.Goes.{Ledger, Deeds, Goes, deeds_of, items_by, arrived_by}
+use Rattle.reliable_model.specs.Transfers as transfers
+use Rattle.reliable_model.specs.ReliablePairs.{reliable_pair}
+use Rattle.reliable_model.proofs.Machine as machine
+use Rattle.outcome_laws.specs.Deals.{Dealings}
+use Rattle.run_laws.specs.Transfers.{first_of, started_in, started, Encoding, encoding_of, encoded_in, encodings, Arrival, arrivals_of, arrived_in, arrivals, item_of, IsOf, IsNewest, AreWhole, ArriveWhole, AreFalling, OneTransfer}
+use Rattle.association_runs.specs.Worlds.{stepping}
+use Rattle.association_runs.specs.Sides.{ends_for}
+use Rattle.association_runs.specs.Deeds.{deeds_after, deeds_at}
+use Rattle.association_runs.specs.Arriving as arriving
+use Rattle.association_runs.specs.Arriving.{UnlessHanded, ArrivesThen, EachArrivesWhole}
+use Rattle.association_runs.proofs.Histories.{end_for, body-for}
+use Rattle.association_runs.proofs.Keeps.{IsQuiet, Keeps}
+use Rattle.association_runs.proofs.Joint.{Joint}
+use Rattle.association_runs.proofs.Deeds.{AreDone, deeds-keep}
+use Rattle.codec_runs.proofs.ReliableEarly as early
+
+-- ---- no opening forgets what was started or handed up
+
+abbrev pub KeepsAll : Base → Body → Deeds → Step → Type 0
+KeepsAll base body deeds (took (Session (OfAssociation (Connect session presentation values)))) =
+    ((is_refused base body session presentation values || recovers_in base values) ≡ true) ⊎ ((deeds.started ≡ []) × (deeds.arrived ≡ []))
+KeepsAll base body deeds _ = Unit {0}
+
+abbrev pub KeepThen : Ends → World → Type 0
+KeepThen ends [] = Unit {0}
+KeepThen ends (m ∷ w) = KeepsAll (sides.base_at ends m.side) (sides.body_at ends m.side w) (deeds_at ends m.side w) m.step × KeepThen ends w
+
+abbrev IsNoTaking : Step → Type 0
+IsNoTaking (took message) = ⊥
+IsNoTaking _ = Unit {0}
+
+abbrev AreNoTakings : List Step → Type 0
+AreNoTakings [] = Unit {0}
+AreNoTakings (x ∷ xs) = IsNoTaking x × AreNoTakings xs
+
+sents-none : (ms : List Message) → AreNoTakings (map sent ms)
+sents-none [] = tt
+sents-none (m ∷ ms) = (tt, sents-none ms)
+
+answers-none : (to : Message) (ms : List Message) → AreNoTakings (map (answered to) ms)
+answers-none to [] = tt
+answers-none to (m ∷ ms) = (tt, answers-none to ms)
+
+act-none : (own : OwnAct) → IsNoTaking (step_of own)
+act-none (SendsNow message) = tt
+act-none (EncodesOn context) = tt
+
+quiet-none : (x : Step) → IsQuiet x → IsNoTaking x
+quiet-none (took message) q = absurd q
+quiet-none _ q = tt
+
+none-keeps : (base : Base) (body : Body) (deeds : Deeds) (x : Step) → IsNoTaking x → KeepsAll base body deeds x
+none-keeps base body deeds (took message) n = absurd n
+none-keeps base body deeds _ n = tt
+
+all-keep : (ends : Ends) (side : Side) (w : World) (xs : List Step) → AreNoTakings xs → KeepThen ends w → KeepThen ends (stepping side w xs)
+all-keep ends side w [] n h = h
+all-keep ends side w (x ∷ xs) n h =
+    all-keep ends side (record { side = side; step = x } ∷ w) xs n.1 (none-keeps (sides.base_at ends side) (sides.body_at ends side w) (deeds_at ends side w) x n.0, h)
+
+-- ---- what was started, encoded and handed up, with nothing forgotten
+
+pub anew-same : {X : Type 0} (b : Bool) (xs : List X) → (b ≡ true) ⊎ (xs ≡ []) → (if b then xs else []) ≡ xs
+anew-same true xs h = refl
+anew-same false xs (inl e) = absurd cc
+anew-same false xs (inr e) = sym e
+
+pub first-half : {P Q R : Type 0} → P ⊎ (Q × R) → P ⊎ Q
+first-half (inl p) = inl p
+first-half (inr h) = inr h.0
+
+pub second-half : {P Q R : Type 0} → P ⊎ (Q × R) → P ⊎ R
+second-half (inl p) = inl p
+second-half (inr h) = inr h.1
+
+step-started : (base : Base) (body : Body) (set : List SetItem) (deeds : Deeds) (x : Step) (before : List Queued) → KeepsAll base body deeds x → deeds.started ≡ before → (deeds_after base body set x deeds).started ≡ started_in body x ++ before
+step-started base body set deeds (sent (Session (OfActivities (Start activity)))) before k e = first-so body.sending.queue
+  where
+    first-so : (queue : List Queued) → goes.first_of queue ++ deeds.started ≡ first_of queue ++ before
+    first-so [] = e
+    first-so (item ∷ items) = ap (λ (l : List Queued). item ∷ l) e
+step-started base body set deeds (sent _) before k e = e
+step-started base body set deeds (took (Session (OfAssociation (Connect session presentation values)))) before k e =
+    anew-same (is_refused base body session presentation values || recovers_in base values) deeds.started (first-half k) ∙ e
+step-started base body set deeds (took _) before k e = e
+step-started base body set deeds _ before k e = e
+
+-- the same, with its own name for what is encoded
+abbrev as_model : Encoding → goes.Encoding
+as_model x = record { activity = x.activity; id = x.id; pair = x.pair; apdu = x.apdu }
+
+abbrev as_ours : goes.Encoding → Encoding
+as_ours x = record { activity = x.activity; id = x.id; pair = x.pair; apdu = x.apdu }
+
+encoding-so : (activity : ℕ) (set : List SetItem) (context : ℕ) (current : Option Transfer) → goes.encoding_of current activity set context ≡ map as_model (encoding_of activity context (pair_of set context) current)
+encoding-so activity set context None = refl
+encoding-so activity set context (Some transfer) = refl
+
+map-two : {X Y : Type 0} (f : X → Y) (xs ys : List X) → map f (xs ++ ys) ≡ map f xs ++ map f ys
+map-two {Y = Y} f [] ys = refl
+map-two {Y = Y} f (x ∷ xs) ys = ap (λ (l : List Y). f x ∷ l) (map-two f xs ys)
+
+newest-so : (x : goes.Encoding) (es : List Encoding) → transfers.IsNewest x (map as_model es) → IsNewest (as_ours x) es
+newest-so x [] h = h
+newest-so x (e ∷ es) h = ap as_ours h
+
+item-so : (k : ℕ) (items : List Queued) → transfers.item_of k items ≡ item_of k items
+item-so k [] = refl
+item-so k (item ∷ items) = ap (λ (o : Option Queued). if nat_eq k (suc (length items)) then Some item else o) (item-so k items)
+
+of-so : (apdu : Apdu) (o : Option Queued) → transfers.IsOf apdu o → IsOf apdu o
+of-so apdu None h = h
+of-so apdu (Some item) h = h
+
+-- numbers of what is handed up
+abbrev number_of : Arrival → ℕ
+number_of x = x.activity
+
+-- what one end of a transfer hands up, where it is whole
+values-so : (last : ℕ) (arrived : Result Arrived Fault) (item : Item) → arrived ≡ Ok (WholeItem item) → map number_of (arrivals_of last (values_arrived arrived)) ≡ last ∷ []
+values-so last arrived item e = ap (λ (r : Result Arrived Fault). map number_of (arrivals_of last (values_arrived r))) e
+
+falling-so : (xs : List Arrival) → model.AreFalling (map number_of xs) → AreFalling xs
+falling-so [] h = tt
+falling-so (x ∷ []) h = tt
+falling-so (x ∷ (y ∷ ys)) h = (h.0, falling-so (y ∷ ys) h.1)
+
+module _ (ends : Ends) where
+  step-encoded : (side : Side) (w : World) (x : Step) (deeds : Deeds) (before : List Encoding) → deeds.encoded ≡ map as_model before
+      → (deeds_after (sides.base_at ends side) (sides.body_at ends side w) (shared_at ends w).set x deeds).encoded ≡ map as_model (encoded_in ends w (sides.body_at ends side w) x ++ before)
+  step-encoded side w (encoded context) deeds before e =
+      let body : Body = sides.body_at ends side w in
+      (λ i. encoding-so body.sending.started (shared_at ends w).set context body.sending.current i ++ e i)
+      ∙ sym (map-two as_model (encoding_of body.sending.started context (pair_of (shared_at ends w).set context) body.sending.current) before)
+  step-encoded side w _ deeds before e = e
+
+  one-encoded : (side s : Side) (x : Step) (w : World) → (deeds_at ends side w).encoded ≡ map as_model (encodings ends side w) → (deeds_at ends side (record { side = s; step = x } ∷ w)).encoded ≡ map as_model (encodings ends side (record { side = s; step = x } ∷ w))
+  one-encoded A A x w e = step-encoded A w x (deeds_at ends A w) (encodings ends A w) e
+  one-encoded B B x w e = step-encoded B w x (deeds_at ends B w) (encodings ends B w) e
+  one-encoded A B x w e = e
+  one-encoded B A x w e = e
+
+  encoded-same : (side : Side) (w : World) → (deeds_at ends side w).encoded ≡ map as_model (encodings ends side w)
+  encoded-same side [] = refl
+  encoded-same side (m ∷ w) = one-encoded side m.side m.step w (encoded-same side w)
+
+  one-started : (side s : Side) (x : Step) (w : World) → KeepsAll (sides.base_at ends s) (sides.body_at ends s w) (deeds_at ends s w) x → (deeds_at ends side w).started ≡ started ends side w → (deeds_at ends side (record { side = s; step = x } ∷ w)).started ≡ started ends side (record { side = s; step = x } ∷ w)
+  one-started A A x w k e = step-started (sides.base_at ends A) (sides.body_at ends A w) (shared_at ends w).set (deeds_at ends A w) x (started ends A w) k e
+  one-started B B x w k e = step-started (sides.base_at ends B) (sides.body_at ends B w) (shared_at ends w).set (deeds_at ends B w) x (started ends B w) k e
+  one-started A B x w k e = e
+  one-started B A x w k e = e
+
+  started-same : (side : Side) (w : World) → KeepThen ends w → (deeds_at ends side w).started ≡ started ends side w
+  started-same side [] k = refl
+  started-same side (m ∷ w) k = one-started side m.side m.step w k.0 (started-same side w k.1)
+
+  step-arrived : (side : Side) (w : World) (x : Step) (deeds : Deeds) (before : List Arrival) → KeepsAll (sides.base_at ends side) (sides.body_at ends side w) deeds x → ArrivesThen ends side w x → deeds.arrived ≡ map number_of before
+      → (deeds_after (sides.base_at ends side) (sides.body_at ends side w) (shared_at ends w).set x deeds).arrived ≡ map number_of (arrived_in (sides.base_at ends side) (sides.body_at ends side w) x ++ before)
+  step-arrived side w (took (Session (OfActivities (End number)))) deeds before k h e =
+      (λ i. here (sides.body_at ends side w).receiving.was_handed h i ++ e i)
+      ∙ sym (map-two number_of (arrivals_of (sides.body_at ends side w).receiving.last (handed_up (sides.base_at ends side) (sides.body_at ends side w))) before)
+    where
+      here : (handed : Bool) → UnlessHanded handed (arriving.IsWhole ends side w) → (if handed then [] else (sides.body_at ends side w).receiving.last ∷ []) ≡ map number_of (arrivals_of (sides.body_at ends side w).receiving.last (if handed then [] else values_arrived (arrived_now (sides.base_at ends side) (sides.body_at ends side w))))
+      here true h = refl
+      here false h = sym (values-so (sides.body_at ends side w).receiving.last (arrived_now (sides.base_at ends side) (sides.body_at ends side w)) h.item h.arrived)
+  step-arrived side w (took (Session (OfAssociation (Connect session presentation values)))) deeds before k h e =
+      anew-same (is_refused (sides.base_at ends side) (sides.body_at ends side w) session presentation values || recovers_in (sides.base_at ends side) values) deeds.arrived (second-half k) ∙ e
+  step-arrived side w (took _) deeds before k h e = e
+  step-arrived side w _ deeds before k h e = e
+
+  one-arrived : (side s : Side) (x : Step) (w : World) → KeepsAll (sides.base_at ends s) (sides.body_at ends s w) (deeds_at ends s w) x → ArrivesThen ends s w x → (deeds_at ends side w).arrived ≡ map number_of (arrivals ends side w) → (deeds_at ends side (record { side = s; step = x } ∷ w)).arrived ≡ map number_of (arrivals ends side (record { side = s; step = x } ∷ w))
+  one-arrived A A x w k h e = step-arrived A w x (deeds_at ends A w) (arrivals ends A w) k h e
+  one-arrived B B x w k h e = step-arrived B w x (deeds_at ends B w) (arrivals ends B w) k h e
+  one-arrived A B x w k h e = e
+  one-arrived B A x w k h e = e
+
+  arrived-same : (side : Side) (w : World) → KeepThen ends w → EachArrivesWhole ends w → (deeds_at ends side w).arrived ≡ map number_of (arrivals ends side w)
+  arrived-same side [] k h = refl
+  arrived-same side (m ∷ w) k h = one-arrived side m.side m.step w k.0 h.0 (arrived-same side w k.1 h.1)
+
+  -- ---- each arrives whole
+
+  step-whole : (side : Side) (w : World) (x : Step) → ArrivesThen ends side w x → KeepThen ends w → AreWhole (started ends (sides.other side) w) (encodings ends (sides.other side) w) (arrived_in (sides.base_at ends side) (sides.body_at ends side w) x)
+  step-whole side w (took (Session (OfActivities (End number)))) h k = here (sides.body_at ends side w).receiving.was_handed h
+    where
+      here : (handed : Bool) → UnlessHanded handed (arriving.IsWhole ends side w) → AreWhole (started ends (sides.other side) w) (encodings ends (sides.other side) w) (arrivals_of (sides.body_at ends side w).receiving.last (if handed then [] else values_arrived (arrived_now (sides.base_at ends side) (sides.body_at ends side w))))
+      here true h = tt
+      here false h =
+          let last : ℕ = (sides.body_at ends side w).receiving.last in
+          subst (λ (r : Result Arrived Fault). AreWhole (started ends (sides.other side) w) (encodings ends (sides.other side) w) (arrivals_of (sides.body_at ends side w).receiving.last (values_arrived r))) (sym h.arrived) (
+            record {
+              apdu = h.item.apdu;
+              is_remote = refl;
+              is_its =
+                  of-so h.item.apdu (item_of last (started ends (sides.other side) w))
+                  (subst (transfers.IsOf h.item.apdu) (item-so last (started ends (sides.other side) w))
+                  (subst (λ (l : List Queued). transfers.IsOf h.item.apdu (transfers.item_of (sides.body_at ends side w).receiving.last l)) (started-same (sides.other side) w k) h.started));
+              is_encoded =
+                  newest-so (record { activity = last; id = h.item.id; pair = Some h.item.pair; apdu = h.item.apdu }) (encodings ends (sides.other side) w)
+                  (subst (transfers.IsNewest (record { activity = last; id = h.item.id; pair = Some h.item.pair; apdu = h.item.apdu })) (encoded-same (sides.other side) w) h.encoded);
+            },
+            tt,
+          )
+  step-whole side w _ h k = tt
+
+  all-whole : (w : World) → EachArrivesWhole ends w → KeepThen ends w → ArriveWhole ends w
+  all-whole [] h k = tt
+  all-whole (m ∷ w) h k = (step-whole m.side w m.step h.0 k.1, all-whole w h.1 k.1)
+
+  pub transferred-once : (w : World) → EachArrivesWhole ends w → KeepThen ends w → ((side : Side) → model.AreFalling (deeds_at ends side w).arrived) → OneTransfer ends w
+  transferred-once w h k f = record {
+    whole = all-whole w h k;
+    once = λ side. falling-so (arrivals ends side w) (subst model.AreFalling (arrived-same side w k h) (f side));
+  }
+
+-- ---- two ends
+
+module _ (free : Free) (tables : Tables) (spellings : Spellings) (a b : Config) where
+  abbrev common : Common
+  common = reliable_pair tables spellings a b
+
+  abbrev ends : Ends
+  ends = ends_for common
+
+  module _ (never : early.NeverFails free tables spellings a b) (kept : (two : Two) (ledger : Ledger) → Goes common two ledger → machine.Kept free tables spellings a b two ledger) where
+    taken-keeps : (role : Role) (w : World) (two : Two) (ledger : Ledger) (dealings : Dealings) (left : List Message) (body : Body) (answers : List Message) (shown : List Indication) → Joint common w two ledger dealings → AreDone common w two ledger dealings
+        → (message : Message) → coming_to role two ≡ message ∷ left → react (pairs.base_at role common) (pairs.body_at role two) message ≡ Takes body answers shown
+        → KeepsAll (sides.base_at ends (side_of role)) (sides.body_at ends (side_of role) w) (deeds_at ends (side_of role) w) (took message)
+    taken-keeps Initiator w two ledger dealings left body answers shown j d (Session (OfAssociation (Connect session presentation values))) e r =
+        absurd (early.no-opening free tables spellings a b two session presentation values body answers shown r)
+    taken-keeps Responder w two ledger dealings left body answers shown j d (Session (OfAssociation (Connect session presentation values))) e r =
+        subst (λ (y : Body). KeepsAll (sides.base_at ends B) y (deeds_at ends B w) (took (Session (OfAssociation (Connect session presentation values))))) (sym (body-for common Responder w ∙ j.bodies Responder))
+        (subst (λ (x : Deeds). KeepsAll (sides.base_at ends B) two.b x (took (Session (OfAssociation (Connect session presentation values))))) (sym (d Responder))
+        (go (early.opening-keeps free tables spellings a b two session presentation values left body answers shown (kept two ledger j.speaks.goes) e r)))
+      where
+        go : early.Opens free tables spellings a b two session presentation values → KeepsAll (sides.base_at ends B) two.b ledger.deeds.b (took (Session (OfAssociation (Connect session presentation values))))
+        go (inl k) = inl k
+        go (inr soon) = inr (early.nothing free tables spellings a b never two ledger j.speaks.goes soon)
+    taken-keeps role w two ledger dealings left body answers shown j d message e r = tt
+
+    pub keep-keeps : Keeps common (λ w two ledger dealings. AreDone common w two ledger dealings × KeepThen ends w)
+    keep-keeps =
+        let d = deeds-keep common in
+        record {
+          begins = (d.begins, tt);
+          calls = λ role w two ledger dealings call answer j c h. (
+            d.calls role w two ledger dealings call answer j c h.0,
+            all-keep ends (side_of role) w (called call (Ok answer) ∷ map sent (due_of (pairs.base_at role common) (end_for common role w).body call (Ok answer))) (tt, sents-none (due_of (pairs.base_at role common) (end_for common role w).body call (Ok answer))) h.1,
+          );
+          acts = λ role w two ledger dealings own j c h. (d.acts role w two ledger dealings own j c h.0, all-keep ends (side_of role) w (step_of own ∷ []) (act-none own, tt) h.1);
+          takes = λ role w two ledger dealings message left body answers shown j e r h. (
+            d.takes role w two ledger dealings message left body answers shown j e r h.0,
+            all-keep ends (side_of role) (record { side = side_of role; step = took message } ∷ w) (map (answered message) answers) (answers-none message answers)
+                (taken-keeps role w two ledger dealings left body answers shown j h.0 message e r, h.1),
+          );
+          passes = λ role w two ledger dealings message left j e r h. (d.passes role w two ledger dealings message left j e r h.0, (tt, h.1));
+          quiet = λ role w two ledger dealings x q h. (
+            d.quiet role w two ledger dealings x q h.0,
+            (none-keeps (sides.base_at ends (side_of role)) (sides.body_at ends (side_of role) w) (deeds_at ends (side_of role) w) x (quiet-none x q), h.1),
+          );
+          breaks = λ w two ledger dealings j h. (d.breaks w two ledger dealings j h.0, (tt, (tt, h.1)));
+        }

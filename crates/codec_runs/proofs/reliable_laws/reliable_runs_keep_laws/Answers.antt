@@ -1,0 +1,18 @@
+use Rattle.codec_runs.proofs.Reliable.{take-in-place, show-what-is-taken, tell-one, never-fail, have-one-holder, arrive-whole, arrive-once, tell-answers, keep-laws}
+use Rattle.codec_runs.proofs.reliable_laws.reliable_runs_keep_laws.Goals as goal
+
+pub returns : goal.returns
+returns c =
+    record {
+      places = take-in-place c.runs_reach_messages.ensures.places c.said_is_meant.ensures.law c.reliable_ends_are_said.ensures.law;
+      shown = show-what-is-taken c.runs_reach_messages.ensures.shown c.said_is_meant.ensures.law c.reliable_ends_are_said.ensures.law;
+      calm = never-fail c.runs_reach_messages.ensures.calm c.said_is_meant.ensures.law c.reliable_ends_are_said.ensures.law;
+      holder = have-one-holder c.runs_reach_messages.ensures.holder c.said_is_meant.ensures.law c.reliable_ends_are_said.ensures.law;
+      whole = arrive-whole c.runs_reach_messages.ensures.whole c.said_is_meant.ensures.law c.reliable_ends_are_said.ensures.law;
+      once = arrive-once c.runs_reach_messages.ensures.reached c.said_is_meant.ensures.law c.reliable_ends_are_said.ensures.law;
+      outcomes = tell-one c.runs_tell_one_outcome.ensures.once c.said_is_meant.ensures.law c.reliable_ends_are_said.ensures.law;
+      answers = tell-answers c.runs_reach_messages.ensures.reached c.said_is_meant.ensures.law c.reliable_ends_are_said.ensures.law;
+      all =
+          keep-laws c.runs_reach_messages.ensures.reached c.runs_reach_messages.ensures.places c.runs_reach_messages.ensures.shown c.runs_reach_messages.ensures.calm c.runs_reach_messages.ensures.holder c.runs_reach_messages.ensures.whole
+          c.messages_are_taken_when_whole.ensures.law c.nothing_whole_waits.ensures.law c.said_is_meant.ensures.law c.reliable_ends_are_said.ensures.law;
+    }

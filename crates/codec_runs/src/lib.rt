@@ -1,0 +1,13 @@
+//! The laws of every run of two ends of direct or of reliable mode that see of each other octets
+//! alone, as the codecs spell them.
+#![tactic(auto)]
+
+mod direct_laws;
+mod direct_worlds;
+mod reliable_laws;
+mod reliable_worlds;
+
+pub use direct_laws::direct_runs_keep_laws;
+pub use direct_worlds::direct_worlds_are_spelled;
+pub use reliable_laws::reliable_runs_keep_laws;
+pub use reliable_worlds::reliable_worlds_are_spelled;
