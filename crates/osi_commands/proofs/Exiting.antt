@@ -4,8 +4,8 @@ use Rattle.osi_base.specs.Outside.{FileMap}
 use Rattle.osi_base.specs.declared.layer_words.Status.{Status}
 use Rattle.osi_base.specs.declared.layer_words.Status.TheVariants.{NoMemory}
 use Rattle.osi_commands.specs.Answers.{Closes, no_room}
-use Rattle.osi_commands.specs.Commands.{Command, checks, pairs, command_of}
-use Rattle.osi_commands.specs.Run.{IsAnswer, AskedAtEnd}
+use Rattle.osi_commands.specs.Commands.{Command, checks, two_files, command_of}
+use Rattle.osi_commands.specs.TopCall.{IsAnswer, AskedAtEnd}
 use Rattle.osi_commands.specs.Process.{Exits}
 use Rattle.osi_commands.specs.Statuses.{exit_code}
 
@@ -13,7 +13,7 @@ use Rattle.osi_commands.specs.Statuses.{exit_code}
 none_asked : (command : Option Command) (names : Option (List (List ℕ))) → AskedAtEnd command names names NoMemory
 none_asked None names = refl
 none_asked (Some (checks check)) names = inl refl
-none_asked (Some (pairs pair)) names = inl refl
+none_asked (Some (two_files named)) names = inl refl
 
 -- the top call ran with the words that were given
 pub exits_read : (told : Option FileMap) (old new : ℕ) (words given : List (List ℕ)) (first last : Option (List (List ℕ))) (sink_old sink_new : ℕ) (before after : Option (List ℕ)) (status : Status) (code : ℕ)

@@ -5,8 +5,8 @@ pub mod Endings
 pub mod Calm
 pub mod CheckAnswers
 pub mod CheckEnding
-pub mod PairReading
+pub mod TwoFilesReading
 pub mod Second
-pub mod PairCases
-pub mod PairEnding
+pub mod TwoFilesCases
+pub mod WorkEnding
 pub mod RunEnding

@@ -22,20 +22,20 @@ use Rattle.trace_text.specs.Laws.{OneTrace}
 use Rattle.osi_commands.specs.declared.answers.Answer.{Answer}
 use Rattle.osi_commands.specs.declared.commands.Work.{Work}
 use Rattle.osi_commands.specs.declared.commands.Work.TheVariants.{Replay, Trace}
-use Rattle.osi_commands.specs.Commands.{FilePair, Command, checks, pairs}
+use Rattle.osi_commands.specs.Commands.{TwoFiles, Command, checks, two_files}
 use Rattle.osi_commands.specs.Answers.{usage_answer, module_answer, done_answer}
 use Rattle.osi_commands.specs.Reading.{WasRead}
 use Rattle.osi_commands.specs.Replaying.{every_mode, written_of, Replayed, RepliedBy}
 use Rattle.osi_commands.specs.Tracing.{ToldBy}
 use Rattle.osi_commands.specs.Checking.{checked_answer, ChecksOctets, Checks, unread, read}
-use Rattle.osi_commands.specs.Pairs.{SecondBy}
-use Rattle.osi_commands.specs.Run.{IsAnswer}
+use Rattle.osi_commands.specs.ModuleAndFile.{SecondBy}
+use Rattle.osi_commands.specs.TopCall.{IsAnswer}
 use Rattle.osi_commands.specs.Laws.{OneAnswer}
 use Rattle.osi_commands.proofs.Calm.{has_read, same_read, never_lacks}
 use Rattle.module_reading.proofs.OneTables.{one_tables}
 use Rattle.module_reading.proofs.TablesOrFault.{tables_or_fault}
 use Rattle.module_reading.proofs.Faultless.{one_fault}
-use Rattle.osi_commands.proofs.PairCases.{PairCase, module_unread, module_faulty, second_unread, second_read, pair_case}
+use Rattle.osi_commands.proofs.TwoFilesCases.{TwoFilesCase, module_unread, module_faulty, second_unread, second_read, two_files_case}
 
 -- ---- what is replayed
 
@@ -89,33 +89,33 @@ module _ (runs : OneTranscript) (traces : OneTrace) where
     never_both text again tables line column kind e h r =
         let R : List ℕ → Type 0 = λ o. IsRefused o (faults.At line column kind) in absurd (tables_or_fault text tables line column kind h (subst R e r))
 
-    module _ (pair : FilePair) where
-      one_pair : (first other : Answer) → PairCase (Some map) old new pair first → PairCase (Some map) old new pair other → first ≡ other
-      one_pair _ _ (module_unread w) (module_unread v) = refl
-      one_pair _ _ (module_unread w) (module_faulty text line column kind v r) = never_lacks map old new pair.«module» text calm w (has_read map old new pair.«module» text v)
-      one_pair _ _ (module_unread w) (second_unread text tables v h s) = never_lacks map old new pair.«module» text calm w (has_read map old new pair.«module» text v)
-      one_pair _ other (module_unread w) (second_read text tables octets _ v h s by) =
-          never_lacks map old new pair.«module» text calm w (has_read map old new pair.«module» text v)
-      one_pair _ _ (module_faulty text line column kind w r) (module_unread v) = never_lacks map old new pair.«module» text calm v (has_read map old new pair.«module» text w)
-      one_pair _ _ (module_faulty text line column kind w r) (module_faulty again l d k v s) = faults_twice text again line column l d kind k (same_twice pair.«module» text again w v) r s
-      one_pair _ _ (module_faulty text line column kind w r) (second_unread again tables v h s) = never_both again text tables line column kind (same_twice pair.«module» again text v w) h r
-      one_pair _ other (module_faulty text line column kind w r) (second_read again tables octets _ v h s by) = never_both again text tables line column kind (same_twice pair.«module» again text v w) h r
-      one_pair _ _ (second_unread text tables w h s) (module_unread v) = never_lacks map old new pair.«module» text calm v (has_read map old new pair.«module» text w)
-      one_pair _ _ (second_unread text tables w h s) (module_faulty again line column kind v r) = never_both text again tables line column kind (same_twice pair.«module» text again w v) h r
-      one_pair _ _ (second_unread text tables w h s) (second_unread again found v k t) = refl
-      one_pair _ other (second_unread text tables w h s) (second_read again found octets _ v k t by) =
-          never_lacks map old new pair.second octets calm s (has_read map old new pair.second octets t)
-      one_pair first _ (second_read text tables octets _ w h s by) (module_unread v) =
-          never_lacks map old new pair.«module» text calm v (has_read map old new pair.«module» text w)
-      one_pair first _ (second_read text tables octets _ w h s by) (module_faulty again line column kind v r) = never_both text again tables line column kind (same_twice pair.«module» text again w v) h r
-      one_pair first _ (second_read text tables octets _ w h s by) (second_unread again found v k t) =
-          never_lacks map old new pair.second octets calm t (has_read map old new pair.second octets s)
-      one_pair first other (second_read text tables octets _ w h s by) (second_read again found given _ v k t bye) =
-          let T : found ≡ tables = tables_twice text again tables found (same_twice pair.«module» text again w v) h k in
-          let O : given ≡ octets = same_twice pair.second octets given s t in
-          let P : Tables → Type 0 = λ x. SecondBy pair.work x given other in
-          let Q : List ℕ → Type 0 = λ o. SecondBy pair.work tables o other in
-          one_second pair.work tables octets first other by (subst Q O (subst P T bye))
+    module _ (named : TwoFiles) where
+      one_command_of_two_files : (first other : Answer) → TwoFilesCase (Some map) old new named first → TwoFilesCase (Some map) old new named other → first ≡ other
+      one_command_of_two_files _ _ (module_unread w) (module_unread v) = refl
+      one_command_of_two_files _ _ (module_unread w) (module_faulty text line column kind v r) = never_lacks map old new named.«module» text calm w (has_read map old new named.«module» text v)
+      one_command_of_two_files _ _ (module_unread w) (second_unread text tables v h s) = never_lacks map old new named.«module» text calm w (has_read map old new named.«module» text v)
+      one_command_of_two_files _ other (module_unread w) (second_read text tables octets _ v h s by) =
+          never_lacks map old new named.«module» text calm w (has_read map old new named.«module» text v)
+      one_command_of_two_files _ _ (module_faulty text line column kind w r) (module_unread v) = never_lacks map old new named.«module» text calm v (has_read map old new named.«module» text w)
+      one_command_of_two_files _ _ (module_faulty text line column kind w r) (module_faulty again l d k v s) = faults_twice text again line column l d kind k (same_twice named.«module» text again w v) r s
+      one_command_of_two_files _ _ (module_faulty text line column kind w r) (second_unread again tables v h s) = never_both again text tables line column kind (same_twice named.«module» again text v w) h r
+      one_command_of_two_files _ other (module_faulty text line column kind w r) (second_read again tables octets _ v h s by) = never_both again text tables line column kind (same_twice named.«module» again text v w) h r
+      one_command_of_two_files _ _ (second_unread text tables w h s) (module_unread v) = never_lacks map old new named.«module» text calm v (has_read map old new named.«module» text w)
+      one_command_of_two_files _ _ (second_unread text tables w h s) (module_faulty again line column kind v r) = never_both text again tables line column kind (same_twice named.«module» text again w v) h r
+      one_command_of_two_files _ _ (second_unread text tables w h s) (second_unread again found v k t) = refl
+      one_command_of_two_files _ other (second_unread text tables w h s) (second_read again found octets _ v k t by) =
+          never_lacks map old new named.second octets calm s (has_read map old new named.second octets t)
+      one_command_of_two_files first _ (second_read text tables octets _ w h s by) (module_unread v) =
+          never_lacks map old new named.«module» text calm v (has_read map old new named.«module» text w)
+      one_command_of_two_files first _ (second_read text tables octets _ w h s by) (module_faulty again line column kind v r) = never_both text again tables line column kind (same_twice named.«module» text again w v) h r
+      one_command_of_two_files first _ (second_read text tables octets _ w h s by) (second_unread again found v k t) =
+          never_lacks map old new named.second octets calm t (has_read map old new named.second octets s)
+      one_command_of_two_files first other (second_read text tables octets _ w h s by) (second_read again found given _ v k t bye) =
+          let T : found ≡ tables = tables_twice text again tables found (same_twice named.«module» text again w v) h k in
+          let O : given ≡ octets = same_twice named.second octets given s t in
+          let P : Tables → Type 0 = λ x. SecondBy named.work x given other in
+          let Q : List ℕ → Type 0 = λ o. SecondBy named.work tables o other in
+          one_second named.work tables octets first other by (subst Q O (subst P T bye))
 
     module _ (check : Check) where
       one_written : (octets : List ℕ) (x y : Checked) → IsChecked check.table octets x → IsChecked check.table octets y → checked_answer x ≡ checked_answer y
@@ -141,7 +141,7 @@ module _ (runs : OneTranscript) (traces : OneTrace) where
     one_of : (command : Option Command) (first other : Answer) → IsAnswer (Some map) old new command first → IsAnswer (Some map) old new command other → first ≡ other
     one_of None first other x y = x ∙ sym y
     one_of (Some (checks check)) first other x y = one_check check first other x y
-    one_of (Some (pairs pair)) first other x y = one_pair pair first other (pair_case (Some map) old new pair first x) (pair_case (Some map) old new pair other y)
+    one_of (Some (two_files named)) first other x y = one_command_of_two_files named first other (two_files_case (Some map) old new named first x) (two_files_case (Some map) old new named other y)
 
 pub one_answer : OneTranscript → OneTrace → OneAnswer
 one_answer runs traces map old new command first other calm x y = one_of runs traces map old new calm command first other x y

@@ -6,16 +6,16 @@ use Rattle.osi_base.specs.declared.layer_words.Status.TheVariants.{Done, Usage, 
 use Rattle.module_check.specs.Command.{Check}
 use Rattle.osi_commands.specs.declared.answers.Answer.{Answer}
 use Rattle.osi_commands.specs.declared.commands.Work.TheVariants.{Replay}
-use Rattle.osi_commands.specs.Commands.{FilePair, Command, checks, pairs}
+use Rattle.osi_commands.specs.Commands.{TwoFiles, Command, checks, two_files}
 use Rattle.osi_commands.specs.Answers.{usage_answer, EndedWith, Closes, IsUnless}
 use Rattle.osi_commands.specs.Reading.{CheckAskedAtEnd}
 use Rattle.osi_commands.specs.Checking.{Checks, CheckEnds}
-use Rattle.osi_commands.specs.Pairs.{AnswersPair, IsReplayDone, PairEnds}
-use Rattle.osi_commands.specs.Run.{IsAnswer, IsUsage, Asks, AskedBy, AskedAtEnd}
+use Rattle.osi_commands.specs.ModuleAndFile.{AnswersTwoFiles, IsReplayDone, WorkEnds}
+use Rattle.osi_commands.specs.TopCall.{IsAnswer, IsUsage, Asks, AskedBy, AskedAtEnd}
 use Rattle.osi_commands.proofs.Endings.{is_answers, whole_of, unless_of, closes_as}
 use Rattle.osi_commands.proofs.CheckEnding.{own_check, check_ends, never_usage_check}
-use Rattle.osi_commands.proofs.PairCases.{pair_case, never_usage}
-use Rattle.osi_commands.proofs.PairEnding.{own_pair, replay_done, pair_ends, pair_answered, none_answered}
+use Rattle.osi_commands.proofs.TwoFilesCases.{two_files_case, never_usage}
+use Rattle.osi_commands.proofs.WorkEnding.{own_two_files, replay_done, work_ends, two_files_answered, none_answered}
 
 -- ---- the answer to words, once it is known what they are
 
@@ -65,13 +65,13 @@ module _ (first last : Option (List (List ℕ))) (sink_old sink_new : ℕ) (befo
       → AskedAtEnd command first last status
   answered_end None answer status ends asked = asked
   answered_end (Some (checks check)) answer status ends asked = check_asked check.«module» first last status asked
-  answered_end (Some (pairs pair)) answer status ends asked = pair_answered pair first last sink_old sink_new before after answer status ends asked
+  answered_end (Some (two_files named)) answer status ends asked = two_files_answered named first last sink_old sink_new before after answer status ends asked
 
   -- where memory was refused before there was an answer
   none_end : (command : Option Command) (told : Option FileMap) (old new : ℕ) → Asks told old new command first last → AskedAtEnd command first last NoMemory
   none_end None told old new asks = asks
   none_end (Some (checks check)) told old new asks = asks
-  none_end (Some (pairs pair)) told old new asks = none_answered pair first last told old new asks
+  none_end (Some (two_files named)) told old new asks = none_answered named first last told old new asks
 
   pub asked_at_end : {E : Type 0} (command : Option Command) (told : Option FileMap) (old new : ℕ) (status : Status) (r : Result Answer E)
       → Asks told old new command first last → IfOk r (λ answer. AskedBy command first last answer.status)
@@ -87,14 +87,14 @@ module _ (first last : Option (List (List ℕ))) (sink_old sink_new : ℕ) (befo
 pub own : (told : Option FileMap) (old new : ℕ) (command : Option Command) (answer : Answer) → IsAnswer told old new command answer → is_answers answer.status ≡ true
 own told old new None answer is = ap (λ (a : Answer). is_answers a.status) is
 own told old new (Some (checks check)) answer is = own_check told old new check answer is
-own told old new (Some (pairs pair)) answer is = own_pair told old new pair answer is
+own told old new (Some (two_files named)) answer is = own_two_files told old new named answer is
 
 -- only words that are no command are answered how the program is used
 usage_alone : (told : Option FileMap) (old new : ℕ) (command : Option Command) (answer : Answer) → IsAnswer told old new command answer → answer.status ≡ Usage
     → (command ≡ None) × (answer ≡ usage_answer)
 usage_alone told old new None answer is h = (refl, is)
 usage_alone told old new (Some (checks check)) answer is h = absurd (never_usage_check told old new check answer is h)
-usage_alone told old new (Some (pairs pair)) answer is h = absurd (never_usage told old new pair answer (pair_case told old new pair answer is) h)
+usage_alone told old new (Some (two_files named)) answer is h = absurd (never_usage told old new named answer (two_files_case told old new named answer is) h)
 
 module _ (told : Option FileMap) (old new : ℕ) (command : Option Command) (before after : Option (List ℕ)) (sink_old sink_new : ℕ) (status : Status)
     (closes : Closes (IsAnswer told old new command) old new sink_old sink_new before after status) where
@@ -120,14 +120,14 @@ module _ (told : Option FileMap) (old new : ℕ) (command : Option Command) (bef
       check_ends told old new check before after sink_old sink_new status
       (closes_as (IsAnswer told old new command) old new sink_old sink_new before after (Checks told old new check) status (as_check check e) closes)
 
-  as_pair : (pair : FilePair) → command ≡ Some (pairs pair) → (answer : Answer) → IsAnswer told old new command answer → AnswersPair told old new pair answer
-  as_pair pair e answer is = let P : Option Command → Type 0 = λ k. IsAnswer told old new k answer in subst P e is
+  as_two_files : (named : TwoFiles) → command ≡ Some (two_files named) → (answer : Answer) → IsAnswer told old new command answer → AnswersTwoFiles told old new named answer
+  as_two_files named e answer is = let P : Option Command → Type 0 = λ k. IsAnswer told old new k answer in subst P e is
 
-  pub pair_ends_so : (pair : FilePair) → command ≡ Some (pairs pair) → PairEnds told old new pair sink_old sink_new before after status
-  pair_ends_so pair e =
-      pair_ends told old new pair before after sink_old sink_new status
-      (closes_as (IsAnswer told old new command) old new sink_old sink_new before after (AnswersPair told old new pair) status (as_pair pair e) closes)
+  pub work_ends_so : (named : TwoFiles) → command ≡ Some (two_files named) → WorkEnds told old new named sink_old sink_new before after status
+  work_ends_so named e =
+      work_ends told old new named before after sink_old sink_new status
+      (closes_as (IsAnswer told old new command) old new sink_old sink_new before after (AnswersTwoFiles told old new named) status (as_two_files named e) closes)
 
-  pub replay_done_so : (pair : FilePair) (brief : Bool) → command ≡ Some (pairs pair) → pair.work ≡ Replay brief → status ≡ Done
-      → IsReplayDone told old new pair brief before after
-  replay_done_so pair brief e is h = replay_done told old new pair brief before after is ((pair_ends_so pair e).done h)
+  pub replay_done_so : (named : TwoFiles) (brief : Bool) → command ≡ Some (two_files named) → named.work ≡ Replay brief → status ≡ Done
+      → IsReplayDone told old new named brief before after
+  replay_done_so named brief e is h = replay_done told old new named brief before after is ((work_ends_so named e).done h)

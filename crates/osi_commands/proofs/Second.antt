@@ -19,12 +19,12 @@ use Rattle.trace_text.specs.Trace.{TraceTextOf}
 use Rattle.osi_commands.specs.declared.answers.Answer.{Answer}
 use Rattle.osi_commands.specs.declared.commands.Work.{Work}
 use Rattle.osi_commands.specs.declared.commands.Work.TheVariants.{Replay, Trace}
-use Rattle.osi_commands.specs.Commands.{FilePair}
+use Rattle.osi_commands.specs.Commands.{TwoFiles}
 use Rattle.osi_commands.specs.Answers.{script_answer, done_answer}
-use Rattle.osi_commands.specs.Reading.{PairAsked}
+use Rattle.osi_commands.specs.Reading.{TwoFilesAsked}
 use Rattle.osi_commands.specs.Replaying.{every_mode, Replayed, RepliedBy, ReplayedBy}
 use Rattle.osi_commands.specs.Tracing.{script_kind, ToldBy, TracedBy}
-use Rattle.osi_commands.specs.Pairs.{SecondBy, IsWorked, IsBadSecond, due_by_schedule, due_by_recording, due_by_octets}
+use Rattle.osi_commands.specs.ModuleAndFile.{SecondBy, IsWorked, IsBadSecond, due_by_schedule, due_by_recording, due_by_octets}
 
 -- ---- from the steps of the code
 
@@ -96,7 +96,7 @@ due_second Trace tables octets answer t = due_recording tables answer (recording
 
 -- ---- which files were asked for
 
-pub asked_both : (pair : FilePair) (tables : Tables) (octets : List ℕ) (before after : Option (List (List ℕ))) (answer : Answer) → SecondCase pair.work tables octets answer
-    → after ≡ logged pair.second (logged pair.«module» before) → PairAsked pair before after answer.status
-asked_both pair tables octets before after _ (worked text is) both = both
-asked_both pair tables octets before after _ (bad number kind is) both = both
+pub asked_both : (named : TwoFiles) (tables : Tables) (octets : List ℕ) (before after : Option (List (List ℕ))) (answer : Answer) → SecondCase named.work tables octets answer
+    → after ≡ logged named.second (logged named.«module» before) → TwoFilesAsked named before after answer.status
+asked_both named tables octets before after _ (worked text is) both = both
+asked_both named tables octets before after _ (bad number kind is) both = both

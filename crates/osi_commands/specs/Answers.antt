@@ -37,8 +37,7 @@ abbrev pub is_read_fault : Status → Bool
 is_read_fault ReadFault = true
 is_read_fault _ = false
 
--- The files' count is as it was, unless the answer is that a file isn't read: a file whose reading failed isn't
--- read again.
+-- The files' count is as it was, unless the answer is that a file isn't read.
 abbrev pub KeepsCount : ℕ → ℕ → Answer → Type 0
 KeepsCount old new answer = is_read_fault answer.status ≡ false → new ≡ old
 

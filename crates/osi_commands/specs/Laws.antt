@@ -3,7 +3,7 @@ use Rattle.std.specs.Prelude.{ℕ, ◌≡◌, Option, Some}
 use Rattle.osi_base.specs.Outside.{FileMap, IsCalm}
 use Rattle.osi_commands.specs.declared.answers.Answer.{Answer}
 use Rattle.osi_commands.specs.Commands.{Command}
-use Rattle.osi_commands.specs.Run.{IsAnswer}
+use Rattle.osi_commands.specs.TopCall.{IsAnswer}
 
 -- Words have one answer over told files that don't fail.
 abbrev pub OneAnswer : Type 0

@@ -8,7 +8,7 @@ pub mod Causes
 pub mod Checking
 pub mod Replaying
 pub mod Tracing
-pub mod Pairs
-pub mod Run
+pub mod ModuleAndFile
+pub mod TopCall
 pub mod Process
 pub mod Laws

@@ -7,7 +7,7 @@ use Rattle.osi_commands.specs.declared.process.Arguments.TheVariants.{Given, Not
 use Rattle.osi_commands.specs.Statuses.{exit_code}
 use Rattle.osi_commands.specs.Answers.{Closes}
 use Rattle.osi_commands.specs.Commands.{command_of}
-use Rattle.osi_commands.specs.Run.{IsAnswer, AskedAtEnd}
+use Rattle.osi_commands.specs.TopCall.{IsAnswer, AskedAtEnd}
 
 -- the words that arguments give: all but the first, which is the program's name; none where one is no text
 abbrev pub words_given : Arguments → List (List ℕ)

@@ -1,9 +1,9 @@
 //! The command that words give.
 
 ghost use Rattle.std.specs.Prelude.{◌≡◌, ◌∷◌, [], false, None, Some, MatchOption};
-ghost use Rattle.osi_commands.specs.Commands.{work_of, pair_words, pair_of, command_of};
-ghost use Rattle.osi_commands.specs.SoFar.{pair_from};
-ghost use Rattle.osi_commands.specs.Given.{pair_given, given};
+ghost use Rattle.osi_commands.specs.Commands.{work_of, two_files_behind, two_files_of, command_of};
+ghost use Rattle.osi_commands.specs.SoFar.{two_files_from};
+ghost use Rattle.osi_commands.specs.Given.{two_files_given, given};
 
 use module_check::{Check, check_command, is_flag, is_word};
 use osi_base::{Name, Words};
@@ -20,7 +20,7 @@ pub enum Work {
 
 /// A module and a second file, by their names, and what is done with them.
 #[derive(Clone, Copy)]
-pub struct FilePair<'a> {
+pub struct TwoFiles<'a> {
     /// What is done with the second file.
     pub work: Work,
     /// The name of the module's file.
@@ -35,7 +35,7 @@ pub enum Command<'a> {
     /// A module is checked.
     Check(Check<'a>),
     /// Something is done with a second file, by the tables of a module.
-    Pair(FilePair<'a>),
+    TwoFiles(TwoFiles<'a>),
 }
 
 /// The words behind `replay` or `trace` so far.
@@ -53,9 +53,9 @@ struct SoFar<'a> {
 /// stand.
 fn one_more<'a>(replays: bool, so_far: SoFar<'a>, word: &'a Name) -> Option<SoFar<'a>>
     ensures { MatchOption result
-        ((words : _) → pair_from replays so_far.entry (word.now ∷ words) ≡ None)
-        (λ more. (words : _) → pair_from replays so_far.entry (word.now ∷ words)
-        ≡ pair_from replays more words) }
+        ((words : _) → two_files_from replays so_far.entry (word.now ∷ words) ≡ None)
+        (λ more. (words : _) → two_files_from replays so_far.entry (word.now ∷ words)
+        ≡ two_files_from replays more words) }
 {
     if !so_far.ended && is_word(word, "--") {
         return Some(SoFar {
@@ -102,13 +102,13 @@ fn work_of(replays: bool, brief: bool) -> Work
 }
 
 /// What is done with two files, where both names stand.
-fn named_pair(replays: bool, so_far: SoFar<'_>) -> Option<FilePair<'_>>
-    ensures { MatchOption result (pair_from replays so_far.entry [] ≡ None)
-        (λ pair. pair_from replays so_far.entry [] ≡ Some (pair_given pair)) }
+fn named_two_files(replays: bool, so_far: SoFar<'_>) -> Option<TwoFiles<'_>>
+    ensures { MatchOption result (two_files_from replays so_far.entry [] ≡ None)
+        (λ named. two_files_from replays so_far.entry [] ≡ Some (two_files_given named)) }
 {
     let module = so_far.module?;
     let second = so_far.second?;
-    Some(FilePair {
+    Some(TwoFiles {
         work: work_of(replays, so_far.brief),
         module,
         second,
@@ -116,9 +116,10 @@ fn named_pair(replays: bool, so_far: SoFar<'_>) -> Option<FilePair<'_>>
 }
 
 /// The two files that these words behind `replay` or `trace` give, where they give them.
-fn pair_words(replays: bool, words: &[Name]) -> Option<FilePair<'_>>
-    ensures { MatchOption result (pair_words replays false false None None words.now ≡ None)
-        (λ pair. pair_words replays false false None None words.now ≡ Some (pair_given pair)) }
+fn two_files_behind(replays: bool, words: &[Name]) -> Option<TwoFiles<'_>>
+    ensures { MatchOption result (two_files_behind replays false false None None words.now ≡ None)
+        (λ named. two_files_behind replays false false None None words.now
+        ≡ Some (two_files_given named)) }
 {
     let mut so_far = SoFar {
         ended: false,
@@ -130,20 +131,20 @@ fn pair_words(replays: bool, words: &[Name]) -> Option<FilePair<'_>>
         let more = one_more(replays, so_far, word)?;
         so_far = more;
     }
-    let pair = named_pair(replays, so_far)?;
-    Some(pair)
+    let named = named_two_files(replays, so_far)?;
+    Some(named)
 }
 
 /// The two files that words give, where they give them: the word `replay` or `trace`, and behind it
 /// the module's name and the second file's; with a replay perhaps the flag `--brief` in any place.
 /// `--` ends the flags.
-fn asked_pair(words: &Words) -> Option<FilePair<'_>>
-    ensures { MatchOption result (pair_of words.now ≡ None)
-        (λ pair. pair_of words.now ≡ Some (pair_given pair)) }
+fn asked_two_files(words: &Words) -> Option<TwoFiles<'_>>
+    ensures { MatchOption result (two_files_of words.now ≡ None)
+        (λ named. two_files_of words.now ≡ Some (two_files_given named)) }
 {
     match words.as_slice() {
-        [word, others @ ..] if is_word(word, "replay") => pair_words(true, others),
-        [word, others @ ..] if is_word(word, "trace") => pair_words(false, others),
+        [word, others @ ..] if is_word(word, "replay") => two_files_behind(true, others),
+        [word, others @ ..] if is_word(word, "trace") => two_files_behind(false, others),
         _ => None,
     }
 }
@@ -156,8 +157,8 @@ pub fn read_command(words: &Words) -> Option<Command<'_>>
     match check_command(words) {
         Some(check) => Some(Command::Check(check)),
         None => {
-            let pair = asked_pair(words)?;
-            Some(Command::Pair(pair))
+            let named = asked_two_files(words)?;
+            Some(Command::TwoFiles(named))
         }
     }
 }

@@ -4,13 +4,13 @@
 ghost use Rattle.std.specs.Prelude.{◌≡◌, IfOk, OnErr};
 ghost use Rattle.packed_codec.specs.Laws.{HasNoAny};
 ghost use Rattle.osi_commands.specs.Answers.{KeepsCount};
-ghost use Rattle.osi_commands.specs.Given.{pair_given};
-ghost use Rattle.osi_commands.specs.Reading.{KeepsFiles, AsksPair, PairAsked};
-ghost use Rattle.osi_commands.specs.Pairs.{SecondBy, AnswersPair};
+ghost use Rattle.osi_commands.specs.Given.{two_files_given};
+ghost use Rattle.osi_commands.specs.Reading.{KeepsFiles, AsksTwoFiles, TwoFilesAsked};
+ghost use Rattle.osi_commands.specs.ModuleAndFile.{SecondBy, AnswersTwoFiles};
 
 use crate::answers::Answer;
-use crate::commands::{FilePair, Work};
-use crate::reading::{PairRead, read_pair};
+use crate::commands::{TwoFiles, Work};
+use crate::reading::{TwoFilesRead, read_two_files};
 use crate::replaying::replay_octets;
 use crate::tracing::trace_octets;
 use osi_base::{Files, NoMemory};
@@ -34,27 +34,27 @@ fn answer_octets(
 }
 
 /// What the program answers to a replay, or to a trace.
-pub fn answer_pair<F: Files>(
+pub fn answer_two_files<F: Files>(
     alloc: Global,
-    pair: FilePair<'_>,
+    named: TwoFiles<'_>,
     files: &mut F,
 ) -> Result<Answer, NoMemory>
     ensures files { KeepsFiles (F.told files.old) (F.told files.new) (F.faults files.old)
         (F.faults files.new) }
-    ensures answer { IfOk result (λ answer. AnswersPair (F.told files.old) (F.faults files.old)
-        (F.faults files.new) (pair_given pair.entry) answer) }
+    ensures answer { IfOk result (λ answer. AnswersTwoFiles (F.told files.old) (F.faults files.old)
+        (F.faults files.new) (two_files_given named.entry) answer) }
     ensures counts { IfOk result (λ answer. KeepsCount (F.faults files.old) (F.faults files.new)
         answer) }
     ensures err_count { OnErr result (F.faults files.new ≡ F.faults files.old) }
-    ensures asked { AsksPair (F.told files.old) (F.faults files.old) (F.faults files.new)
-        (pair_given pair.entry) (F.asked files.old) (F.asked files.new) }
-    ensures asked_for { IfOk result (λ answer. PairAsked (pair_given pair.entry)
+    ensures asked { AsksTwoFiles (F.told files.old) (F.faults files.old) (F.faults files.new)
+        (two_files_given named.entry) (F.asked files.old) (F.asked files.new) }
+    ensures asked_for { IfOk result (λ answer. TwoFilesAsked (two_files_given named.entry)
         (F.asked files.old) (F.asked files.new) answer.status) }
 {
-    match read_pair(alloc, pair, files)? {
-        PairRead::Answered(answer) => Ok(answer),
-        PairRead::Whole(tables, octets) => {
-            let answer = answer_octets(alloc, pair.work, &tables, octets.as_slice())?;
+    match read_two_files(alloc, named, files)? {
+        TwoFilesRead::Answered(answer) => Ok(answer),
+        TwoFilesRead::Whole(tables, octets) => {
+            let answer = answer_octets(alloc, named.work, &tables, octets.as_slice())?;
             Ok(answer)
         }
     }

@@ -2,7 +2,7 @@
 
 ghost use Rattle.std.specs.Prelude.{◌≡◌, IfOk, IsErr, map, drop, string_bytes};
 ghost use Rattle.osi_commands.specs.Commands.{command_of};
-ghost use Rattle.osi_commands.specs.Run.{Asks};
+ghost use Rattle.osi_commands.specs.TopCall.{Asks};
 ghost use Rattle.osi_commands.specs.Process.{words_given, Exits};
 ghost use Rattle.osi_commands.specs.Statuses.{exit_code};
 

@@ -2,12 +2,12 @@
 
 ghost use Rattle.std.specs.Prelude.{◌≡◌, IfOk, OnOk, OnErr};
 ghost use Rattle.osi_base.specs.Outside.{logged};
-ghost use Rattle.osi_commands.specs.Given.{pair_given};
+ghost use Rattle.osi_commands.specs.Given.{two_files_given};
 ghost use Rattle.packed_codec.specs.Laws.{HasNoAny};
-ghost use Rattle.osi_commands.specs.Reading.{KeepsFiles, WasRead, KeepsCountAt, KeepsCountFor, MayAsk, ReadsSecond, ReadsPair, IsTyped, AsksPair, PairAskedFor};
+ghost use Rattle.osi_commands.specs.Reading.{KeepsFiles, WasRead, KeepsCountAt, KeepsCountFor, MayAsk, ReadsSecond, ReadsTwoFiles, IsTyped, AsksTwoFiles, TwoFilesAskedFor};
 
 use crate::answers::{Answer, cannot_read, module_refused};
-use crate::commands::FilePair;
+use crate::commands::TwoFiles;
 use module_reading::{ModuleFault, read_module};
 use osi_base::{FileFault, Files, Name, NoMemory, Octets};
 use std::alloc::Global;
@@ -16,7 +16,7 @@ use typed_modules::module_has_no_any;
 
 /// What comes of reading a module and a second file.
 #[derive(Debug, Drop)]
-pub enum PairRead {
+pub enum TwoFilesRead {
     /// One of them isn't read, or the module is refused.
     Answered(Answer),
     /// The module's tables, and the octets of the second file.
@@ -50,13 +50,13 @@ pub fn read_file<F: Files>(
 /// Reads the second file, behind a module with these tables. What tells that it isn't read is made
 /// before it is asked for, so that no want of memory stands between a file that failed and its
 /// telling.
-#[tactic(auto, using(crate::proofs::PairReading::second_none, crate::proofs::PairReading::second_some))]
+#[tactic(auto, using(crate::proofs::TwoFilesReading::second_none, crate::proofs::TwoFilesReading::second_some))]
 fn read_second<F: Files>(
     alloc: Global,
     tables: Tables,
     name: &Name,
     files: &mut F,
-) -> Result<PairRead, NoMemory>
+) -> Result<TwoFilesRead, NoMemory>
     requires typed { HasNoAny tables.types }
     ensures files { KeepsFiles (F.told files.old) (F.told files.new) (F.faults files.old)
         (F.faults files.new) }
@@ -71,46 +71,46 @@ fn read_second<F: Files>(
 {
     let unread = cannot_read(alloc, name)?;
     match read_file(alloc, files, name)? {
-        None => Ok(PairRead::Answered(unread)),
-        Some(octets) => Ok(PairRead::Whole(tables, octets)),
+        None => Ok(TwoFilesRead::Answered(unread)),
+        Some(octets) => Ok(TwoFilesRead::Whole(tables, octets)),
     }
 }
 
 /// Reads the module, and then the second file. The first that is faulty decides, and a file that
 /// isn't due isn't read.
-#[tactic(auto, using(crate::proofs::PairReading::module_none))]
-pub fn read_pair<F: Files>(
+#[tactic(auto, using(crate::proofs::TwoFilesReading::module_none))]
+pub fn read_two_files<F: Files>(
     alloc: Global,
-    pair: FilePair<'_>,
+    named: TwoFiles<'_>,
     files: &mut F,
-) -> Result<PairRead, NoMemory>
+) -> Result<TwoFilesRead, NoMemory>
     ensures files { KeepsFiles (F.told files.old) (F.told files.new) (F.faults files.old)
         (F.faults files.new) }
     ensures typed { IfOk result IsTyped }
-    ensures read { IfOk result (λ read. ReadsPair (F.told files.old) (F.faults files.old)
-        (F.faults files.new) (pair_given pair.entry) read) }
+    ensures read { IfOk result (λ read. ReadsTwoFiles (F.told files.old) (F.faults files.old)
+        (F.faults files.new) (two_files_given named.entry) read) }
     ensures counts { IfOk result (λ read. KeepsCountFor (F.faults files.old) (F.faults files.new)
         read) }
     ensures err_count { OnErr result (F.faults files.new ≡ F.faults files.old) }
-    ensures asked { AsksPair (F.told files.old) (F.faults files.old) (F.faults files.new)
-        (pair_given pair.entry) (F.asked files.old) (F.asked files.new) }
-    ensures asked_for { IfOk result (λ read. PairAskedFor (pair_given pair.entry)
+    ensures asked { AsksTwoFiles (F.told files.old) (F.faults files.old) (F.faults files.new)
+        (two_files_given named.entry) (F.asked files.old) (F.asked files.new) }
+    ensures asked_for { IfOk result (λ read. TwoFilesAskedFor (two_files_given named.entry)
         (F.asked files.old) (F.asked files.new) read) }
 {
-    let unread = cannot_read(alloc, pair.module)?;
-    let Some(text) = read_file(alloc, files, pair.module)? else {
-        return Ok(PairRead::Answered(unread));
+    let unread = cannot_read(alloc, named.module)?;
+    let Some(text) = read_file(alloc, files, named.module)? else {
+        return Ok(TwoFilesRead::Answered(unread));
     };
     let octets = text.as_slice();
     module_has_no_any(octets);
     match read_module(alloc, octets) {
         Ok(tables) => {
-            let read = read_second(alloc, tables, pair.second, files)?;
+            let read = read_second(alloc, tables, named.second, files)?;
             Ok(read)
         }
         Err(ModuleFault::At { line, column, kind }) => {
             let answer = module_refused(alloc, line, column, kind)?;
-            Ok(PairRead::Answered(answer))
+            Ok(TwoFilesRead::Answered(answer))
         }
         Err(ModuleFault::NoMemory) => Err(NoMemory),
     }

@@ -5,17 +5,17 @@ ghost use Rattle.osi_base.specs.Outside.{FaultsRose};
 ghost use Rattle.module_check.specs.Command.{Check};
 ghost use Rattle.osi_commands.specs.declared.commands.Work.TheVariants as works;
 ghost use Rattle.osi_commands.specs.Answers.{KeepsCount, Closes, IsBegun, IsUnless, CountsFiles, CountsWrites};
-ghost use Rattle.osi_commands.specs.Commands.{FilePair, checks, pairs, command_of};
+ghost use Rattle.osi_commands.specs.Commands.{TwoFiles, checks, two_files, command_of};
 ghost use Rattle.osi_commands.specs.Given.{given};
 ghost use Rattle.osi_commands.specs.Reading.{KeepsFiles};
 ghost use Rattle.osi_commands.specs.Checking.{CheckEnds};
-ghost use Rattle.osi_commands.specs.Pairs.{PairEnds, IsReplayDone};
-ghost use Rattle.osi_commands.specs.Run.{IsAnswer, IsUsage, Asks, AskedBy, AskedAtEnd};
+ghost use Rattle.osi_commands.specs.ModuleAndFile.{WorkEnds, IsReplayDone};
+ghost use Rattle.osi_commands.specs.TopCall.{IsAnswer, IsUsage, Asks, AskedBy, AskedAtEnd};
 
 use crate::answers::{Answer, conclude, usage};
 use crate::checking::answer_check;
 use crate::commands::{Command, read_command};
-use crate::module_and_file::answer_pair;
+use crate::module_and_file::answer_two_files;
 use osi_base::{Files, Line, NoMemory, Sink, Status, Words};
 use std::alloc::Global;
 
@@ -39,7 +39,7 @@ fn answer_command<F: Files>(
 {
     match command {
         Command::Check(check) => answer_check(alloc, check, files),
-        Command::Pair(pair) => answer_pair(alloc, pair, files),
+        Command::TwoFiles(named) => answer_two_files(alloc, named, files),
     }
 }
 
@@ -92,7 +92,7 @@ fn run_words<F: Files, O: Sink>(alloc: Global, words: &Words, files: &mut F, out
 /// What a replay writes tells the one run that two new ends with the schedule's configurations make
 /// of its events, and that run keeps all laws of its mode: each message that is taken is the one
 /// that the other end sent in its place, and its values, but those of openings, their answers and
-/// aborts, are read under the pair that the one shared context set gave their context at the
+/// aborts, are read under the named that the one shared context set gave their context at the
 /// sending; an invocation has at most one outcome, which is allowed to it; each reliable transfer
 /// arrives whole, at most once; nothing whole waits at an end that isn't over; no end aborts of
 /// itself.
@@ -108,8 +108,8 @@ fn run_words<F: Files, O: Sink>(alloc: Global, words: &Words, files: &mut F, out
 ///   it, was written.
 ///
 /// The words come first, then the module, the second file and the run: the first fault decides. A
-/// file that isn't due isn't asked for, and one that failed isn't read again. A write that failed
-/// is told as that. The line isn't used.
+/// file that isn't due isn't asked for, and each is asked for once at most. A write that failed is
+/// told as that. The line isn't used.
 pub fn osi_run<F: Files, O: Sink, L: Line>(
     alloc: Global,
     words: &Words,
@@ -159,14 +159,15 @@ pub fn osi_run<F: Files, O: Sink, L: Line>(
     ensures check { (check : Check) → command_of words.now ≡ Some (checks check)
         → CheckEnds (F.told files.old) (F.faults files.old) (F.faults files.new) check
         (O.faults out.old) (O.faults out.new) (O.told out.old) (O.told out.new) result }
-    ensures pair { (pair : FilePair) → command_of words.now ≡ Some (pairs pair)
-        → PairEnds (F.told files.old) (F.faults files.old) (F.faults files.new) pair
+    ensures two_files { (named : TwoFiles) → command_of words.now ≡ Some (two_files named)
+        → WorkEnds (F.told files.old) (F.faults files.old) (F.faults files.new) named
         (O.faults out.old) (O.faults out.new) (O.told out.old) (O.told out.new) result }
 
     // In each mode a replay that is done wrote the one run of its schedule, which keeps all laws
-    ensures replay { (pair : FilePair) (brief : Bool) → command_of words.now ≡ Some (pairs pair)
-        → pair.work ≡ works.Replay brief → result ≡ Status.Done
-        → IsReplayDone (F.told files.old) (F.faults files.old) (F.faults files.new) pair brief
+    ensures replay { (named : TwoFiles) (brief : Bool)
+        → command_of words.now ≡ Some (two_files named)
+        → named.work ≡ works.Replay brief → result ≡ Status.Done
+        → IsReplayDone (F.told files.old) (F.faults files.old) (F.faults files.new) named brief
         (O.told out.old) (O.told out.new) }
 {
     run_words(alloc, words, files, out)

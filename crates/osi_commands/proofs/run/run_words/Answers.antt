@@ -1,5 +1,5 @@
 use Rattle.osi_commands.specs.Commands.{command_of}
-use Rattle.osi_commands.specs.Run.{IsAnswer}
+use Rattle.osi_commands.specs.TopCall.{IsAnswer}
 use Rattle.osi_commands.proofs.Endings.{closed}
 use Rattle.osi_commands.proofs.RunEnding.{asked_at_end}
 use Rattle.osi_commands.proofs.run.run_words.Goals as goal

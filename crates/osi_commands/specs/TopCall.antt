@@ -3,11 +3,11 @@ use Rattle.std.specs.Prelude.{ℕ, ◌≡◌, List, Option, None, Some}
 use Rattle.osi_base.specs.Outside.{FileMap, logged, grown}
 use Rattle.osi_base.specs.declared.layer_words.Status.{Status}
 use Rattle.osi_commands.specs.declared.answers.Answer.{Answer}
-use Rattle.osi_commands.specs.Commands.{Command, checks, pairs}
+use Rattle.osi_commands.specs.Commands.{Command, checks, two_files}
 use Rattle.osi_commands.specs.Answers.{usage_answer}
-use Rattle.osi_commands.specs.Reading.{MayAsk, AsksPair, PairAsked, PairAskedAtEnd, CheckAskedAtEnd}
+use Rattle.osi_commands.specs.Reading.{MayAsk, AsksTwoFiles, TwoFilesAsked, TwoFilesAskedAtEnd, CheckAskedAtEnd}
 use Rattle.osi_commands.specs.Checking.{Checks}
-use Rattle.osi_commands.specs.Pairs.{AnswersPair}
+use Rattle.osi_commands.specs.ModuleAndFile.{AnswersTwoFiles}
 
 -- The names here: what the files tell is `told`, their count of faults `old` before the call and `new` after
 -- it; what the sink tells, and the names that were asked for, are `before` and `after`.
@@ -16,7 +16,7 @@ use Rattle.osi_commands.specs.Pairs.{AnswersPair}
 abbrev pub IsAnswer : Option FileMap → ℕ → ℕ → Option Command → Answer → Type 0
 IsAnswer told old new None answer = answer ≡ usage_answer
 IsAnswer told old new (Some (checks check)) answer = Checks told old new check answer
-IsAnswer told old new (Some (pairs pair)) answer = AnswersPair told old new pair answer
+IsAnswer told old new (Some (two_files named)) answer = AnswersTwoFiles told old new named answer
 
 -- Usage: the words are no command.
 pub record IsUsage (command : Option Command) (before after : Option (List ℕ)) : Type 0 where
@@ -29,16 +29,16 @@ pub record IsUsage (command : Option Command) (before after : Option (List ℕ))
 abbrev pub Asks : Option FileMap → ℕ → ℕ → Option Command → Option (List (List ℕ)) → Option (List (List ℕ)) → Type 0
 Asks told old new None before after = after ≡ before
 Asks told old new (Some (checks check)) before after = MayAsk check.«module» before after
-Asks told old new (Some (pairs pair)) before after = AsksPair told old new pair before after
+Asks told old new (Some (two_files named)) before after = AsksTwoFiles told old new named before after
 
 -- by the status of the answer
 abbrev pub AskedBy : Option Command → Option (List (List ℕ)) → Option (List (List ℕ)) → Status → Type 0
 AskedBy None before after status = after ≡ before
 AskedBy (Some (checks check)) before after status = after ≡ logged check.«module» before
-AskedBy (Some (pairs pair)) before after status = PairAsked pair before after status
+AskedBy (Some (two_files named)) before after status = TwoFilesAsked named before after status
 
 -- by the status with which the program ends
 abbrev pub AskedAtEnd : Option Command → Option (List (List ℕ)) → Option (List (List ℕ)) → Status → Type 0
 AskedAtEnd None before after status = after ≡ before
 AskedAtEnd (Some (checks check)) before after status = CheckAskedAtEnd check.«module» before after status
-AskedAtEnd (Some (pairs pair)) before after status = PairAskedAtEnd pair before after status
+AskedAtEnd (Some (two_files named)) before after status = TwoFilesAskedAtEnd named before after status

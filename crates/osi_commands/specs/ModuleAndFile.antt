@@ -22,10 +22,10 @@ use Rattle.trace_text.specs.Trace.{TraceTextOf}
 use Rattle.osi_commands.specs.declared.answers.Answer.{Answer}
 use Rattle.osi_commands.specs.declared.commands.Work.{Work}
 use Rattle.osi_commands.specs.declared.commands.Work.TheVariants.{Replay, Trace}
-use Rattle.osi_commands.specs.declared.reading.PairRead.TheVariants.{Answered, Whole}
-use Rattle.osi_commands.specs.Commands.{FilePair}
+use Rattle.osi_commands.specs.declared.reading.TwoFilesRead.TheVariants.{Answered, Whole}
+use Rattle.osi_commands.specs.Commands.{TwoFiles}
 use Rattle.osi_commands.specs.Answers.{script_answer, IsUnless}
-use Rattle.osi_commands.specs.Reading.{WasRead, ReadsPair, HasModule}
+use Rattle.osi_commands.specs.Reading.{WasRead, ReadsTwoFiles, HasModule}
 use Rattle.osi_commands.specs.Causes.{IsUnread, IsRefusedModule, HasNoTables}
 use Rattle.osi_commands.specs.Replaying.{every_mode, written_of, Replayed, ReplayedBy}
 use Rattle.osi_commands.specs.Tracing.{script_kind, TracedBy}
@@ -39,10 +39,10 @@ SecondBy Trace tables octets answer = TracedBy tables octets answer
 
 -- What a replay or a trace is answered, by the told files and their count of faults, before and after: what reading them
 -- came to, or what is answered to the second file by the module's tables.
-pub data AnswersPair (told : Option FileMap) (old new : ℕ) (pair : FilePair) : Answer → Type 0 where
-  refuses : (answer : Answer) → ReadsPair told old new pair (Answered answer) → AnswersPair told old new pair answer
-  works : (tables : Tables) (octets : List ℕ) (answer : Answer) → ReadsPair told old new pair (Whole tables octets)
-      → SecondBy pair.work tables octets answer → AnswersPair told old new pair answer
+pub data AnswersTwoFiles (told : Option FileMap) (old new : ℕ) (named : TwoFiles) : Answer → Type 0 where
+  refuses : (answer : Answer) → ReadsTwoFiles told old new named (Answered answer) → AnswersTwoFiles told old new named answer
+  works : (tables : Tables) (octets : List ℕ) (answer : Answer) → ReadsTwoFiles told old new named (Whole tables octets)
+      → SecondBy named.work tables octets answer → AnswersTwoFiles told old new named answer
 
 -- ---- what each status says
 
@@ -63,27 +63,27 @@ IsWorked Trace tables octets text = IsTraced tables octets text
 
 -- Done: the module was read and has tables, the second file was read, and what was written is what came of its run, or what
 -- it says.
-pub record IsPairDone (told : Option FileMap) (old new : ℕ) (pair : FilePair) (before after : Option (List ℕ)) : Type 0 where
+pub record IsWorkDone (told : Option FileMap) (old new : ℕ) (named : TwoFiles) (before after : Option (List ℕ)) : Type 0 where
   pub «module» : List ℕ
-  pub module_read : WasRead told old new pair.«module» (Some «module»)
+  pub module_read : WasRead told old new named.«module» (Some «module»)
   pub tables : Tables
   pub has : HasTables «module» tables
   pub octets : List ℕ
-  pub second_read : WasRead told old new pair.second (Some octets)
+  pub second_read : WasRead told old new named.second (Some octets)
   pub text : List ℕ
-  pub worked : IsWorked pair.work tables octets text
+  pub worked : IsWorked named.work tables octets text
   pub written : after ≡ grown before text
 
 -- The same of a replay that is done, whose run is told here: the module was read and has tables, the schedule was read, and two new
 -- ends with its configurations ran its events. The run keeps all laws of its mode, what was written tells it, whole or in brief, and
 -- every such run of the schedule has this transcript.
-pub record IsReplayDone (told : Option FileMap) (old new : ℕ) (pair : FilePair) (brief : Bool) (before after : Option (List ℕ)) : Type 0 where
+pub record IsReplayDone (told : Option FileMap) (old new : ℕ) (named : TwoFiles) (brief : Bool) (before after : Option (List ℕ)) : Type 0 where
   pub «module» : List ℕ
-  pub module_read : WasRead told old new pair.«module» (Some «module»)
+  pub module_read : WasRead told old new named.«module» (Some «module»)
   pub tables : Tables
   pub has : HasTables «module» tables
   pub octets : List ℕ
-  pub second_read : WasRead told old new pair.second (Some octets)
+  pub second_read : WasRead told old new named.second (Some octets)
   pub schedule : Said
   pub reads : schedule_of every_mode tables octets ≡ Ok schedule
   pub transcript : Transcript
@@ -110,21 +110,21 @@ IsBadSecond Trace tables octets text = IsBadRecording octets text
 
 -- ScriptRefused: the module was read and has tables, the second file was read, and what was written tells its first faulty
 -- line.
-pub record IsPairRefused (told : Option FileMap) (old new : ℕ) (pair : FilePair) (before after : Option (List ℕ)) : Type 0 where
+pub record IsWorkRefused (told : Option FileMap) (old new : ℕ) (named : TwoFiles) (before after : Option (List ℕ)) : Type 0 where
   pub «module» : List ℕ
-  pub module_read : WasRead told old new pair.«module» (Some «module»)
+  pub module_read : WasRead told old new named.«module» (Some «module»)
   pub tables : Tables
   pub has : HasTables «module» tables
   pub octets : List ℕ
-  pub second_read : WasRead told old new pair.second (Some octets)
+  pub second_read : WasRead told old new named.second (Some octets)
   pub text : List ℕ
-  pub bad : IsBadSecond pair.work tables octets text
+  pub bad : IsBadSecond named.work tables octets text
   pub written : after ≡ grown before text
 
 -- ReadFault: the module isn't read; or it was read and has tables, and the second file isn't read.
-abbrev pub IsPairUnread : Option FileMap → ℕ → ℕ → FilePair → Option (List ℕ) → Option (List ℕ) → Type 0
-IsPairUnread told old new pair before after =
-    IsUnread told old new pair.«module» before after ⊎ (HasModule told old new pair.«module» × IsUnread told old new pair.second before after)
+abbrev pub IsWorkUnread : Option FileMap → ℕ → ℕ → TwoFiles → Option (List ℕ) → Option (List ℕ) → Type 0
+IsWorkUnread told old new named before after =
+    IsUnread told old new named.«module» before after ⊎ (HasModule told old new named.«module» × IsUnread told old new named.second before after)
 
 -- ---- when each status comes
 
@@ -146,29 +146,29 @@ due_by_second work tables None = ReadFault
 due_by_second work tables (Some octets) = due_by_octets work tables octets
 
 -- a module has tables, and the status is that of the second file by them
-pub record IsBySecond (map : FileMap) (pair : FilePair) (sink_old sink_new : ℕ) (status : Status) (text : List ℕ) : Type 0 where
+pub record IsBySecond (map : FileMap) (named : TwoFiles) (sink_old sink_new : ℕ) (status : Status) (text : List ℕ) : Type 0 where
   pub tables : Tables
   pub has : HasTables text tables
-  pub by : IsUnless sink_old sink_new (due_by_second pair.work tables (map pair.second)) status
+  pub by : IsUnless sink_old sink_new (due_by_second named.work tables (map named.second)) status
 
 -- Over a told map whose files didn't fail: a module that is missing isn't read, one that has a fault is refused, and so is one without
 -- tables. One that has tables ends as the second file is due by them. Any module that is there is refused, or has tables.
-pub record IsPairDue (map : FileMap) (pair : FilePair) (sink_old sink_new : ℕ) (status : Status) : Type 0 where
-  pub no_module : map pair.«module» ≡ None → IsUnless sink_old sink_new ReadFault status
-  pub no_tables : (text : List ℕ) → map pair.«module» ≡ Some text → HasNoTables text → IsUnless sink_old sink_new ModuleRefused status
-  pub fault : (text : List ℕ) (line column : ℕ) (kind : ModuleKind) → map pair.«module» ≡ Some text → IsRefused text (faults.At line column kind) → IsUnless sink_old sink_new ModuleRefused status
-  pub by_second : (text : List ℕ) (tables : Tables) → map pair.«module» ≡ Some text → HasTables text tables
-      → IsUnless sink_old sink_new (due_by_second pair.work tables (map pair.second)) status
-  pub there : (text : List ℕ) → map pair.«module» ≡ Some text
-      → IsUnless sink_old sink_new ModuleRefused status ⊎ IsBySecond map pair sink_old sink_new status text
+pub record IsWorkDue (map : FileMap) (named : TwoFiles) (sink_old sink_new : ℕ) (status : Status) : Type 0 where
+  pub no_module : map named.«module» ≡ None → IsUnless sink_old sink_new ReadFault status
+  pub no_tables : (text : List ℕ) → map named.«module» ≡ Some text → HasNoTables text → IsUnless sink_old sink_new ModuleRefused status
+  pub fault : (text : List ℕ) (line column : ℕ) (kind : ModuleKind) → map named.«module» ≡ Some text → IsRefused text (faults.At line column kind) → IsUnless sink_old sink_new ModuleRefused status
+  pub by_second : (text : List ℕ) (tables : Tables) → map named.«module» ≡ Some text → HasTables text tables
+      → IsUnless sink_old sink_new (due_by_second named.work tables (map named.second)) status
+  pub there : (text : List ℕ) → map named.«module» ≡ Some text
+      → IsUnless sink_old sink_new ModuleRefused status ⊎ IsBySecond map named sink_old sink_new status text
 
 -- ---- all of it
 
 -- how the top call ends with words that are a replay or a trace
-pub record PairEnds (told : Option FileMap) (old new : ℕ) (pair : FilePair) (sink_old sink_new : ℕ) (before after : Option (List ℕ)) (status : Status) : Type 0 where
-  pub done : status ≡ Done → IsPairDone told old new pair before after
-  pub read_fault : status ≡ ReadFault → IsPairUnread told old new pair before after
-  pub module_refused : status ≡ ModuleRefused → IsRefusedModule told old new pair.«module» before after
-  pub script_refused : status ≡ ScriptRefused → IsPairRefused told old new pair before after
+pub record WorkEnds (told : Option FileMap) (old new : ℕ) (named : TwoFiles) (sink_old sink_new : ℕ) (before after : Option (List ℕ)) (status : Status) : Type 0 where
+  pub done : status ≡ Done → IsWorkDone told old new named before after
+  pub read_fault : status ≡ ReadFault → IsWorkUnread told old new named before after
+  pub module_refused : status ≡ ModuleRefused → IsRefusedModule told old new named.«module» before after
+  pub script_refused : status ≡ ScriptRefused → IsWorkRefused told old new named before after
   pub no_usage : status ≢ Usage
-  pub due : IfSome told (λ map. IsCalm old new → IsPairDue map pair sink_old sink_new status)
+  pub due : IfSome told (λ map. IsCalm old new → IsWorkDue map named sink_old sink_new status)
