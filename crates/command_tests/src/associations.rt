@@ -1,5 +1,6 @@
-//! What no clause says of replays over associations: whole runs with ample memory, which a model of
-//! the rules that was written apart from this project gave.
+//! What no clause says of replays over associations: whole runs with ample memory. Those that are
+//! told to be by hand follow from the events of their schedules; a model of the rules that was
+//! written apart from this project gave the others.
 
 use crate::runs::{gives, run};
 use crate::traces::CALC_MODULE;
@@ -16,7 +17,7 @@ pub(crate) fn replays(rt: &impl Abort, alloc: Global, schedule: &str, transcript
     gives(rt, alloc, &files, &said, Status::Done, text)
 }
 
-/// Whether it has this summary.
+/// Whether the replay of a schedule has this summary.
 fn sums_up(rt: &impl Abort, alloc: Global, schedule: &str, summary: &str) -> bool {
     let files = [("module", CALC_MODULE), ("schedule", schedule.as_bytes())];
     let said = ["replay", "module", "schedule", "--brief"];
@@ -402,7 +403,7 @@ fn carried(rt: &impl Abort, alloc: Global) -> String {
     format!(in alloc; "mode bare\nA invoke 0 store '{digits}'H\ncarry A 300\n").expect(rt, "memory")
 }
 
-/// Its summary.
+/// Its summary, by hand: two events, and no invocation that came whole.
 const CARRIED_SUMMARY: &str = "events 2
 octets A>B 300
 octets B>A 0

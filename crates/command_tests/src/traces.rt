@@ -1,6 +1,7 @@
 //! What no clause says of traces: whole runs with ample memory, among them those of the examples.
-//! The octets are those of worked dialogues; the units that a line names, and how many octets a
-//! value has, are read off these octets.
+//! The octets are those of worked dialogues; where a row tells that it is by hand, the APDU is laid
+//! out by X.882 9, and the data value around it by X.226 8.4.2. The units that a line names, and
+//! how many octets a value has, are read off these octets.
 
 use crate::runs::gives;
 use crate::whole_runs::ONE_MODULE;
@@ -38,7 +39,7 @@ const RECORDINGS: [(&str, &str); 7] = [
         "A>B 03 00 00 1F 02 F0 80 01 00 01 00 61 12 30 10 02 01 05 A0 0B A1 09 02 01 01 02 01 01 02 01 05\n",
         "A>B GT+DT 5:invoke 1 add\n",
     ),
-    // the same eleven octets as a string of bits, which is read as no invocation
+    // the same eleven octets as a string of bits, which is read as no invocation, by hand
     (
         "A>B 03 00 00 20 02 F0 80 01 00 01 00 61 13 30 11 02 01 05 82 0C 00 A1 09 02 01 01 02 01 01 02 01 05\n",
         "A>B GT+DT 5:value 11\n",
@@ -188,13 +189,13 @@ fn traces_the_examples(rt: HostRuntime) {
     }
 }
 
-/// An error and a reject of the invocation 1, each behind GIVE TOKENS.
+/// An error and a reject of the invocation 1, each behind GIVE TOKENS, by hand.
 const OUTCOMES: &str =
     "B>A 03 00 00 1F 02 F0 80 01 00 01 00 61 12 30 10 02 01 05 A0 0B A3 09 02 01 01 02 01 01 02 01 05
 B>A 03 00 00 1C 02 F0 80 01 00 01 00 61 0F 30 0D 02 01 05 A0 08 A4 06 02 01 01 82 01 02
 ";
 
-/// What they say: an error by its name, and the problem of a result.
+/// What they say: an error by its name, and the problem 2 of a result (X.880 9.4).
 const OUTCOMES_TRACE: &str = "B>A GT+DT 5:error 1 overflow
 B>A GT+DT 5:reject 1 result 2
 ";
