@@ -394,14 +394,22 @@ fn replays_associations(rt: HostRuntime) {
     }
 }
 
-/// A schedule of bare mode in which 300 octets are carried of an invocation that has more.
-fn carried(rt: &impl Abort, alloc: Global) -> String {
+/// What stands in a schedule in front of a long value, and behind it.
+type Around = (&'static str, &'static str);
+
+/// The schedule, with a value of so many octets, each 0.
+fn with_octets(rt: &impl Abort, alloc: Global, around: Around, count: usize) -> String {
+    let (front, rest) = around;
     let mut digits = String::new(alloc);
-    for _ in 0..300 {
+    for _ in 0..count {
         digits.push_str("00").expect(rt, "memory");
     }
-    format!(in alloc; "mode bare\nA invoke 0 store '{digits}'H\ncarry A 300\n").expect(rt, "memory")
+    format!(in alloc; "{front}'{digits}'H{rest}").expect(rt, "memory")
 }
+
+/// A schedule of bare mode in which 300 octets are carried of an invocation that has more: its
+/// value has 300.
+const CARRIED: Around = ("mode bare\nA invoke 0 store ", "\ncarry A 300\n");
 
 /// Its summary, by hand: two events, and no invocation that came whole.
 const CARRIED_SUMMARY: &str = "events 2
@@ -419,7 +427,7 @@ end B up
 
 #[test]
 fn carries_as_many_octets_as_are_asked_for(rt: HostRuntime) {
-    let schedule = carried(&rt, rt.alloc());
+    let schedule = with_octets(&rt, rt.alloc(), CARRIED, 300);
     let is_so = sums_up(&rt, rt.alloc(), schedule.as_str(), CARRIED_SUMMARY);
     drop(schedule);
     assert!(rt; is_so);
@@ -427,13 +435,8 @@ fn carries_as_many_octets_as_are_asked_for(rt: HostRuntime) {
 
 /// A schedule in which the transfer of a value of 1,100 octets is interrupted, resumed and
 /// confirmed, and the connection breaks behind it and is recovered.
-fn interrupted(rt: &impl Abort, alloc: Global) -> String {
-    let mut digits = String::new(alloc);
-    for _ in 0..1100 {
-        digits.push_str("00").expect(rt, "memory");
-    }
-    format!(in alloc;
-        "mode reliable 1 1
+const INTERRUPTED: Around = (
+    "mode reliable 1 1
 context 5 packed
 context 9 der
 context 7 ber packed
@@ -448,7 +451,8 @@ A invoke 7 add 0
 carry A all
 B interrupt
 carry B 2
-A invoke 5 store '{digits}'H
+A invoke 5 store ",
+    "
 A answer 2 4
 carry B 140
 carry A 165
@@ -492,10 +496,8 @@ carry A 55
 carry A 18
 A answer 1 7
 A resume
-"
-    )
-    .expect(rt, "memory")
-}
+",
+);
 
 /// What the model gave as the transcript of that schedule, summed up: how many events it has,
 /// octets each way, values taken, transfers and refused calls, and in which phases the ends are
@@ -515,7 +517,7 @@ end B up
 
 #[test]
 fn resumes_an_interrupted_transfer(rt: HostRuntime) {
-    let schedule = interrupted(&rt, rt.alloc());
+    let schedule = with_octets(&rt, rt.alloc(), INTERRUPTED, 1_100);
     let is_so = sums_up(&rt, rt.alloc(), schedule.as_str(), INTERRUPTED_SUMMARY);
     drop(schedule);
     assert!(rt; is_so);
@@ -524,13 +526,8 @@ fn resumes_an_interrupted_transfer(rt: HostRuntime) {
 /// A schedule in which a value of 1,100 octets goes on a context that was added, and the connection
 /// breaks behind the first 1,024 of them: behind the recovery the context isn't there, and the mark
 /// from which the transfer is resumed brings it back.
-fn brought_back(rt: &impl Abort, alloc: Global) -> String {
-    let mut digits = String::new(alloc);
-    for _ in 0..1100 {
-        digits.push_str("00").expect(rt, "memory");
-    }
-    format!(in alloc;
-        "mode reliable 1 1
+const BROUGHT_BACK: Around = (
+    "mode reliable 1 1
 context 5 ber
 A open
 carry A all
@@ -540,7 +537,8 @@ carry B all
 A alter add 7 ber
 carry A all
 carry B all
-A invoke 7 store '{digits}'H
+A invoke 7 store ",
+    "
 carry A all
 carry B all
 break
@@ -552,10 +550,8 @@ carry B all
 A resume
 carry A all
 carry B all
-"
-    )
-    .expect(rt, "memory")
-}
+",
+);
 
 /// How its transcript ends, by hand: the value is confirmed, at the mark behind that of its first
 /// octets.
@@ -579,7 +575,7 @@ fn ends_so(rt: &impl Abort, alloc: Global, schedule: &str, end: &str) -> bool {
 
 #[test]
 fn a_mark_brings_a_context_back(rt: HostRuntime) {
-    let schedule = brought_back(&rt, rt.alloc());
+    let schedule = with_octets(&rt, rt.alloc(), BROUGHT_BACK, 1_100);
     let is_so = ends_so(&rt, rt.alloc(), schedule.as_str(), BROUGHT_BACK_END);
     drop(schedule);
     assert!(rt; is_so);
