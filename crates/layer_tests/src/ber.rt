@@ -103,7 +103,7 @@ const ROWS: [Sample; 40] = [
         At(1, Kind::Form),
         &[2, 1, 5],
     ),
-    // five octets behind one
+    // a string of five octets behind such a length
     (
         OCTETS,
         &[4, 0x81, 5, 1, 2, 3, 4, 5],
@@ -309,7 +309,7 @@ const ROWS: [Sample; 40] = [
         Used(8),
         &[0x30, 6, 2, 1, 5, 2, 1, 8],
     ),
-    // e is its default's 0, and stands
+    // e is 0, as its default, and stands
     (
         ZEROED,
         &[0x30, 3, 2, 1, 0],

@@ -365,7 +365,7 @@ fn two_items(rt: &impl Abort, alloc: Global) -> Vals {
 }
 
 /// An octet 5 that stands behind the octets 5 and 0, which begin with it: the shorter rises first.
-/// Of whole values none begins another, so that these are none.
+/// Of whole values none begins another: the octet 5 alone is none, and is compared all the same.
 #[test]
 fn what_begins_another_stands_in_front_of_it(rt: HostRuntime) {
     let alloc = rt.alloc();
