@@ -1,4 +1,6 @@
-//! Configurations that an end refuses for the contexts that it proposes.
+//! Configurations that an end refuses for the contexts that it proposes: 62 are the most, no two
+//! have one identifier, and the CP that proposes them has at most 10,240 octets. How many it has is
+//! counted by X.226 8.2 in the basic encoding (X.690 8).
 
 use dialogue::{Config, ConfigRefusal, Mode};
 use end_config::check_config;
@@ -53,12 +55,12 @@ fn initiator(alloc: Global, contexts: Proposals) -> Result<Config, NoMemory> {
 }
 
 /// What a row shows, how many contexts, the step of their numbers, the transfer syntaxes of each,
-/// and whether the configuration is refused.
+/// and the answer to the configuration.
 type Row = (&'static str, u32, u32, u32, Result<(), ConfigRefusal>);
 
 const ROWS: [Row; 4] = [
-    ("62 contexts", 62, 2, 1, Ok(())),
-    ("63 contexts", 63, 2, 1, Err(ConfigRefusal::TooManyContexts)),
+    ("62 contexts, the most", 62, 2, 1, Ok(())),
+    ("one more", 63, 2, 1, Err(ConfigRefusal::TooManyContexts)),
     (
         "an identifier twice",
         2,
@@ -67,7 +69,7 @@ const ROWS: [Row; 4] = [
         Err(ConfigRefusal::BadContext(5)),
     ),
     (
-        "62 contexts of which each has nine names of 31 octets",
+        "62 contexts, each with nine names of 31 octets: over 17,000 octets",
         62,
         2,
         8,
