@@ -16,10 +16,12 @@ use stub_tables::{Apdu, Code, ErrorRows, Operations, Tables};
 /// What octets are read as.
 #[derive(Clone, Copy)]
 enum Read {
-    /// The head of the invocation 1 of the operation 1, with these octets of its argument.
+    /// The head of the invocation 1 of the operation 1, which is linked to none, with these octets
+    /// of its argument.
     Invokes(&'static [u8]),
-    /// A head with the identifier 1, linked to the invocation 1.
-    Linked,
+    /// The head of the invocation 1 of the operation 3, which is linked to the invocation 1, with
+    /// these octets of its argument.
+    Linked(&'static [u8]),
     /// No head, for this fault.
     Refused(HeadFault),
 }
@@ -34,6 +36,7 @@ fn is_head(head: &ApduHead, read: Read) -> bool {
             ApduHead {
                 kind: ApduKind::Invoke,
                 id: Some(1),
+                linked: None,
                 code: Some(Code::Local(1)),
                 rest: Some(rest),
                 ..
@@ -42,12 +45,15 @@ fn is_head(head: &ApduHead, read: Read) -> bool {
         ) => rest.as_slice() == octets,
         (
             ApduHead {
+                kind: ApduKind::Invoke,
                 id: Some(1),
                 linked: Some(1),
+                code: Some(Code::Local(3)),
+                rest: Some(rest),
                 ..
             },
-            Linked,
-        ) => true,
+            Linked(octets),
+        ) => rest.as_slice() == octets,
         _ => false,
     }
 }
@@ -95,7 +101,7 @@ static LINKS: [Row; 1] = [(
     "an invocation of the operation 3 with the argument 7, linked to the invocation 1",
     Ber,
     &[0xA1, 0x0C, 2, 1, 1, 0x80, 1, 1, 2, 1, 3, 2, 1, 7],
-    Linked,
+    Linked(&[2, 1, 7]),
 )];
 
 #[test]
