@@ -240,6 +240,25 @@ fn a_sink_in_memory_keeps_what_was_written_before_a_failure(rt: HostRuntime) {
     assert!(rt; faults == 1);
 }
 
+/// Two calls in a row fail and write nothing, and the third takes two octets.
+#[test]
+fn a_sink_in_memory_fails_at_each_call_that_is_to(rt: HostRuntime) {
+    let mut out = MemSink::new(rt.alloc(), 2, failing(&rt, rt.alloc(), &[0, 1]));
+    let first = out.write(b"abc");
+    let second = out.write(b"abc");
+    let is_empty = out.written.len() == 0;
+    let third = out.write(b"abc");
+    let is_cut = out.written.as_slice() == b"ab".as_slice();
+    let faults = out.failing.faults;
+    drop(out);
+    assert!(rt; first == Err(SinkFault::Failed));
+    assert!(rt; second == Err(SinkFault::Failed));
+    assert!(rt; is_empty);
+    assert!(rt; third == Ok(2));
+    assert!(rt; is_cut);
+    assert!(rt; faults == 2);
+}
+
 #[test]
 fn a_sink_that_never_fails_keeps_all(rt: HostRuntime) {
     let mut out = SureSink::new(rt.alloc());
