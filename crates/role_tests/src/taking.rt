@@ -73,8 +73,11 @@ const INVOCATION: &'static [u8] = &[0xA1, 9, 2, 1, 1, 2, 1, 1, 2, 1, 5];
 
 const PACKED_INVOCATION: &'static [u8] = &[1, 1, 1, 0, 0, 1, 1, 1, 1, 5];
 
+/// The result of an operation without its code and its value.
+const EMPTY_RESULT: &'static [u8] = &[0xA2, 3, 2, 1, 1];
+
 /// Outcomes and rejects.
-static OUTCOMES: [Row; 7] = [
+static OUTCOMES: [Row; 8] = [
     Row {
         shows: "a result is handed up",
         open: ADD,
@@ -111,6 +114,16 @@ static OUTCOMES: [Row; 7] = [
         again: false,
         syntax: Ber,
         octets: OTHER_RESULT,
+        told: Reject(&[0xA4, 6, 2, 1, 1, 0x82, 1, 2]),
+        own: false,
+        peer: None,
+    },
+    Row {
+        shows: "a result that lacks its value closes its invocation",
+        open: ADD,
+        again: false,
+        syntax: Ber,
+        octets: EMPTY_RESULT,
         told: Reject(&[0xA4, 6, 2, 1, 1, 0x82, 1, 2]),
         own: false,
         peer: None,
