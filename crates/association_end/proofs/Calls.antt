@@ -42,7 +42,7 @@ use Rattle.association_end.specs.Called.{is_memory, Answered, nothing_made, made
 use Rattle.association_end.specs.Progress.{Keeps, DidOwn, BeganOwn, Answers}
 use Rattle.association_end.specs.Sound.{IsSoundEnd}
 use Rattle.association_end.specs.Changed.{AcceptedSo, RefusedSo, wants_memory, ChangedBy}
-use Rattle.association_end.specs.Reacted.{AllMayStand, with_body, sending}
+use Rattle.association_end.specs.OneMessage.{AllMayStand, with_body, sending}
 use Rattle.association_end.proofs.Histories.{body_after, same_base, stands_on, stepped_on, after_all-append}
 use Rattle.association_end.proofs.Sounds.{up_some, sound_body, sound_same}
 use Rattle.association_end.proofs.Sent.{waiting_with, sent_line}

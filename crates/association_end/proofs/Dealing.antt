@@ -12,10 +12,10 @@ use Rattle.association_line.specs.Reactions.{ReactionsAreSteps}
 use Rattle.association_reacting.specs.association_answers.declared.brought.Reaction.{Reaction}
 use Rattle.association_reacting.specs.association_answers.declared.brought.Reaction.TheVariants.{Passes, Takes, Fails}
 use Rattle.association_reacting.specs.association_answers.Reacted.{seen_messages}
-use Rattle.association_reacting.specs.Reacts.{ReactsAs}
+use Rattle.association_reacting.specs.SeenReaction.{ReactsAs}
 use Rattle.association_end.specs.View.{EndView, base}
-use Rattle.association_end.specs.Reacted as reacted
-use Rattle.association_end.specs.Reacted.{AllMayStand, with_body, with_line, with_came, sending, size_of_front, ReactsTo, ReactedTo, sent_for, IsOverFor, Settles, SettlesFor, Deals, TookFirst}
+use Rattle.association_end.specs.OneMessage as reacted
+use Rattle.association_end.specs.OneMessage.{AllMayStand, with_body, with_line, with_came, sending, size_of_front, ReactsTo, ReactedTo, sent_for, IsOverFor, Settles, SettlesFor, Deals, TookFirst}
 use Rattle.association_words.specs.declared.words.Message.{Message}
 use Rattle.association_meaning.specs.association_intake.declared.front.Front as fronts
 use Rattle.association_meaning.specs.association_intake.Seen.{seen_front}

@@ -18,8 +18,8 @@ use Rattle.association_line.specs.Feeding.{word_in, message_in, taking, failing,
 use Rattle.association_line.specs.Reactions.{ReactionsAreSteps, IsTaken, IsFailed}
 use Rattle.association_end.specs.View.{EndView, base}
 use Rattle.association_end.specs.Progress.{DealtWith, ReadAll, Goes, count_in, messages_left}
-use Rattle.association_end.specs.Reacted as reacted
-use Rattle.association_end.specs.Reacted.{Deals, TookFirst, with_body, with_line, with_came, sending, size_of_front}
+use Rattle.association_end.specs.OneMessage as reacted
+use Rattle.association_end.specs.OneMessage.{Deals, TookFirst, with_body, with_line, with_came, sending, size_of_front}
 use Rattle.association_end.specs.Sound.{IsMessage, AreMessages, HasMessages}
 use Rattle.association_end.proofs.Sent.{waiting_with, answered_all, aborted_all}
 

@@ -13,7 +13,7 @@ use Rattle.association_line.specs.Feeding.{Reads, is_over, Begins, nothing_read,
 use Rattle.association_end.specs.View.{EndView, base, Stepped}
 use Rattle.association_end.specs.Fed.{Fed, BeganFeed, DiedFed}
 use Rattle.association_end.specs.Progress.{Keeps, ReadsOn, DealtWith, ReadAll, BeganReading, DidOwn, BeganOwn}
-use Rattle.association_end.specs.Reacted.{with_came}
+use Rattle.association_end.specs.OneMessage.{with_came}
 use Rattle.association_end.proofs.Histories.{same_base, stands_on, stepped_on, after_all-append}
 
 pub reads_on_start : (e : EndView) (before : List Indication) → ReadsOn e e before before

@@ -22,7 +22,7 @@ use Rattle.association_line.specs.Feeding.{BeginsByItself, nothing_done, one_don
 use Rattle.association_line.specs.OwnActs.{left_to_do, OwnActsLessen}
 use Rattle.association_end.specs.View.{EndView, base, Stepped}
 use Rattle.association_end.specs.Progress.{Keeps, DidOne, RestsAt, DidOwn, BeganOwn}
-use Rattle.association_end.specs.Reacted.{with_body, sending}
+use Rattle.association_end.specs.OneMessage.{with_body, sending}
 use Rattle.association_end.proofs.Histories.{same_base, stepped_on, after_all-append}
 
 -- ---- what it sends by itself may be written

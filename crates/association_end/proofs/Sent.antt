@@ -9,7 +9,7 @@ use Rattle.association_writing.specs.Room.{MayStand}
 use Rattle.association_line.specs.Line.{End, Line, after, after_all, writes}
 use Rattle.association_line.specs.Reactions.{IsAnswer, AreAnswers}
 use Rattle.association_end.specs.View.{EndView}
-use Rattle.association_end.specs.Reacted.{all_written, AllMayStand, with_line, sending}
+use Rattle.association_end.specs.OneMessage.{all_written, AllMayStand, with_line, sending}
 
 -- what waits with these messages behind it
 abbrev pub waiting_with : Base → List Message → Line → Line

@@ -20,7 +20,7 @@ use Rattle.end_rules.specs.State.{Body, passes_over}
 use Rattle.association_line.specs.Line.{Line}
 use Rattle.association_meaning.specs.association_intake.declared.front.Front as fronts
 use Rattle.association_meaning.specs.association_intake.Seen.{TakesFirst}
-use Rattle.association_end.specs.Reacted.{with_body, with_line, with_came, TookFirst}
+use Rattle.association_end.specs.OneMessage.{with_body, with_line, with_came, TookFirst}
 
 -- ---- messages
 

@@ -30,10 +30,10 @@ use Rattle.association_meaning.specs.declared.basis.Halt.{Halt}
 use Rattle.association_meaning.specs.declared.basis.Halt.TheVariants as halts
 use Rattle.association_meaning.specs.Grounds.{FailsAs}
 use Rattle.association_reacting.specs.association_answers.declared.brought.Reaction as reactions
-use Rattle.association_reacting.specs.association_takes.Acts.{is_end}
+use Rattle.association_reacting.specs.association_takes.ActivityWords.{is_end}
 use Rattle.association_reacting.specs.ActivityEnds.{is_end_word}
-use Rattle.association_reacting.specs.Reacts.{ReactsAs}
-use Rattle.association_end.specs.Reacted.{ReactsTo}
+use Rattle.association_reacting.specs.SeenReaction.{ReactsAs}
+use Rattle.association_end.specs.OneMessage.{ReactsTo}
 
 module _ (b : Base) (body : Body) (unit : SessionWord) (start : ℕ) where
   abbrev in_its_place : Reaction

@@ -10,7 +10,7 @@ use Rattle.association_requests.specs.declared.call_outcome.CallOutcome.{CallOut
 use Rattle.association_requests.specs.Called.{sent_by}
 use Rattle.association_end.specs.View.{EndView, base}
 use Rattle.association_end.specs.Progress.{Keeps}
-use Rattle.association_end.specs.Reacted.{with_body}
+use Rattle.association_end.specs.OneMessage.{with_body}
 
 pub record AcceptedSo (old new : EndView) (call : Call) (called : CallOutcome) : Type 0 where
   pub answer : can_call (base old) old.end.body call ≡ Ok called.answer

@@ -7,7 +7,7 @@ ghost use Rattle.association_end.specs.Called.{is_memory, Answered, DiedCalled};
 ghost use Rattle.association_end.specs.Progress.{Answers};
 ghost use Rattle.association_requests.specs.Called.{sent_by};
 ghost use Rattle.association_end.specs.Changed.{wants_memory, ChangedBy};
-ghost use Rattle.association_end.specs.Reacted.{AllMayStand, sending};
+ghost use Rattle.association_end.specs.OneMessage.{AllMayStand, sending};
 
 use crate::end::End;
 use association_requests::{CallOutcome, make_call};

@@ -5,7 +5,7 @@ ghost use Rattle.osi_base.specs.Limits.{IsUnitSize, unit_least, named_most};
 ghost use Rattle.end_rules.specs.TakesTransport.{is_size, octets_of_size};
 ghost use Rattle.association_line.specs.Line as line;
 ghost use Rattle.association_meaning.specs.association_intake.Seen.{seen_front};
-ghost use Rattle.association_end.specs.Reacted.{size_of_front};
+ghost use Rattle.association_end.specs.OneMessage.{size_of_front};
 
 use association_meaning::association_intake_layer::Front;
 use association_words::TransportUnit;

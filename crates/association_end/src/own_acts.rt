@@ -9,7 +9,7 @@ ghost use Rattle.association_words.specs.Seen.{seen_message};
 ghost use Rattle.association_writing.specs.Room.{MayStand};
 ghost use Rattle.association_reacting.specs.association_state.Seen.{base_in, seen};
 ghost use Rattle.association_pieces.specs.Sending.{seen_queued, seen_transfer};
-ghost use Rattle.association_requests.specs.Acts.{seen_act};
+ghost use Rattle.association_requests.specs.OwnActs.{seen_act};
 ghost use Rattle.association_end.specs.View.{base, Stepped};
 ghost use Rattle.association_end.specs.Progress.{Keeps, OwnGoes, DidOwn, BeganOwn};
 

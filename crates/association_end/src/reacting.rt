@@ -5,7 +5,7 @@ ghost use Rattle.osi_base.specs.Limits.{IsUnitSize};
 ghost use Rattle.end_rules.specs.State.{passes_over};
 ghost use Rattle.association_meaning.specs.association_intake.Seen.{seen_front, IsPlaced, TakesFirst};
 ghost use Rattle.association_end.specs.Progress.{Keeps};
-ghost use Rattle.association_end.specs.Reacted.{TookFirst, ReactedTo, Deals, size_of_front};
+ghost use Rattle.association_end.specs.OneMessage.{TookFirst, ReactedTo, Deals, size_of_front};
 ghost use Rattle.association_end.specs.Seen.{came_in};
 ghost use Rattle.association_end.specs.Sound.{IsMessage, HasMessages};
 ghost use Rattle.association_line.specs.Line as line;

@@ -14,12 +14,12 @@ ghost use Rattle.association_line.specs.association_reading.Reacting as rules;
 ghost use Rattle.association_meaning.specs.association_intake.Seen.{seen_front, HasUserPlaces, IsPlaced};
 ghost use Rattle.association_words.specs.Seen.{seen_word, seen_activities, seen_fault, seen_value, seen_arrived};
 ghost use Rattle.association_reacting.specs.association_state.Seen.{base_in, seen};
-ghost use Rattle.association_reacting.specs.association_takes.Acts.{is_end};
+ghost use Rattle.association_reacting.specs.association_takes.ActivityWords.{is_end};
 ghost use Rattle.association_meaning.specs.declared.basis.Halt.TheVariants as halts;
 ghost use Rattle.association_meaning.specs.Grounds.{GivesAs};
 ghost use Rattle.association_reacting.specs.ActivityEnds.{is_end_word, ArrivesAs};
-ghost use Rattle.association_reacting.specs.Reacts.{ReactsAs};
-ghost use Rattle.association_end.specs.Reacted.{ReactsTo};
+ghost use Rattle.association_reacting.specs.SeenReaction.{ReactsAs};
+ghost use Rattle.association_end.specs.OneMessage.{ReactsTo};
 ghost use Rattle.association_end.specs.Sound.{IsMessage};
 
 use association_meaning::association_codecs_layer::Codecs;

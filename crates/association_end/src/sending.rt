@@ -5,7 +5,7 @@ ghost use Rattle.osi_base.specs.Limits.{IsUnitSize};
 ghost use Rattle.association_words.specs.Seen.{seen_message};
 ghost use Rattle.association_reacting.specs.association_answers.Reacted.{seen_messages};
 ghost use Rattle.association_writing.specs.Room.{MayStand};
-ghost use Rattle.association_end.specs.Reacted.{all_written, AllMayStand, sending};
+ghost use Rattle.association_end.specs.OneMessage.{all_written, AllMayStand, sending};
 
 use crate::end::End;
 use association_meaning::association_codecs_layer::Codecs;

@@ -6,7 +6,7 @@ ghost use Rattle.dialogue.specs.declared.indication.Indication.{Indication};
 ghost use Rattle.end_rules.specs.State.{passes_over};
 ghost use Rattle.association_reacting.specs.association_answers.Reacted.{seen_messages};
 ghost use Rattle.association_end.specs.Progress.{Keeps};
-ghost use Rattle.association_end.specs.Reacted.{AllMayStand, sent_for, IsOverFor, SettlesFor, Settles, sending, with_line, with_came};
+ghost use Rattle.association_end.specs.OneMessage.{AllMayStand, sent_for, IsOverFor, SettlesFor, Settles, sending, with_line, with_came};
 
 use crate::end::End;
 use association_reacting::association_answers_layer::{Brought, Messages, Reaction};

@@ -21,8 +21,8 @@ use Rattle.association_connecting.specs.association_answers.declared.brought.Bro
 use Rattle.association_connecting.specs.association_answers.declared.brought.Reaction.{Reaction}
 use Rattle.association_connecting.specs.association_answers.declared.brought.Reaction.TheVariants as reaction
 use Rattle.association_connecting.specs.association_answers.Reacted.{TakenAs, FailsAs}
-use Rattle.association_takes.specs.Acts.{is_end}
-use Rattle.association_reacting.specs.Reacts.{TakesSo, ReactsAs}
+use Rattle.association_takes.specs.ActivityWords.{is_end}
+use Rattle.association_reacting.specs.SeenReaction.{TakesSo, ReactsAs}
 
 -- ---- small things
 

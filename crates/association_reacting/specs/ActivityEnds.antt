@@ -8,7 +8,7 @@ use Rattle.association_words.specs.declared.faults.Fault.{Fault}
 use Rattle.association_words.specs.declared.values.Value.{Value}
 use Rattle.association_words.specs.Seen.{seen_fault, seen_value}
 use Rattle.association_connecting.specs.association_sends.Due.{listed}
-use Rattle.association_takes.specs.Acts.{is_end}
+use Rattle.association_takes.specs.ActivityWords.{is_end}
 
 abbrev pub is_end_word : Word → Bool
 is_end_word (OfActivities word) = is_end word

@@ -1,5 +1,5 @@
 pub mod ActivityEnds
-pub mod Reacts
+pub mod SeenReaction
 pub use Rattle.association_connecting.specs.association_answers as association_answers
 pub use Rattle.association_connecting.specs.association_sends as association_sends
 pub use Rattle.association_place.specs.association_state as association_state

@@ -7,7 +7,7 @@ ghost use Rattle.end_rules.specs.Messages.{End as rule_end, OfActivities, Sessio
 ghost use Rattle.end_rules.specs.Reacting.{on_word, word_fault, react_to_word, react};
 ghost use Rattle.association_place.specs.association_state.Seen.{base_in, seen};
 ghost use Rattle.association_reacting.specs.ActivityEnds.{ArrivesAs};
-ghost use Rattle.association_reacting.specs.Reacts.{ReactsAs};
+ghost use Rattle.association_reacting.specs.SeenReaction.{ReactsAs};
 
 use crate::faults::{fails_on_accepted, has_connection};
 use association_connecting::association_answers_layer::Reaction;

@@ -6,7 +6,7 @@ ghost use Rattle.association_place.specs.association_reading.Reacting.{has_conne
 ghost use Rattle.association_words.specs.Seen.{seen_fault, seen_word};
 ghost use Rattle.association_place.specs.association_state.Seen.{base_in, seen};
 ghost use Rattle.association_reacting.specs.ActivityEnds.{is_end_word};
-ghost use Rattle.association_reacting.specs.Reacts.{ReactsAs};
+ghost use Rattle.association_reacting.specs.SeenReaction.{ReactsAs};
 
 use association_connecting::association_answers_layer::{Reaction, fail_association};
 use association_connecting::association_fault;

@@ -7,7 +7,7 @@ ghost use Rattle.end_rules.specs.Reacting.{react_to_word, react_to_transport, re
 ghost use Rattle.association_words.specs.Seen.{seen_message, seen_word, seen_transport};
 ghost use Rattle.association_place.specs.association_state.Seen.{base_in, seen};
 ghost use Rattle.association_reacting.specs.ActivityEnds.{is_end_word, is_end_message};
-ghost use Rattle.association_reacting.specs.Reacts.{ReactsAs};
+ghost use Rattle.association_reacting.specs.SeenReaction.{ReactsAs};
 
 use crate::faults::{fails_on_accepted, has_connection};
 use crate::taking::take_or_fail;

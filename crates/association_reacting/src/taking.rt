@@ -6,7 +6,7 @@ ghost use Rattle.association_words.specs.Seen.{seen_fault, seen_word};
 ghost use Rattle.association_place.specs.association_state.Seen.{base_in, seen};
 ghost use Rattle.association_connecting.specs.association_answers.Reacted.{TakenAs};
 ghost use Rattle.association_reacting.specs.ActivityEnds.{is_end_word};
-ghost use Rattle.association_reacting.specs.Reacts.{ReactsAs};
+ghost use Rattle.association_reacting.specs.SeenReaction.{ReactsAs};
 
 use crate::faults::word_fault;
 use association_connecting::association_answers_layer::{Brought, Reaction, fail_association};

@@ -6,7 +6,7 @@ ghost use Rattle.end_rules.specs.Messages.{OfMarks, OfActivities, Session, Mark,
 ghost use Rattle.end_rules.specs.ByItself.{SendsNow, encodes_on, leads, part_size, is_window_full, left_of, next_of, next_start, next_in, next_own};
 ghost use Rattle.association_pieces.specs.Sending.{seen_encoded, seen_transfer};
 ghost use Rattle.association_hearing.specs.association_state.Seen.{base_in, seen};
-ghost use Rattle.association_requests.specs.Acts.{seen_act};
+ghost use Rattle.association_requests.specs.OwnActs.{seen_act};
 
 use association_ground::{is_reliable, is_up};
 use association_hearing::association_calls_layer::carrier_in;

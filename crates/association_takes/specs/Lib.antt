@@ -1,2 +1,2 @@
 pub mod Pleas
-pub mod Acts
+pub mod ActivityWords

@@ -8,7 +8,7 @@ ghost use Rattle.end_rules.specs.TakesActivities.{handed_up, invocation_in, cut_
 ghost use Rattle.end_rules.specs.Faults.{losses};
 ghost use Rattle.end_rules.specs.Hearing.{take_values};
 ghost use Rattle.association_hearing.specs.ValuesTaken.{TookAs};
-ghost use Rattle.association_takes.specs.Acts.{is_end, invocation_of};
+ghost use Rattle.association_takes.specs.ActivityWords.{is_end, invocation_of};
 ghost use Rattle.association_words.specs.Seen.{seen_message, seen_activities, seen_value};
 ghost use Rattle.association_pieces.specs.Seen.{seen_receiving};
 ghost use Rattle.association_hearing.specs.association_state.Seen.{base_in, seen};

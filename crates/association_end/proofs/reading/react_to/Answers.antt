@@ -5,7 +5,7 @@ use Rattle.association_meaning.specs.association_intake.declared.front.Front.{Fr
 use Rattle.association_meaning.specs.association_intake.Seen.{seen_front, IsPlaced}
 use Rattle.association_words.specs.Seen.{seen_transport}
 use Rattle.association_reacting.specs.association_state.Seen.{base_in, seen}
-use Rattle.association_end.specs.Reacted.{ReactsTo}
+use Rattle.association_end.specs.OneMessage.{ReactsTo}
 use Rattle.association_end.specs.Sound.{IsMessage}
 use Rattle.association_end.proofs.Units.{transport_reacts, unit_reacts, fault_reacts}
 use Rattle.association_end.proofs.reading.react_to.Goals as goal

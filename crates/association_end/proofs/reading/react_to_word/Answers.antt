@@ -3,7 +3,7 @@ use Rattle.std.specs.Prelude.{IfOk}
 use Rattle.end_rules.specs.Messages.{Word, Session}
 use Rattle.end_rules.specs.Reacting.{react}
 use Rattle.association_reacting.specs.association_state.Seen.{base_in, seen}
-use Rattle.association_reacting.specs.Reacts.{ReactsAs}
+use Rattle.association_reacting.specs.SeenReaction.{ReactsAs}
 use Rattle.association_end.proofs.reading.react_to_word.Goals as goal
 
 pub returns-in_ok-arrived-in-Some : goal.returns-in_ok-arrived-in-Some

@@ -1,6 +1,6 @@
 use Rattle.std.proofs.Common.{◌≡◌, ◌++◌, drop, map}
 use Rattle.association_words.specs.Seen.{seen_message}
-use Rattle.association_end.specs.Reacted.{all_written, AllMayStand}
+use Rattle.association_end.specs.OneMessage.{all_written, AllMayStand}
 use Rattle.association_end.proofs.sending.write_all.Given as goal
 
 abbrev pub invariant-loop-message : goal.invariant-loop-message

@@ -3,7 +3,7 @@ use Rattle.association_words.specs.declared.words.Message.{Message}
 use Rattle.end_rules.specs.State.{passes_over}
 use Rattle.association_reacting.specs.association_answers.Reacted.{seen_messages}
 use Rattle.association_end.specs.View.{EndView}
-use Rattle.association_end.specs.Reacted.{AllMayStand}
+use Rattle.association_end.specs.OneMessage.{AllMayStand}
 use Rattle.association_end.proofs.Inside.{view_in}
 use Rattle.association_end.proofs.Sounds.{sound_deaf}
 use Rattle.association_end.proofs.Dealing.{on_err, kept_same, aborted_so}

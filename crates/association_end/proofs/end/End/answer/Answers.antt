@@ -2,7 +2,7 @@ use Rattle.std.proofs.Common.{List, sym, subst}
 use Rattle.std.proofs.lemmas.Result.{on_ok_weaker, on_err_weaker}
 use Rattle.association_words.specs.declared.words.Message.{Message}
 use Rattle.association_reacting.specs.association_answers.Reacted.{seen_messages}
-use Rattle.association_end.specs.Reacted.{AllMayStand}
+use Rattle.association_end.specs.OneMessage.{AllMayStand}
 use Rattle.association_end.proofs.Inside.{view_in}
 use Rattle.association_end.proofs.Sounds.{sound_size}
 use Rattle.association_end.proofs.Dealing.{settled_so, kept_sized}

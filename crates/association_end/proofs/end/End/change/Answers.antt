@@ -4,7 +4,7 @@ use Rattle.end_rules.specs.State.{Body}
 use Rattle.association_reacting.specs.association_state.Seen.{seen}
 use Rattle.association_end.specs.View.{EndView}
 use Rattle.association_end.specs.Changed.{ChangedBy}
-use Rattle.association_end.specs.Reacted.{with_body}
+use Rattle.association_end.specs.OneMessage.{with_body}
 use Rattle.association_end.proofs.Inside.{view_in}
 use Rattle.association_end.proofs.Sounds.{sound_over}
 use Rattle.association_end.proofs.Dealing.{kept_line}

@@ -5,7 +5,7 @@ use Rattle.end_rules.specs.State.{Link}
 use Rattle.end_rules.specs.History.{encoded}
 use Rattle.association_reacting.specs.association_state.Seen.{seen}
 use Rattle.association_end.specs.View.{EndView, Stepped}
-use Rattle.association_end.specs.Reacted.{with_body}
+use Rattle.association_end.specs.OneMessage.{with_body}
 use Rattle.association_end.proofs.Inside.{view_in}
 use Rattle.association_end.proofs.Sounds.{sound_same}
 use Rattle.association_end.proofs.Dealing.{on_err, kept_line}

@@ -4,7 +4,7 @@ use Rattle.association_line.specs.association_reading.Front.{Intake}
 use Rattle.association_end.specs.View.{EndView, Stepped}
 use Rattle.association_end.specs.Seen.{came_in}
 use Rattle.association_end.specs.Sound.{HasMessages}
-use Rattle.association_end.specs.Reacted.{with_came}
+use Rattle.association_end.specs.OneMessage.{with_came}
 use Rattle.association_end.proofs.Inside.{view_in}
 use Rattle.association_end.proofs.Sounds.{sound_deaf, sound_fed, sound_lost}
 use Rattle.association_end.proofs.Feeds.{kept_over, kept_up}

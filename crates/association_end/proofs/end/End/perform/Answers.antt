@@ -4,7 +4,7 @@ use Rattle.end_rules.specs.ByItself.{SendsNow, next_own}
 use Rattle.end_rules.specs.History.{step_of}
 use Rattle.association_words.specs.Seen.{seen_message}
 use Rattle.association_requests.specs.declared.own_messages.OwnAct.{OwnAct}
-use Rattle.association_requests.specs.Acts.{seen_act}
+use Rattle.association_requests.specs.OwnActs.{seen_act}
 use Rattle.association_end.specs.View.{base, Stepped}
 use Rattle.association_end.proofs.Own.{own_up, sends_stand}
 use Rattle.association_end.proofs.end.End.perform.Goals as goal

@@ -5,7 +5,7 @@ use Rattle.association_meaning.specs.association_intake.Seen.{seen_front}
 use Rattle.association_reacting.specs.association_state.Seen.{seen}
 use Rattle.association_end.specs.View.{EndView}
 use Rattle.association_end.specs.Progress.{Keeps}
-use Rattle.association_end.specs.Reacted.{ReactedTo, with_body}
+use Rattle.association_end.specs.OneMessage.{ReactedTo, with_body}
 use Rattle.association_end.proofs.Inside.{view_in}
 use Rattle.association_end.proofs.Sounds.{up_some, sound_body}
 use Rattle.association_end.proofs.Dealing.{on_err, reacted_so}

@@ -3,7 +3,7 @@ use Rattle.std.specs.Prelude.{OnOk, option_map}
 use Rattle.association_words.specs.declared.words.Message.{Message}
 use Rattle.association_words.specs.Seen.{seen_message}
 use Rattle.association_reacting.specs.association_sends.Due.{listed}
-use Rattle.association_end.specs.Reacted.{AllMayStand, sending}
+use Rattle.association_end.specs.OneMessage.{AllMayStand, sending}
 use Rattle.association_end.proofs.Sent.{sent_nothing}
 use Rattle.association_end.proofs.end.End.send_due.Goals as goal
 

@@ -3,7 +3,7 @@ use Rattle.end_rules.specs.State.{passes_over}
 use Rattle.association_end.specs.View.{EndView}
 use Rattle.association_end.specs.Seen.{came_in}
 use Rattle.association_end.specs.Sound.{HasMessages}
-use Rattle.association_end.specs.Reacted.{TookFirst, with_came}
+use Rattle.association_end.specs.OneMessage.{TookFirst, with_came}
 use Rattle.association_end.proofs.Inside.{view_in}
 use Rattle.association_end.proofs.Sounds.{up_some, took_first, sound_took}
 use Rattle.association_end.proofs.end.End.take_front.Goals as goal

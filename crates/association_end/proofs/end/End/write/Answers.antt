@@ -1,6 +1,6 @@
 use Rattle.std.proofs.Common.{[], ◌∷◌, ap, ◌∙◌}
 use Rattle.association_words.specs.Seen.{seen_message}
-use Rattle.association_end.specs.Reacted.{sending}
+use Rattle.association_end.specs.OneMessage.{sending}
 use Rattle.association_end.proofs.Inside.{view_in}
 use Rattle.association_end.proofs.Sounds.{sound_waiting}
 use Rattle.association_end.proofs.Sent.{sent_one, sent_none}
