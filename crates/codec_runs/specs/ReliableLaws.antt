@@ -69,8 +69,8 @@ ReliableRunsHaveOneHolder = EverInRuns (λ ends w. AtEachMoment (OneHolder ends)
 
 -- all of them: each message that is taken is the one that was sent in its place, each of its values read under the pair that the shared
 -- set gave its identifier at its sending; of the whole transcript each invocation is told once and gets at most one outcome, which its
--- operation has and which the other end gave; each transfer arrives whole, at most once; no end aborts of itself, and none is dead; an end that isn't over
--- took each message whose last octet was given to it, and no other, and less than a message is left
+-- operation has and which the other end gave; each transfer arrives whole, at most once; no end aborts of itself, and none is dead; an end
+-- that isn't over took each message whose last octet was given to it, and no other, and less than a message is left
 abbrev pub ReliableRunsKeepLaws : Type 0
 ReliableRunsKeepLaws =
     (tables : Tables) (a b : Config) → AreReliable tables a b → (all : List Event) (told : List Entry) (w : World) → AreEvents all → Runs (ends_of tables a b) [] all told w →
