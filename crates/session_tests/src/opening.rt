@@ -15,11 +15,14 @@ use std::alloc::Global;
 use std::test::*;
 
 const RELEASED: [Step; 8] = [
+    // 7.4: the ACCEPT came, and the token is at the initiator
     Is(A, Phase(SessionPhase::Up)),
     Turn(true, false),
+    // 7.6: A waits for the answer, which B owes
     Passes(A, Finish),
     Is(A, Phase(SessionPhase::Releasing)),
     Is(B, Owes(Owed::Release)),
+    // 7.7: with the answer it is over at both ends
     Passes(B, Disconnect),
     Is(A, Phase(SessionPhase::Over)),
     Is(B, Phase(SessionPhase::Over)),
@@ -51,17 +54,23 @@ fn may_be_accepted(alloc: Global, reliable: bool, asked: Asked) -> bool {
     may_be
 }
 
+/// 5.9: what needs a functional unit that isn't selected is refused, and out of place.
 const DUPLEX_ALONE: [Step; 6] = [
+    // an alteration of contexts goes as typed data
     NoAlteration(B, SessionRefusal::NotNegotiated),
+    // a mark needs minor synchronize
     Refused(A, Mark(1), SessionRefusal::NotNegotiated),
+    // a restart needs resynchronize
     Refused(A, Restart(1), SessionRefusal::NotNegotiated),
+    // without minor synchronize there is no minor token
     Refused(A, Give(Some(4)), SessionRefusal::NotNegotiated),
-    // its unit isn't selected
+    // a restart that comes needs resynchronize too
     OutOfPlace(B, Restart(1)),
+    // data need none beside duplex
     Passes(A, Data),
 ];
 
-/// A client that wants duplex alone, 0002: no marks, no restarts, no alterations.
+/// A client that wants duplex alone, 0002 (8.3.1): no marks, no restarts, no alterations.
 #[test]
 fn a_client_of_duplex_alone(rt: HostRuntime) {
     assert!(rt; may_be_accepted(rt.alloc(), false, (0x0002, Some(2), None, None)));
@@ -71,7 +80,8 @@ fn a_client_of_duplex_alone(rt: HostRuntime) {
     drop(both);
 }
 
-/// What each row shows, the mode, what is asked, and whether it is acceptable.
+/// What each row shows, the mode, what is asked, and whether it is acceptable. 8.3.1 has the bits
+/// of the parameters; which of them an end accepts is the profile's (`is_acceptable` of `Units`).
 const CONNECTS: [(&'static str, bool, Asked, bool); 7] = [
     (
         "the requirements of reliable mode",
@@ -123,7 +133,9 @@ fn what_a_connect_must_say(rt: HostRuntime) {
 }
 
 const REFUSAL: [Step; 4] = [
+    // the requirements of direct mode, in reliable mode
     Passes(A, Connect(0x042A)),
+    // 7.5: with the answer it is over at both ends
     Passes(B, Refuse),
     Is(A, Phase(SessionPhase::Over)),
     Is(B, Phase(SessionPhase::Over)),
@@ -137,11 +149,13 @@ fn a_refusal_ends_it(rt: HostRuntime) {
 }
 
 const LACKING: [Step; 4] = [
+    // 7.1: A asks, and waits for the answer
     Loses(A, Connect(0x0449), 1),
-    // activity management lacks, and then the version
+    // profile: an ACCEPT without 0040, activity management, without which the mode can't work
     OutOfPlace(A, Accept(0x0409)),
+    // profile: an ACCEPT without a version, where 2 is needed
     OutOfPlace(A, BareAccept(0x0449)),
-    // nothing stands yet
+    // 7.11: data, where no association stands yet
     OutOfPlace(A, Data),
 ];
 
@@ -152,8 +166,10 @@ fn an_accept_that_lacks_a_unit(rt: HostRuntime) {
     drop(both);
 }
 
+/// Profile: where no CONNECT was sent or taken, no unit is sent.
 const EARLY_ABORT: [Step; 2] = [Loses(A, Abort, 0), Is(A, Phase(SessionPhase::Over))];
 
+/// 7.9: it is over at both ends.
 const LATE_ABORT: [Step; 3] = [
     Passes(A, Abort),
     Is(A, Phase(SessionPhase::Over)),
@@ -169,15 +185,19 @@ fn aborts(rt: HostRuntime) {
     go_direct(&rt, rt.alloc(), &LATE_ABORT);
 }
 
+/// The phases are those of the profile (`SessionPhase`).
 const INITIATOR: [Step; 6] = [
+    // nothing was asked yet, and nothing is lost
     Breaks(A),
     Is(A, Phase(SessionPhase::Idle)),
+    // a transport connection was asked for, and breaks before a CONNECT
     Connects(A),
     Is(A, Phase(SessionPhase::Opening)),
     Breaks(A),
     Is(A, Phase(SessionPhase::Over)),
 ];
 
+/// The transport connection is refused.
 const RESPONDER: [Step; 3] = [Connects(B), Denied(B), Is(B, Phase(SessionPhase::Over))];
 
 #[test]

@@ -14,7 +14,8 @@ use osi_base::Side;
 use session_subset::{Progress, SessionPhase, SessionRefusal};
 use std::test::*;
 
-/// A transfer of three chunks with two marks at a time, up to its end, which isn't answered.
+/// A transfer of three chunks with two marks at a time, up to its end, which isn't answered: 7.29,
+/// 7.11, 7.20, 7.21 and 7.35, with the numbers that are due.
 const TRANSFER: [Step; 8] = [
     Passes(A, Start(1)),
     Passes(A, Data),
@@ -26,26 +27,35 @@ const TRANSFER: [Step; 8] = [
     Passes(A, End(3)),
 ];
 
-/// The connection breaks, and A recovers the association on a new one.
+/// The connection breaks, and A recovers the association on a new one. The phases are those of the
+/// profile (`SessionPhase`).
 const RECOVERY: [Step; 10] = [
+    // the association stays
     Breaks(A),
     Breaks(B),
     Is(A, Phase(SessionPhase::Broken)),
+    // a new transport connection: A recovers, and B waits for the CONNECT
     Connects(A),
     Connects(B),
     Is(A, Phase(SessionPhase::Recovering)),
     Is(B, Phase(SessionPhase::Broken)),
+    // 7.1, 7.4: it is opened as any other
     Passes(A, Connect(0x0449)),
     Passes(B, Accept(0x0449)),
     Is(B, Phase(SessionPhase::Up)),
 ];
 
 const AT_THE_END: [Step; 6] = [
+    // profile: behind its end an activity isn't interrupted
     Refused(A, Interrupt, SessionRefusal::Ending(1)),
+    // profile: and A alters no contexts until the end is answered
     NoAlteration(A, SessionRefusal::Ending(1)),
+    // profile: a mark may be confirmed behind the end
     Passes(B, MarkAck(2)),
+    // 7.36: the answer has the number of the end, and the activity is no more
     Passes(B, EndAck(3)),
     Is(A, Own(Progress::Absent)),
+    // 7.29: another may start
     Passes(A, Start(2)),
 ];
 
@@ -63,17 +73,20 @@ const BEFORE_A_BREAK: [Step; 8] = [
     Passes(A, Mark(1)),
     Passes(A, Data),
     Passes(A, Mark(2)),
-    // 1 is the lowest
+    // profile: marks are confirmed one after the other, and 1 is the lowest
     OutOfPlace(A, MarkAck(2)),
     Passes(B, MarkAck(1)),
+    // 7.35, 6.3.7: an ACTIVITY END behind an empty GIVE TOKENS, which makes two units
     Loses(A, End(3), 2),
 ];
 
 const AFTER_A_BREAK: [Step; 9] = [
+    // profile: the activity stays at A, and its marks at B
     Is(A, Own(Progress::Suspended)),
     Is(B, Kept(2)),
-    // that mark isn't kept
+    // profile: a resumption at the mark 3, where B keeps 1 and 2
     OutOfPlace(B, Resume(1, 3)),
+    // 7.30: at 1, behind which the marks and the end come again
     Passes(A, Resume(1, 1)),
     Passes(A, Data),
     Passes(A, Mark(2)),
@@ -128,17 +141,23 @@ fn a_completed_activity_is_resumed(rt: HostRuntime) {
     drop(both);
 }
 
+/// 7.18: a GIVE TOKENS CONFIRM stands alone, and the turn is on its way.
 const TURN_LOST: [Step; 2] = [Loses(A, GiveAll, 1), Turn(false, false)];
 
 const TURN_GIVEN: [Step; 8] = [
+    // profile: after a recovery the turn is at the initiator
     Turn(true, false),
+    // 7.18: B has no turn to give
     Refused(B, GiveAll, SessionRefusal::NoTurn),
+    // 7.18: A gives it, and B has it before it answers
     Passes(A, GiveAll),
     Is(A, Gives),
     Turn(false, true),
+    // 7.19: the answer
     Passes(B, GiveAllAck),
-    // it is answered
+    // 7.19: a second answer, where the giving was answered
     OutOfPlace(A, GiveAllAck),
+    // 7.18: B gives the turn back
     Passes(B, GiveAll),
 ];
 
@@ -162,11 +181,16 @@ const BEFORE_AN_INTERRUPT: [Step; 6] = [
 ];
 
 const INTERRUPTED: [Step; 7] = [
+    // 7.32: the answer; the confirmation that came before it doesn't count
     Passes(B, InterruptAck),
     Is(A, Confirmed(1)),
+    // profile: no other activity starts while one is suspended
     Refused(A, Start(2), SessionRefusal::ActivityOpen(1)),
+    // profile: nor is the association released
     Refused(A, Finish, SessionRefusal::ActivityOpen(1)),
+    // 7.31: nothing is in progress
     Refused(A, Interrupt, SessionRefusal::NoActivity),
+    // 7.30, 7.20: it goes on from the mark that was confirmed
     Passes(A, Resume(1, 1)),
     Passes(A, Mark(2)),
 ];
@@ -197,15 +221,20 @@ fn an_interrupt(rt: HostRuntime) {
 
 /// A discarded transfer is forgotten; its number stays.
 const DISCARDED: [Step; 10] = [
+    // a transfer with a mark that is confirmed
     Passes(A, Start(1)),
     Passes(A, Data),
     Passes(A, Mark(1)),
     Passes(B, MarkAck(1)),
+    // 7.33: B drops its marks; profile: its number stays
     Passes(A, Discard),
     Is(B, Peer(1)),
     Is(B, Kept(0)),
+    // 7.34: the answer
     Passes(B, DiscardAck),
+    // 7.30: what was discarded isn't resumed
     Refused(A, Resume(1, 0), SessionRefusal::NotSuspended),
+    // profile: the next activity has the next number
     Passes(A, Start(2)),
 ];
 
@@ -214,22 +243,31 @@ fn a_discard(rt: HostRuntime) {
     go_reliable(&rt, rt.alloc(), &DISCARDED);
 }
 
+/// Of an association in which A has the turn and nothing was started yet.
 const TURNS: [Step; 12] = [
+    // 7.29: B would start an activity without the turn
     Refused(B, Start(1), SessionRefusal::NoTurn),
+    // 7.11: and send data without it
     Refused(B, Data, SessionRefusal::NoTurn),
+    // profile: data go in an activity alone, and A has none
     Refused(A, Data, SessionRefusal::NoActivity),
+    // profile: an alteration of contexts asks for the turn too
     NoAlteration(B, SessionRefusal::NoTurn),
-    // A has the turn
+    // 7.29: an activity of B, where A has the turn
     OutOfPlace(A, Start(1)),
-    // no activity is in progress
+    // profile: data of A, where none of its activities is in progress
     OutOfPlace(B, Data),
+    // 7.29: A, which has the turn, starts one
     Passes(A, Start(1)),
+    // 7.18: in an activity the turn isn't given
     Refused(A, GiveAll, SessionRefusal::ActivityOpen(1)),
+    // 7.18: nor taken
     OutOfPlace(B, GiveAll),
-    // one is in progress
+    // 7.29: a second activity, where the first is in progress
     OutOfPlace(B, Start(2)),
-    // there is no mark
+    // 7.21: the confirmation of a mark, where A set none
     OutOfPlace(A, MarkAck(1)),
+    // 7.6: a release, where an activity is in progress
     OutOfPlace(B, Finish),
 ];
 
