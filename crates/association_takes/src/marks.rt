@@ -1,4 +1,4 @@
-//! Marks, restarts and tokens (X.225 7.14 to 7.25; what is restored is this project's own rule).
+//! Marks, restarts and tokens (X.225 7.16 to 7.25; what is restored is this project's own rule).
 
 ghost use Rattle.std.specs.Prelude.{◌≡◌, IfOk, OnOk, Some, option_map, true, false, [], ◌∷◌};
 ghost use Rattle.dialogue.specs.declared.indication.Indication.TheVariants as indications;

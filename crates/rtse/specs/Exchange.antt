@@ -1,4 +1,4 @@
--- One transfer between two ends, through breaks and resumptions (X.228 7.4, 7.5, 8.2).
+-- One transfer between two ends, through breaks and resumptions (X.228 7, 8.2).
 use Rattle.std.specs.Prelude.{◌≡◌, ℕ, ◌+◌, List, [], ◌∷◌, ◌++◌, false, true, Result, Ok, Err}
 use Rattle.rtse.specs.declared.fault.RtseFault.{RtseFault}
 use Rattle.rtse.specs.declared.outgoing.Step.{Step}

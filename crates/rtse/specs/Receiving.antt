@@ -1,4 +1,4 @@
--- What an end keeps of the other end's transfers (X.228 7.4, 8.2).
+-- What an end keeps of the other end's transfers (X.228 7.3, 8.2).
 use Rattle.std.specs.Prelude.{◌≡◌, ℕ, ◌+◌, ◌-◌, ◌<◌, ◌≤◌, ◌==◌, ◌&&◌, nat_lt, nat_le, Bool, true, false, List, [], ◌∷◌, ◌++◌, length, take, if◌then◌else◌, Result, Ok, Err, slice_index, ◌⊎◌, ◌^◌}
 use Rattle.osi_base.specs.Limits.{most_transferred}
 use Rattle.rtse.specs.declared.fault.RtseFault.{RtseFault}

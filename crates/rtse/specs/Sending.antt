@@ -1,4 +1,4 @@
--- What an end gives of a transfer (X.228 7.4, 8.2): chunks, each but the last with a mark behind it, and the end.
+-- What an end gives of a transfer (X.228 7.3, 8.2): chunks, each but the last with a mark behind it, and the end.
 use Rattle.std.specs.Prelude.{◌≡◌, ℕ, ◌+◌, ◌-◌, ◌*◌, ◌<◌, ◌≤◌, ◌==◌, ◌||◌, nat_le, Bool, true, false, List, length, take, drop, if◌then◌else◌, IsTrue, ◌≢◌}
 use Rattle.osi_base.specs.Limits.{most_transferred, last_activity, most_checkpoint, most_window, checkpoint_unit}
 use Rattle.rtse.specs.declared.outgoing.Step.{Step}

@@ -21,7 +21,7 @@ pub enum Ended {
 }
 
 /// The record of the other end's last activity: its number, the octets that came, how many there
-/// were at each mark, and whether the transfer was handed up (X.228 7.4, 8.2). It keeps at most
+/// were at each mark, and whether the transfer was handed up (X.228 7.3, 8.2). It keeps at most
 /// 262,400 octets.
 #[derive(Debug, Drop)]
 pub struct Incoming {

@@ -24,7 +24,7 @@ pub enum Step {
 
 /// A transfer that is sent: its octets are given in chunks of the checkpoint times 1,024 octets,
 /// in one where the checkpoint is 0. A mark follows each chunk but the last, behind which the end
-/// stands; at most as many marks as the window are unconfirmed (X.228 7.4).
+/// stands; at most as many marks as the window are unconfirmed (X.228 7.3).
 #[derive(Debug, Drop)]
 pub struct Outgoing {
     alloc: Global,

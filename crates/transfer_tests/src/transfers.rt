@@ -1,5 +1,5 @@
 //! Worked transfers: 3,000 octets with checkpoint 1 and window 2, as a value of 2,975 octets is.
-//! What is given and taken follows from X.228 7.4: a checkpoint of 1 makes chunks of 1,024 octets,
+//! What is given and taken follows from X.228 7.3: a checkpoint of 1 makes chunks of 1,024 octets,
 //! so 1,024, 1,024 and 952, with a mark behind each but the last; a window of 2 lets two marks be
 //! unconfirmed; numbers rise by one. Comments name the session unit of a step with its section of
 //! X.225. 'Profile' there says that the rule stands so in this project's profile: the definitions
