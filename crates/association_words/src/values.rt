@@ -31,11 +31,13 @@ pub type UserInformation = ListOf<Information>;
 /// What a presentation data value is.
 #[derive(Debug, Drop)]
 pub enum ValueContent {
-    /// An APDU of remote operations, and the place in the module's tables where the operation or
-    /// the error with its code was found as it was read, if it was. What hears it compares the
-    /// codes before it takes that place.
+    /// An APDU of remote operations (X.882).
     Remote {
+        /// The APDU.
         apdu: Apdu,
+        /// The place, from 0, in the module's table of operations, or of errors for an error, where
+        /// its code was found as it was read, if it was. What hears the APDU compares the codes
+        /// before it takes that place.
         place: Option<u32>,
     },
     /// Octets of the module's abstract syntax that spell no APDU.
@@ -85,9 +87,11 @@ pub struct TransferItem {
 /// What a transfer holds.
 #[derive(Debug, Drop)]
 pub enum Arrived {
-    /// An APDU, and the place as in `ValueContent::Remote`.
+    /// An APDU of remote operations.
     Whole {
+        /// The APDU with its context, and the pair under which it was read.
         item: TransferItem,
+        /// The place where its code was found, as in `ValueContent::Remote`.
         place: Option<u32>,
     },
     /// Octets on a context of the module that spell none.
