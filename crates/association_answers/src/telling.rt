@@ -6,7 +6,7 @@ ghost use Rattle.end_rules.specs.Sets.{Alteration as rule_alteration};
 ghost use Rattle.end_rules.specs.Faults.{cuts, losses};
 ghost use Rattle.association_sends.specs.association_words.Seen.{seen_message};
 ghost use Rattle.association_calls.specs.association_state.Seen.{seen};
-ghost use Rattle.association_answers.specs.BroughtAs.{TakenAs};
+ghost use Rattle.association_answers.specs.Reacted.{TakenAs};
 
 use crate::brought::{Brought, one_message};
 use association_calls::association_state_layer::Body;

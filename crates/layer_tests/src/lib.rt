@@ -1,6 +1,6 @@
-//! Tests of the layers below an end, over their public calls: worked rows, limits, and each public
-//! call once with ample memory. They stand in a crate of their own, so that each layer is proved
-//! once.
+//! Tests of the codecs of BER and of the packed syntax, of packets and of session units, over their
+//! public calls: worked rows, limits, and each public call once with ample memory. They stand in a
+//! crate of their own, so that each layer is proved once.
 #![tactic(auto)]
 
 #[cfg(test)]

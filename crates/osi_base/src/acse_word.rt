@@ -26,9 +26,10 @@ pub type Externals = ListOf<External>;
 /// Where the result of an association request comes from, and why it is so (X.227 9).
 #[derive(Clone, Copy, Debug, PartialEq, Eq)]
 pub enum Diagnostic {
-    /// From the user of association control, `[1]`.
+    /// From the user of association control, `[1]`: 0 none, 1 no reason given; others as X.227
+    /// numbers them.
     User(i64),
-    /// From association control itself, `[2]`.
+    /// From association control itself, `[2]`: 0 none, 1 no reason given, 2 no common version.
     Provider(i64),
 }
 
@@ -37,7 +38,7 @@ pub enum Diagnostic {
 pub enum Acse {
     /// AARQ.
     AssociateRequest {
-        /// Protocol version, `[0]`.
+        /// Protocol version, `[0]`: bit 0 stands for version 1.
         version: Option<BitString>,
         /// Application context name, `[1]`.
         context: Oid,
@@ -57,12 +58,12 @@ pub enum Acse {
     },
     /// RLRQ.
     ReleaseRequest {
-        /// Reason, `[0]`; 0 where it lacks.
+        /// Reason, `[0]`: 0 normal, 1 urgent, 30 one of the user's own; 0 where it lacks.
         reason: i64,
     },
     /// RLRE.
     ReleaseResponse {
-        /// Reason, `[0]`; 0 where it lacks.
+        /// Reason, `[0]`: 0 normal, 1 not finished, 30 one of the user's own; 0 where it lacks.
         reason: i64,
     },
     /// ABRT.

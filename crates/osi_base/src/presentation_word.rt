@@ -57,7 +57,7 @@ pub type Pdvs = ListOf<Pdv>;
 /// list that isn't there has no items.
 #[derive(Debug, Drop)]
 pub struct PresentationConnect {
-    /// Protocol version, `[0]`.
+    /// Protocol version, `[0]`: bit 0 stands for version 1.
     pub version: Option<BitString>,
     /// Calling presentation selector, `[1]`.
     pub calling: Option<Octets>,
@@ -69,7 +69,8 @@ pub struct PresentationConnect {
     pub default_context: Option<Octets>,
     /// Presentation requirements, `[8]`: bit 0 context management, bit 1 context restoration.
     pub requirements: Option<BitString>,
-    /// User session requirements, `[9]`.
+    /// User session requirements, `[9]`, a bit for each functional unit: 0 half-duplex, 1 duplex, 3
+    /// minor synchronize, 5 resynchronize, 6 activities, 10 typed data.
     pub session_requirements: Option<BitString>,
     /// User data.
     pub user: Pdvs,
@@ -78,15 +79,16 @@ pub struct PresentationConnect {
 /// The fields of a CONNECT PRESENTATION ACCEPT unit, CPA (X.226 8.2.2).
 #[derive(Debug, Drop)]
 pub struct PresentationAccept {
-    /// Protocol version, `[0]`.
+    /// Protocol version, `[0]`: bit 0 stands for version 1.
     pub version: Option<BitString>,
     /// Responding presentation selector, `[3]`.
     pub responding: Option<Octets>,
     /// Presentation context definition result list, `[5]`.
     pub results: AddAnswers,
-    /// Presentation requirements, `[8]`.
+    /// Presentation requirements, `[8]`: bit 0 context management, bit 1 context restoration.
     pub requirements: Option<BitString>,
-    /// User session requirements, `[9]`.
+    /// User session requirements, `[9]`, a bit for each functional unit: 0 half-duplex, 1 duplex, 3
+    /// minor synchronize, 5 resynchronize, 6 activities, 10 typed data.
     pub session_requirements: Option<BitString>,
     /// User data.
     pub user: Pdvs,
@@ -95,15 +97,17 @@ pub struct PresentationAccept {
 /// The fields of a CONNECT PRESENTATION REJECT unit, CPR (X.226 8.2.3).
 #[derive(Debug, Drop)]
 pub struct PresentationReject {
-    /// Protocol version, `[0]`.
+    /// Protocol version, `[0]`: bit 0 stands for version 1.
     pub version: Option<BitString>,
     /// Responding presentation selector, `[3]`.
     pub responding: Option<Octets>,
     /// Presentation context definition result list, `[5]`.
     pub results: AddAnswers,
-    /// Default context result, `[7]`, 0 to 2.
+    /// Default context result, `[7]`: 0 accepted, 1 rejected by the user, 2 by the provider.
     pub default_result: Option<u8>,
-    /// Provider reason, `[10]`.
+    /// Provider reason, `[10]`: 0 not told, 1 congestion for a while, 2 a local limit, 3 an unknown
+    /// called address, 4 the protocol version, 5 the default context, 6 user data that can't be
+    /// read, 7 nobody at the address.
     pub reason: Option<i64>,
     /// User data.
     pub user: Pdvs,
@@ -150,9 +154,11 @@ pub enum PresentationWord {
     },
     /// ABNORMAL RELEASE PROVIDER, ARP.
     ProviderAbort {
-        /// The provider reason, `[0]`.
+        /// The provider reason, `[0]`: 0 not told, 1 a unit that isn't known, 2 one that isn't
+        /// expected, 3 an event of the session that isn't, 4 a field that isn't known, 5 one that
+        /// isn't expected, 6 a value that is wrong.
         reason: Option<i64>,
-        /// The event, `[1]`.
+        /// The unit or event that led to it, `[1]`, as X.226 numbers them: 0 CP, 1 CPA, 2 CPR.
         event: Option<i64>,
     },
     /// User data alone, as data, releases and pleas for the token carry it.

@@ -25,9 +25,9 @@ impl fmt::Display for FaultAt {
 /// A word, and the number that comes with it, if any does; prints as `Absent 5`.
 #[derive(Clone, Copy, Debug, PartialEq, Eq)]
 pub struct WordWithNumber {
-    /// The word.
+    /// A name of what is told, such as `Absent`.
     pub word: &'static str,
-    /// The number.
+    /// What the name speaks of: an identifier, or the number of a reason.
     pub number: Option<i64>,
 }
 

@@ -26,32 +26,34 @@ pub enum ConnectionData {
 pub enum Rtse {
     /// RTORQ.
     OpenRequest {
-        /// Checkpoint size, `[0]`; 0 where it lacks.
+        /// Checkpoint size, `[0]`, in units of 1,024 octets; 0, no checkpoints, where it lacks.
         checkpoint: u32,
-        /// Window size, `[1]`; 3 where it lacks.
+        /// Window size, `[1]`: how many checkpoints may be unconfirmed; 3 where it lacks.
         window: u32,
-        /// Dialogue mode, `[2]`; 0 where it lacks.
+        /// Dialogue mode, `[2]`: 0 one way, 1 two ways in turn; 0 where it lacks.
         mode: i64,
         /// Connection data, `[3]`.
         data: ConnectionData,
     },
     /// RTOAC.
     OpenAccept {
-        /// Checkpoint size, `[0]`; 0 where it lacks.
+        /// Checkpoint size, `[0]`, in units of 1,024 octets; 0, no checkpoints, where it lacks.
         checkpoint: u32,
-        /// Window size, `[1]`; 3 where it lacks.
+        /// Window size, `[1]`: how many checkpoints may be unconfirmed; 3 where it lacks.
         window: u32,
         /// Connection data, `[2]`.
         data: ConnectionData,
     },
     /// RTORJ.
     OpenReject {
-        /// Reason, `[0]`.
+        /// Reason, `[0]`: 0 busy, 1 can't recover, 2 not validated, 3 the dialogue mode.
         reason: i64,
     },
     /// RTAB.
     Abort {
-        /// Reason, `[0]`.
+        /// Reason, `[0]`: 0 a local problem, 1 a field that is wrong, 2 an unknown activity, 3 a
+        /// problem for a while, 4 a fault of the protocol, 5 a lasting problem, 6 a fault of the
+        /// user, 7 the transfer is complete.
         reason: i64,
     },
     /// RTTP.
@@ -61,7 +63,7 @@ pub enum Rtse {
     },
     /// RTTR.
     Transfer {
-        /// A part of a transfer.
+        /// The octets of a part of a transfer.
         octets: Octets,
     },
 }
