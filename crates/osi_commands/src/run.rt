@@ -92,7 +92,7 @@ fn run_words<F: Files, O: Sink>(alloc: Global, words: &Words, files: &mut F, out
 /// What a replay writes tells the one run that two new ends with the schedule's configurations make
 /// of its events, and that run keeps all laws of its mode: each message that is taken is the one
 /// that the other end sent in its place, and its values, but those of openings, their answers and
-/// aborts, are read under the named that the one shared context set gave their context at the
+/// aborts, are read under the pair that the one shared context set gave their context at the
 /// sending; an invocation has at most one outcome, which is allowed to it; each reliable transfer
 /// arrives whole, at most once; nothing whole waits at an end that isn't over; no end aborts of
 /// itself.
