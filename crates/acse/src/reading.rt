@@ -79,8 +79,92 @@ fn apdu<'a>(
     Ok((chosen(alloc, which, value)?, after))
 }
 
+/// AARQ, whose tag has number 0.
+#[tactic(auto, using(crate::proofs::Shapes::request_rows))]
+fn request_apdu<'a>(
+    alloc: Global,
+    table: &TypeTable,
+    scope: &Scope,
+    opened: &Opened<'a>,
+    spot: Spot<'a>,
+) -> Result<(Val, Spot<'a>), ReadFault>
+    requires rows { length table.now ≡ row_count }
+    requires whole { HasPlaces spot.place spot.rest.now }
+    ensures gives { Gives (λ x. (x.0, spot_of x.1)) result
+        (apdu_at table.now 0 request_fields request_passed scope.now
+        (opened_of opened.now) (spot_of spot.entry)) }
+    ensures stops { IfOk result (λ x. GoesOn spot.entry.place (length spot.entry.rest.now) x.1) }
+{
+    let known = request_fields();
+    let passed = [Passed::anywhere(2, 29)];
+    apdu(alloc, table, 0, &known, &passed, scope, opened, spot)
+}
+
+/// AARE, whose tag has number 1.
+#[tactic(auto, using(crate::proofs::Shapes::response_rows))]
+fn response_apdu<'a>(
+    alloc: Global,
+    table: &TypeTable,
+    scope: &Scope,
+    opened: &Opened<'a>,
+    spot: Spot<'a>,
+) -> Result<(Val, Spot<'a>), ReadFault>
+    requires rows { length table.now ≡ row_count }
+    requires whole { HasPlaces spot.place spot.rest.now }
+    ensures gives { Gives (λ x. (x.0, spot_of x.1)) result
+        (apdu_at table.now 1 response_fields response_passed scope.now
+        (opened_of opened.now) (spot_of spot.entry)) }
+    ensures stops { IfOk result (λ x. GoesOn spot.entry.place (length spot.entry.rest.now) x.1) }
+{
+    let known = response_fields();
+    let passed = [Passed::anywhere(0, 0), Passed::anywhere(4, 29)];
+    apdu(alloc, table, 1, &known, &passed, scope, opened, spot)
+}
+
+/// RLRQ and RLRE, by the number of their tag: they have the same fields.
+#[tactic(auto, using(crate::proofs::Shapes::release_rows))]
+fn release_apdu<'a>(
+    alloc: Global,
+    table: &TypeTable,
+    which: u32,
+    scope: &Scope,
+    opened: &Opened<'a>,
+    spot: Spot<'a>,
+) -> Result<(Val, Spot<'a>), ReadFault>
+    requires rows { length table.now ≡ row_count }
+    requires whole { HasPlaces spot.place spot.rest.now }
+    ensures gives { Gives (λ x. (x.0, spot_of x.1)) result
+        (apdu_at table.now which release_fields release_passed scope.now
+        (opened_of opened.now) (spot_of spot.entry)) }
+    ensures stops { IfOk result (λ x. GoesOn spot.entry.place (length spot.entry.rest.now) x.1) }
+{
+    let known = release_fields();
+    let passed = [Passed::anywhere(1, 30)];
+    apdu(alloc, table, which, &known, &passed, scope, opened, spot)
+}
+
+/// ABRT, whose tag has number 4.
+#[tactic(auto, using(crate::proofs::Shapes::abort_rows))]
+fn abort_apdu<'a>(
+    alloc: Global,
+    table: &TypeTable,
+    scope: &Scope,
+    opened: &Opened<'a>,
+    spot: Spot<'a>,
+) -> Result<(Val, Spot<'a>), ReadFault>
+    requires rows { length table.now ≡ row_count }
+    requires whole { HasPlaces spot.place spot.rest.now }
+    ensures gives { Gives (λ x. (x.0, spot_of x.1)) result
+        (apdu_at table.now 4 abort_fields abort_passed scope.now
+        (opened_of opened.now) (spot_of spot.entry)) }
+    ensures stops { IfOk result (λ x. GoesOn spot.entry.place (length spot.entry.rest.now) x.1) }
+{
+    let known = abort_fields();
+    let passed = [Passed::anywhere(1, 29)];
+    apdu(alloc, table, 4, &known, &passed, scope, opened, spot)
+}
+
 /// The APDU whose tag has the number that was read.
-#[tactic(auto, using(crate::proofs::Shapes::request_rows, crate::proofs::Shapes::response_rows, crate::proofs::Shapes::release_rows, crate::proofs::Shapes::abort_rows))]
 fn of_number<'a>(
     alloc: Global,
     table: &TypeTable,
@@ -95,69 +179,19 @@ fn of_number<'a>(
     ensures stops { IfOk result (λ x. GoesOn spot.entry.place (length spot.entry.rest.now) x.1) }
 {
     if opened.number == 0 {
-        let passed = [Passed::anywhere(2, 29)];
-        return apdu(
-            alloc,
-            table,
-            0,
-            &request_fields(),
-            &passed,
-            scope,
-            opened,
-            spot,
-        );
+        return request_apdu(alloc, table, scope, opened, spot);
     }
     if opened.number == 1 {
-        let passed = [Passed::anywhere(0, 0), Passed::anywhere(4, 29)];
-        return apdu(
-            alloc,
-            table,
-            1,
-            &response_fields(),
-            &passed,
-            scope,
-            opened,
-            spot,
-        );
+        return response_apdu(alloc, table, scope, opened, spot);
     }
     if opened.number == 2 {
-        let passed = [Passed::anywhere(1, 30)];
-        return apdu(
-            alloc,
-            table,
-            2,
-            &release_fields(),
-            &passed,
-            scope,
-            opened,
-            spot,
-        );
+        return release_apdu(alloc, table, 2, scope, opened, spot);
     }
     if opened.number == 3 {
-        let passed = [Passed::anywhere(1, 30)];
-        return apdu(
-            alloc,
-            table,
-            3,
-            &release_fields(),
-            &passed,
-            scope,
-            opened,
-            spot,
-        );
+        return release_apdu(alloc, table, 3, scope, opened, spot);
     }
     if opened.number == 4 {
-        let passed = [Passed::anywhere(1, 29)];
-        return apdu(
-            alloc,
-            table,
-            4,
-            &abort_fields(),
-            &passed,
-            scope,
-            opened,
-            spot,
-        );
+        return abort_apdu(alloc, table, scope, opened, spot);
     }
     Err(refusal(opened.start.place, Kind::Tag))
 }

@@ -1,5 +1,5 @@
 -- What stands first, as the definitions of reading speak of it.
-use Rattle.std.specs.Prelude.{◌≡◌, ℕ, List, [], ◌∷◌, map, Option, Some, None}
+use Rattle.std.specs.Prelude.{◌≡◌, ℕ, List, [], ◌∷◌, ◌++◌, map, Option, Some, None}
 use Rattle.osi_base.specs.OctetPlaces.{HasPlaces}
 use Rattle.spdu_codec.specs.Places.{user_of}
 use Rattle.association_words.specs.Seen.{seen_transport}
@@ -30,6 +30,11 @@ IsPlaced (Faulty layer place) = Unit {0}
 abbrev pub ArePlaced : List Front → Type 0
 ArePlaced [] = Unit {0}
 ArePlaced (front ∷ fronts) = IsPlaced front × ArePlaced fronts
+
+-- these were put behind the others, and the user data of all have places
+pub record IsPut (old new : List Front) (more : List reading.Front) : Type 0 where
+  pub placed : ArePlaced new
+  pub is : seen_fronts new ≡ seen_fronts old ++ more
 
 -- the first of what came was taken off
 abbrev pub TakesFirst : Option reading.Intake → Front → Option reading.Intake → Type 0

@@ -1,13 +1,13 @@
 //! What one packet, or the packets of one TSDU, bring.
 
-ghost use Rattle.std.specs.Prelude.{◌≡◌, ◌++◌, [], ◌∷◌, map, OnOk, Ok, Err};
+ghost use Rattle.std.specs.Prelude.{◌≡◌, [], ◌∷◌, map, OnOk, Ok, Err};
 ghost use Rattle.spdu_codec.specs.Reading.{units_at};
 ghost use Rattle.association_reading.specs.Front as reading;
 ghost use Rattle.std.specs.Prelude.{IfOk, length, ◌<◌, ◌^◌};
 ghost use Rattle.spdu_codec.specs.Places.{user_places, user_of, StandsAt, HoldUser};
 ghost use Rattle.end_rules.specs.Messages as meant;
 ghost use Rattle.association_words.specs.Seen.{seen_transport};
-ghost use Rattle.association_intake.specs.Seen.{seen_front, seen_fronts, HasUserPlaces, IsPlaced, ArePlaced};
+ghost use Rattle.association_intake.specs.Seen.{seen_front, HasUserPlaces, IsPlaced, ArePlaced, IsPut};
 
 use crate::front::Front;
 use association_words::TransportUnit;
@@ -22,9 +22,7 @@ use tpkt::{ConnectionFields, Packet};
 fn push(fronts: &mut VecDeque<Front>, front: Front) -> Result<(), NoMemory>
     requires front { IsPlaced front }
     requires fronts { ArePlaced fronts.old.items }
-    ensures is { OnOk result (seen_fronts fronts.new.items ≡ seen_fronts fronts.old.items
-        ++ seen_front front ∷ []) }
-    ensures placed { OnOk result (ArePlaced fronts.new.items) }
+    ensures put { OnOk result (IsPut fronts.old.items fronts.new.items (seen_front front ∷ [])) }
 {
     fronts.push_back(front)?;
     Ok(())
@@ -40,9 +38,8 @@ fn push_unit(
 ) -> Result<(), NoMemory>
     requires stands { StandsAt (user_of unit) tsdu.now place }
     requires fronts { ArePlaced fronts.old.items }
-    ensures placed { OnOk result (ArePlaced fronts.new.items) }
-    ensures is { OnOk result (seen_fronts fronts.new.items ≡ seen_fronts fronts.old.items
-        ++ reading.OfSession unit (reading.start_of place) ∷ []) }
+    ensures put { OnOk result (IsPut fronts.old.items fronts.new.items
+        (reading.OfSession unit (reading.start_of place) ∷ [])) }
 {
     push(
         fronts,
@@ -63,9 +60,8 @@ fn push_leading(
 ) -> Result<(), NoMemory>
     requires stands { StandsAt (user_of unit) tsdu.now place }
     requires fronts { ArePlaced fronts.old.items }
-    ensures placed { OnOk result (ArePlaced fronts.new.items) }
-    ensures is { OnOk result (seen_fronts fronts.new.items ≡ seen_fronts fronts.old.items
-        ++ reading.leading unit (reading.start_of place)) }
+    ensures put { OnOk result (IsPut fronts.old.items fronts.new.items
+        (reading.leading unit (reading.start_of place))) }
 {
     if let SessionWord::GiveTokens { tokens: None } = &unit {
         return Ok(());
@@ -82,9 +78,8 @@ fn push_units(
 ) -> Result<(), NoMemory>
     requires hold { HoldUser units tsdu.now at }
     requires fronts { ArePlaced fronts.old.items }
-    ensures placed { OnOk result (ArePlaced fronts.new.items) }
-    ensures is { OnOk result (seen_fronts fronts.new.items ≡ seen_fronts fronts.old.items
-        ++ reading.fronts_of_units at (Ok units)) }
+    ensures put { OnOk result (IsPut fronts.old.items fronts.new.items
+        (reading.fronts_of_units at (Ok units))) }
 {
     let mut units = units.into_vec().into_iter();
     let Some(first) = units.next() else {
@@ -102,9 +97,8 @@ fn push_units(
 /// Puts what a TSDU brings behind the others.
 fn push_tsdu(alloc: Global, fronts: &mut VecDeque<Front>, octets: &Octets) -> Result<(), NoMemory>
     requires fronts { ArePlaced fronts.old.items }
-    ensures placed { OnOk result (ArePlaced fronts.new.items) }
-    ensures is { OnOk result (seen_fronts fronts.new.items ≡ seen_fronts fronts.old.items
-        ++ reading.fronts_of_units (user_places octets.now) (units_at octets.now)) }
+    ensures put { OnOk result (IsPut fronts.old.items fronts.new.items
+        (reading.fronts_of_units (user_places octets.now) (units_at octets.now))) }
 {
     match read_spdus(alloc, octets.as_slice()) {
         Ok(units) => {
@@ -138,9 +132,8 @@ fn request(alloc: Global, ends: &ConnectionFields) -> Result<TransportUnit, NoMe
 /// Puts a transport unit behind the others.
 fn push_transport(fronts: &mut VecDeque<Front>, unit: TransportUnit) -> Result<(), NoMemory>
     requires fronts { ArePlaced fronts.old.items }
-    ensures placed { OnOk result (ArePlaced fronts.new.items) }
-    ensures is { OnOk result (seen_fronts fronts.new.items ≡ seen_fronts fronts.old.items
-        ++ reading.OfTransport (seen_transport unit) ∷ []) }
+    ensures put { OnOk result (IsPut fronts.old.items fronts.new.items
+        (reading.OfTransport (seen_transport unit) ∷ [])) }
 {
     push(fronts, Front::OfTransport(unit))
 }
@@ -149,9 +142,8 @@ fn push_transport(fronts: &mut VecDeque<Front>, unit: TransportUnit) -> Result<(
 /// initiator, whose reference is 1.
 fn push_packet(alloc: Global, fronts: &mut VecDeque<Front>, packet: &Packet) -> Result<(), NoMemory>
     requires fronts { ArePlaced fronts.old.items }
-    ensures placed { OnOk result (ArePlaced fronts.new.items) }
-    ensures is { OnOk result (seen_fronts fronts.new.items ≡ seen_fronts fronts.old.items
-        ++ reading.fronts_of packet.now) }
+    ensures put { OnOk result (IsPut fronts.old.items fronts.new.items
+        (reading.fronts_of packet.now)) }
 {
     match packet {
         Packet::Connect(ends) => push_transport(fronts, request(alloc, ends)?),
@@ -177,9 +169,8 @@ pub(crate) fn push_packets(
     packets: &[Packet],
 ) -> Result<(), NoMemory>
     requires fronts { ArePlaced fronts.old.items }
-    ensures placed { OnOk result (ArePlaced fronts.new.items) }
-    ensures is { OnOk result (seen_fronts fronts.new.items ≡ seen_fronts fronts.old.items
-        ++ reading.all_fronts packets.now) }
+    ensures put { OnOk result (IsPut fronts.old.items fronts.new.items
+        (reading.all_fronts packets.now)) }
 {
     for packet in packets {
         push_packet(alloc, fronts, packet)?;

@@ -3,7 +3,7 @@
 ghost use Rattle.std.specs.Prelude.{◌≡◌, length, IfOk};
 ghost use Rattle.osi_base.specs.OctetPlaces.{HasPlaces};
 ghost use Rattle.ber_spelling.specs.Reading.{Gives, spot_of, opened_of, GoesOn, IsBehind};
-ghost use Rattle.ber_spelling.specs.Rules.{open_at, close_at, any_at, explicit_at};
+ghost use Rattle.ber_spelling.specs.Rules.{open_at, close_at, any_at, explicit_at, or_explicit};
 
 use asn1_types::{Node, Val};
 use ber_spelling::{
@@ -107,4 +107,24 @@ pub(crate) fn tagged_any<'a>(
     let (inside, first, spot) = open(tag, scope, opened, spot)?;
     let (value, spot) = any_value(alloc, &inside, &first, spot)?;
     Ok((value, close(&inside, spot)?))
+}
+
+/// Any one value, under a tag if one is given.
+#[inline(always)]
+pub(crate) fn any_under<'a>(
+    alloc: Global,
+    tag: Option<Tag>,
+    scope: &Scope,
+    opened: &Opened<'a>,
+    spot: Spot<'a>,
+) -> Result<(Val, Spot<'a>), ReadFault>
+    requires { IsBehind opened.now spot }
+    ensures gives { Gives (λ x. (x.0, spot_of x.1)) result
+        (or_explicit any_at tag scope.now (opened_of opened.now) (spot_of spot.entry)) }
+    ensures stops { IfOk result (λ x. GoesOn spot.entry.place (length spot.entry.rest.now) x.1) }
+{
+    match tag {
+        None => any_value(alloc, scope, opened, spot),
+        Some(tag) => tagged_any(alloc, tag, scope, opened, spot),
+    }
 }

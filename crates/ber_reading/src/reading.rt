@@ -10,11 +10,11 @@ ghost use Rattle.asn1_types.specs.Rising.{sorted};
 ghost use Rattle.asn1_types.specs.ValueView.{values_of, parts_of};
 ghost use Rattle.asn1_types.specs.Tags.{rank};
 ghost use Rattle.ber_spelling.specs.Reading.{begun, Opens, Gives, FailsWith, spot_of, opened_of, GoesOn, IsBehind};
-ghost use Rattle.ber_spelling.specs.Rules.{all_items_at, list_item_at, list_done, list_at, set_item_at, set_of_done, set_of_at, sequence_at, choice_at, explicit_at, read_by, reads, no_parts_of, nothing_filled, is_free, is_filled, set_done, bare, under, late_at, ordered_at, slot_at, set_at};
+ghost use Rattle.ber_spelling.specs.Rules.{all_items_at, list_item_at, list_done, list_at, set_item_at, set_of_done, set_of_at, sequence_at, choice_at, explicit_at, or_explicit, read_by, reads, no_parts_of, nothing_filled, is_free, is_filled, set_done, bare, under, late_at, ordered_at, slot_at, set_at};
 ghost use Rattle.ber_spelling.specs.Below.{ReadsBelow, ReadsPartsBelow};
 ghost use Rattle.ber_reading.specs.Parts.{found_at, part_from, parts_from};
 
-use crate::contents::{any_value, close, open, tagged_any};
+use crate::contents::{any_under, close, open};
 use crate::parts::{absent, is_filled, is_free, kept, none_of, settle};
 use crate::short_parts::{integer_ahead, parts_at_once, reach};
 use asn1_types::{
@@ -109,28 +109,13 @@ fn value_as<'a>(
         TypeRow::ObjectId => {
             object_id(alloc, tag_or(tag, Class::Universal, 6), scope, opened, spot)
         }
-        TypeRow::Sequence(parts) => sequence(
-            alloc,
-            table,
-            of,
-            parts,
-            tag_or(tag, Class::Universal, 16),
-            scope,
-            opened,
-            spot,
-        ),
-        TypeRow::Choice(alternatives) => match tag {
-            None => choice(
-                alloc,
-                table,
-                of,
-                alternatives.as_slice(),
-                scope,
-                opened,
-                spot,
-            ),
-            Some(tag) => tagged_choice(alloc, table, of, alternatives, tag, scope, opened, spot),
-        },
+        TypeRow::Sequence(parts) => {
+            let tag = tag_or(tag, Class::Universal, 16);
+            sequence(alloc, table, of, parts, tag, scope, opened, spot)
+        }
+        TypeRow::Choice(alternatives) => {
+            choice_under(alloc, table, of, alternatives, tag, scope, opened, spot)
+        }
         TypeRow::Tagged {
             class,
             number,
@@ -141,22 +126,11 @@ fn value_as<'a>(
             if *explicit {
                 tagged(alloc, table, of, *inner, tag, default, scope, opened, spot)
             } else {
-                value(
-                    alloc,
-                    table,
-                    *inner,
-                    Some(tag),
-                    default,
-                    scope,
-                    opened,
-                    spot,
-                )
+                let tag = Some(tag);
+                value(alloc, table, *inner, tag, default, scope, opened, spot)
             }
         }
-        TypeRow::Any => match tag {
-            None => any_value(alloc, scope, opened, spot),
-            Some(tag) => tagged_any(alloc, tag, scope, opened, spot),
-        },
+        TypeRow::Any => any_under(alloc, tag, scope, opened, spot),
         TypeRow::Set(parts) => {
             let tag = tag_or(tag, Class::Universal, 17);
             set(alloc, table, of, parts, tag, scope, opened, spot)
@@ -352,6 +326,37 @@ fn tagged<'a>(
     let (inside, first, spot) = open(tag, scope, opened, spot)?;
     let (value, spot) = value(alloc, table, inner, None, default, &inside, &first, spot)?;
     Ok((value, close(&inside, spot)?))
+}
+
+/// A CHOICE, under a tag if one is given.
+#[cycle(reading)]
+#[inline(always)]
+fn choice_under<'a>(
+    alloc: Global,
+    table: &TypeTable,
+    of: TypeId,
+    alternatives: &Parts,
+    tag: Option<Tag>,
+    scope: &Scope,
+    opened: &Opened<'a>,
+    spot: Spot<'a>,
+) -> Result<(Val, Spot<'a>), ReadFault>
+    requires reads { ReadsPartsBelow alternatives.now of.0 (length table.now) spot.place
+        (length spot.rest.now) }
+    requires few { length alternatives.now < 2 ^ 32 }
+    requires start { GoesOn opened.now.start.place (length opened.now.start.rest.now) spot }
+    ensures gives { Gives (λ x. (x.0, spot_of x.1)) result
+        (or_explicit (choice_at (begins table.now) (reads table.now) 0 alternatives.now) tag
+        scope.now (opened_of opened.now) (spot_of spot.entry)) }
+    ensures stops { IfOk result (λ x. GoesOn spot.entry.place (length spot.entry.rest.now) x.1) }
+{
+    match tag {
+        None => {
+            let alternatives = alternatives.as_slice();
+            choice(alloc, table, of, alternatives, scope, opened, spot)
+        }
+        Some(tag) => tagged_choice(alloc, table, of, alternatives, tag, scope, opened, spot),
+    }
 }
 
 #[cycle(reading)]

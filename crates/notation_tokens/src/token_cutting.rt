@@ -1,6 +1,6 @@
 //! How a text is cut from the left into tokens, white space and comments, up to where that stops.
 
-ghost use Rattle.std.specs.Prelude.{◌≡◌, ◌≤◌, ◌<◌, ◌+◌, ◌^◌, length, IfOk};
+ghost use Rattle.std.specs.Prelude.{◌≡◌, ◌≤◌, ◌<◌, ◌+◌, ◌^◌, Some, length, IfOk};
 ghost use Rattle.osi_base.specs.Limits.{most_module_octets};
 ghost use Rattle.notation_tokens.specs.Forms.{is_blank};
 ghost use Rattle.notation_tokens.specs.Lexing.{behind_octets, goes_on_length, word_length, digits_length, number_length, sign_length, single_sign_length, comment_length, piece_of, fits_in, lexed_of};
@@ -196,6 +196,17 @@ fn is_white(octet: u8) -> bool
     matches!(octet, b'\t' | b'\n' | b'\r' | b' ')
 }
 
+/// What was cut up to a place where cutting stopped for this reason.
+fn lexed_until(tokens: Tokens, kind: NotationKind, place: Place) -> Lexed
+    ensures { result ≡ record { tokens = tokens; stop = Some kind; place = place } }
+{
+    Lexed {
+        tokens,
+        stop: Some(kind),
+        place,
+    }
+}
+
 /// The tokens of a text of at most 1,048,576 octets, and where cutting stops: at the text's end, or
 /// at the first octet that begins nothing or the first token past the limit.
 ///
@@ -220,11 +231,7 @@ pub fn cut_text(alloc: Global, text: &[u8]) -> Result<Lexed, NoMemory>
             }
             Piece::Cut(kind, length) => {
                 if tokens.len() == MOST_TOKENS {
-                    return Ok(Lexed {
-                        tokens,
-                        stop: Some(NotationKind::TooManyTokens),
-                        place,
-                    });
+                    return Ok(lexed_until(tokens, NotationKind::TooManyTokens, place));
                 }
                 tokens.push(Token {
                     kind,
@@ -238,13 +245,7 @@ pub fn cut_text(alloc: Global, text: &[u8]) -> Result<Lexed, NoMemory>
                 from += length;
                 rest = behind;
             }
-            Piece::Bad => {
-                return Ok(Lexed {
-                    tokens,
-                    stop: Some(NotationKind::BadCharacter),
-                    place,
-                });
-            }
+            Piece::Bad => return Ok(lexed_until(tokens, NotationKind::BadCharacter, place)),
         }
     }
     Ok(Lexed {

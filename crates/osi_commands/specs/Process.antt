@@ -5,9 +5,8 @@ use Rattle.osi_base.specs.declared.layer_words.Status.{Status}
 use Rattle.osi_commands.specs.declared.process.Arguments.{Arguments}
 use Rattle.osi_commands.specs.declared.process.Arguments.TheVariants.{Given, NotText, Unread}
 use Rattle.osi_commands.specs.Statuses.{exit_code}
-use Rattle.osi_commands.specs.Answers.{Closes}
 use Rattle.osi_commands.specs.Commands.{command_of}
-use Rattle.osi_commands.specs.TopCall.{IsAnswer, AskedAtEnd}
+use Rattle.osi_commands.specs.TopCall.{CommandCloses, AskedAtEnd}
 
 -- the words that arguments give: all but the first, which is the program's name; none where one is no text
 abbrev pub words_given : Arguments → List (List ℕ)
@@ -19,6 +18,6 @@ words_given Unread = []
 -- asked for are `first` before the call and `last` after it.
 pub record Exits (told : Option FileMap) (old new : ℕ) (words : List (List ℕ)) (first last : Option (List (List ℕ))) (sink_old sink_new : ℕ) (before after : Option (List ℕ)) (code : ℕ) : Type 0 where
   pub status : Status
-  pub closes : Closes (IsAnswer told old new (command_of words)) old new sink_old sink_new before after status
+  pub closes : CommandCloses told old new (command_of words) sink_old sink_new before after status
   pub asked : AskedAtEnd (command_of words) first last status
   pub code_is : code ≡ exit_code status

@@ -4,7 +4,7 @@ use Rattle.osi_base.specs.Outside.{FileMap, logged, grown}
 use Rattle.osi_base.specs.declared.layer_words.Status.{Status}
 use Rattle.osi_commands.specs.declared.answers.Answer.{Answer}
 use Rattle.osi_commands.specs.Commands.{Command, checks, two_files}
-use Rattle.osi_commands.specs.Answers.{usage_answer}
+use Rattle.osi_commands.specs.Answers.{usage_answer, Closes, IsBegun, CountsFiles}
 use Rattle.osi_commands.specs.Reading.{MayAsk, AsksTwoFiles, TwoFilesAsked, TwoFilesAskedAtEnd, CheckAskedAtEnd}
 use Rattle.osi_commands.specs.Checking.{Checks}
 use Rattle.osi_commands.specs.ModuleAndFile.{AnswersTwoFiles}
@@ -17,6 +17,21 @@ abbrev pub IsAnswer : Option FileMap → ℕ → ℕ → Option Command → Answ
 IsAnswer told old new None answer = answer ≡ usage_answer
 IsAnswer told old new (Some (checks check)) answer = Checks told old new check answer
 IsAnswer told old new (Some (two_files named)) answer = AnswersTwoFiles told old new named answer
+
+-- ---- the end of a call for a command, or for words that are none
+
+-- the answer to it is written, or a beginning of that, or there is none for want of memory
+abbrev pub CommandCloses : Option FileMap → ℕ → ℕ → Option Command → ℕ → ℕ → Option (List ℕ) → Option (List ℕ) → Status → Type 0
+CommandCloses told old new command sink_old sink_new before after status =
+    Closes (IsAnswer told old new command) old new sink_old sink_new before after status
+
+-- a beginning of an answer to it was written
+abbrev pub IsCommandBegun : Option FileMap → ℕ → ℕ → Option Command → Option (List ℕ) → Option (List ℕ) → Type 0
+IsCommandBegun told old new command before after = IsBegun (IsAnswer told old new command) old new before after
+
+-- the files' count is as it was, unless the answer to it is that a file isn't read
+abbrev pub CommandCountsFiles : Option FileMap → ℕ → ℕ → Option Command → Option (List ℕ) → Option (List ℕ) → Status → Type 0
+CommandCountsFiles told old new command before after status = CountsFiles (IsAnswer told old new command) old new before after status
 
 -- Usage: the words are no command.
 pub record IsUsage (command : Option Command) (before after : Option (List ℕ)) : Type 0 where

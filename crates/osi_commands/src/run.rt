@@ -4,13 +4,13 @@ ghost use Rattle.std.specs.Prelude.{Bool, ◌≡◌, ◌≢◌, ◌≤◌, ◌�
 ghost use Rattle.osi_base.specs.Outside.{FaultsRose};
 ghost use Rattle.module_check.specs.Command.{Check};
 ghost use Rattle.osi_commands.specs.declared.commands.Work.TheVariants as works;
-ghost use Rattle.osi_commands.specs.Answers.{KeepsCount, Closes, IsBegun, IsUnless, CountsFiles, CountsWrites};
+ghost use Rattle.osi_commands.specs.Answers.{KeepsCount, IsUnless, CountsWrites};
 ghost use Rattle.osi_commands.specs.Commands.{TwoFiles, checks, two_files, command_of};
 ghost use Rattle.osi_commands.specs.Given.{given};
 ghost use Rattle.osi_commands.specs.Reading.{KeepsFiles};
 ghost use Rattle.osi_commands.specs.Checking.{CheckEnds};
 ghost use Rattle.osi_commands.specs.ModuleAndFile.{WorkEnds, IsReplayDone};
-ghost use Rattle.osi_commands.specs.TopCall.{IsAnswer, IsUsage, Asks, AskedBy, AskedAtEnd};
+ghost use Rattle.osi_commands.specs.TopCall.{IsAnswer, CommandCloses, IsCommandBegun, CommandCountsFiles, IsUsage, Asks, AskedBy, AskedAtEnd};
 
 use crate::answers::{Answer, conclude, usage};
 use crate::checking::answer_check;
@@ -72,9 +72,9 @@ fn run_words<F: Files, O: Sink>(alloc: Global, words: &Words, files: &mut F, out
         (command_of words.now) (F.asked files.old) (F.asked files.new) }
     ensures asked_for { AskedAtEnd (command_of words.now) (F.asked files.old) (F.asked files.new)
         result }
-    ensures closes { Closes (IsAnswer (F.told files.old) (F.faults files.old) (F.faults files.new)
-        (command_of words.now)) (F.faults files.old) (F.faults files.new) (O.faults out.old)
-        (O.faults out.new) (O.told out.old) (O.told out.new) result }
+    ensures closes { CommandCloses (F.told files.old) (F.faults files.old) (F.faults files.new)
+        (command_of words.now) (O.faults out.old) (O.faults out.new) (O.told out.old)
+        (O.told out.new) result }
 {
     conclude(out, answer_words(alloc, words, files))
 }
@@ -127,26 +127,23 @@ pub fn osi_run<F: Files, O: Sink, L: Line>(
         (command_of words.now) (F.asked files.old) (F.asked files.new) }
     ensures asked_for { AskedAtEnd (command_of words.now) (F.asked files.old) (F.asked files.new)
         result }
-    ensures files_count { CountsFiles (IsAnswer (F.told files.old) (F.faults files.old)
-        (F.faults files.new) (command_of words.now)) (F.faults files.old) (F.faults files.new)
-        (O.told out.old) (O.told out.new) result }
+    ensures files_count { CommandCountsFiles (F.told files.old) (F.faults files.old)
+        (F.faults files.new) (command_of words.now) (O.told out.old) (O.told out.new) result }
     ensures sink_count { CountsWrites (O.faults out.old) (O.faults out.new) result }
 
     // The whole of it, of which all that follows is said again in parts
-    ensures closes { Closes (IsAnswer (F.told files.old) (F.faults files.old) (F.faults files.new)
-        (command_of words.now)) (F.faults files.old) (F.faults files.new) (O.faults out.old)
-        (O.faults out.new) (O.told out.old) (O.told out.new) result }
+    ensures closes { CommandCloses (F.told files.old) (F.faults files.old) (F.faults files.new)
+        (command_of words.now) (O.faults out.old) (O.faults out.new) (O.told out.old)
+        (O.told out.new) result }
 
     // Statuses that end every command
     ensures write_fault { result ≡ Status.WriteFault →
         FaultsRose (O.faults out.old) (O.faults out.new)
-        × IsBegun (IsAnswer (F.told files.old) (F.faults files.old) (F.faults files.new)
-        (command_of words.now)) (F.faults files.old) (F.faults files.new) (O.told out.old)
-        (O.told out.new) }
+        × IsCommandBegun (F.told files.old) (F.faults files.old) (F.faults files.new)
+        (command_of words.now) (O.told out.old) (O.told out.new) }
     ensures no_memory { result ≡ Status.NoMemory → (O.told out.new ≡ O.told out.old)
-        ⊎ IsBegun (IsAnswer (F.told files.old) (F.faults files.old) (F.faults files.new)
-        (command_of words.now)) (F.faults files.old) (F.faults files.new) (O.told out.old)
-        (O.told out.new) }
+        ⊎ IsCommandBegun (F.told files.old) (F.faults files.old) (F.faults files.new)
+        (command_of words.now) (O.told out.old) (O.told out.new) }
     ensures no_other { (result ≢ Status.LineFault) × (result ≢ Status.Ended)
         × (result ≢ Status.Spent) }
 

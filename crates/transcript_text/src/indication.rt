@@ -178,6 +178,22 @@ fn put_invoked(
     put_linked(text, linked)
 }
 
+/// A result of an invocation of this end, which named these operations.
+fn put_returned(
+    text: &mut Text,
+    tables: &Tables,
+    own: &[u32],
+    id: i64,
+    value: &Option<Val>,
+) -> Result<(), NoMemory>
+    ensures { OnOk result (text.new ≡ text.old ++ (codes "result " ++ signed_decimal id
+        ++ field_by tables.now.types (result_type tables.now own.now id) value.now)) }
+{
+    text.put("result ")?;
+    text.put_signed(id)?;
+    put_result(text, tables, own, id, value)
+}
+
 /// A reject behind the name of what became of it, with its invocation and its problem.
 fn put_reject(
     text: &mut Text,
@@ -205,6 +221,15 @@ fn put_cut(text: &mut Text, own: bool, id: i64) -> Result<(), NoMemory>
     text.put_signed(id)
 }
 
+/// An activity that the peer resumed, and the number of the mark from which it goes on.
+fn put_resumed(text: &mut Text, number: u32, n: u32) -> Result<(), NoMemory>
+    ensures { OnOk result (text.new ≡ text.old ++ (codes "resumed " ++ decimal number
+        ++ codes " " ++ decimal n)) }
+{
+    put_named(text, "resumed ", number)?;
+    put_named(text, " ", n)
+}
+
 /// An indication. Values print by their types where they fit them, else by their form; that of a
 /// result by the operation of this end's own invocation, of which `own` are all that were accepted.
 pub fn put_indication(
@@ -227,11 +252,7 @@ pub fn put_indication(
             linked,
             argument,
         } => put_invoked(text, tables, *id, *operation, *linked, argument),
-        Indication::Result { id, value } => {
-            text.put("result ")?;
-            text.put_signed(*id)?;
-            put_result(text, tables, own, *id, value)
-        }
+        Indication::Result { id, value } => put_returned(text, tables, own, *id, value),
         Indication::Error {
             id,
             error,
@@ -259,10 +280,7 @@ pub fn put_indication(
         Indication::Asked { priority } => put_named(text, "please ", *priority),
         Indication::Transferred { number } => put_named(text, "transferred ", *number),
         Indication::Interrupted { number } => put_named(text, "interrupted ", *number),
-        Indication::Resumed { number, n } => {
-            put_named(text, "resumed ", *number)?;
-            put_named(text, " ", *n)
-        }
+        Indication::Resumed { number, n } => put_resumed(text, *number, *n),
         Indication::Discarded { number } => put_named(text, "discarded ", *number),
         Indication::Released => text.put("released"),
         Indication::Aborted {

@@ -62,19 +62,19 @@ value_as-sequence-requires t c =
     let down = down_as c.args.table.now c.args.of.0 c.args.row.now (Sequence c.in-Sequence.parts) c.requires.row.sound c.requires.row.found c.in-Sequence.is in
     (omega arith, record { below = down; row = omega arith; whole = c.requires.behind.whole })
 
-pub value_as-choice-requires : goal.value_as-choice-requires
-value_as-choice-requires t c =
+pub value_as-choice_under-requires : goal.value_as-choice_under-requires
+value_as-choice_under-requires t c =
     let lt = slice_get_within c.args.table.now c.args.of.0 c.args.row.now c.requires.row.found in
     let down = down_as c.args.table.now c.args.of.0 c.args.row.now (Choice c.in-Choice.alternatives) c.requires.row.sound c.requires.row.found c.in-Choice.is in
     let few = choice_few c.args.table.now c.args.of.0 c.args.row.now c.in-Choice.alternatives c.requires.row.sound c.requires.row.found c.in-Choice.is in
-    (omega arith, (record { below = rw c.as_slice-in-None.ensures down; row = omega arith; whole = c.requires.behind.whole }, (rw c.as_slice-in-None.ensures (omega arith), c.requires.behind.start)))
+    (omega arith, (record { below = down; row = omega arith; whole = c.requires.behind.whole }, (omega arith, c.requires.behind.start)))
 
-pub value_as-tagged_choice-requires : goal.value_as-tagged_choice-requires
-value_as-tagged_choice-requires t c =
-    let lt = slice_get_within c.args.table.now c.args.of.0 c.args.row.now c.requires.row.found in
-    let down = down_as c.args.table.now c.args.of.0 c.args.row.now (Choice c.in-Choice.alternatives) c.requires.row.sound c.requires.row.found c.in-Choice.is in
-    let few = choice_few c.args.table.now c.args.of.0 c.args.row.now c.in-Choice.alternatives c.requires.row.sound c.requires.row.found c.in-Choice.is in
-    (omega arith, (record { below = down; row = omega arith; whole = c.requires.behind.whole }, omega arith))
+pub choice_under-choice-requires : goal.choice_under-choice-requires
+choice_under-choice-requires t c =
+    (omega arith, (record { below = rw c.as_slice-alternatives.ensures c.requires.reads.below; row = c.requires.reads.row; whole = c.requires.reads.whole }, (rw c.as_slice-alternatives.ensures c.requires.few, c.requires.start)))
+
+pub choice_under-tagged_choice-requires : goal.choice_under-tagged_choice-requires
+choice_under-tagged_choice-requires t c = (omega arith, (c.requires.reads, c.requires.few))
 
 pub value_as-tagged-requires : goal.value_as-tagged-requires
 value_as-tagged-requires t c =

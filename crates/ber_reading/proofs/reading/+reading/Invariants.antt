@@ -13,14 +13,17 @@ decreases-value l = 8 * l.of.0 + 7
 abbrev pub decreases-value_as : goal.decreases-value_as
 decreases-value_as l = 8 * l.of.0 + 6
 
+abbrev pub decreases-choice_under : goal.decreases-choice_under
+decreases-choice_under l = 8 * l.of.0 + 5
+
 abbrev pub decreases-tagged_choice : goal.decreases-tagged_choice
-decreases-tagged_choice l = 8 * l.of.0 + 5
+decreases-tagged_choice l = 8 * l.of.0 + 4
 
 abbrev pub decreases-tagged : goal.decreases-tagged
 decreases-tagged l = 8 * l.of.0 + 4
 
 abbrev pub decreases-choice : goal.decreases-choice
-decreases-choice l = 8 * l.of.0 + 4
+decreases-choice l = 8 * l.of.0 + 3
 
 abbrev pub decreases-list : goal.decreases-list
 decreases-list l = 8 * l.of.0 + 5

@@ -24,7 +24,7 @@ loop-rest-preserved-in-Passed c =
     }
 
 pub returns-then-len-eq-MOST_TOKENS : goal.returns-then-len-eq-MOST_TOKENS
-returns-then-len-eq-MOST_TOKENS c = full c.loop-rest.tokens c.loop-rest.from c.loop-rest.place c.loop-rest.rest.now _ c.in-Cut.kind c.in-Cut.length c.loop-rest.invariant.cutting (sym c.in-Cut.ensures.value) (omega (arith, c.in-Cut.ensures.within)) (sym c.len.ensures ∙ c.if-len-eq-MOST_TOKENS.true)
+returns-then-len-eq-MOST_TOKENS c = c.lexed_until.ensures ∙ full c.loop-rest.tokens c.loop-rest.from c.loop-rest.place c.loop-rest.rest.now _ c.in-Cut.kind c.in-Cut.length c.loop-rest.invariant.cutting (sym c.in-Cut.ensures.value) (omega (arith, c.in-Cut.ensures.within)) (sym c.len.ensures ∙ c.if-len-eq-MOST_TOKENS.true)
 
 pub loop-rest-preserved : goal.loop-rest-preserved
 loop-rest-preserved c =
@@ -41,7 +41,7 @@ loop-rest-preserved c =
     }
 
 pub returns-in-Bad : goal.returns-in-Bad
-returns-in-Bad c = bad c.loop-rest.tokens c.loop-rest.from c.loop-rest.place c.loop-rest.rest.now _ c.loop-rest.invariant.cutting (sym c.in-Bad.ensures.value) (some_left (length c.loop-rest.rest.now) c.is_empty.result c.is_empty.ensures c.loop-rest-test.true)
+returns-in-Bad c = c.lexed_until-in-Bad.ensures ∙ bad c.loop-rest.tokens c.loop-rest.from c.loop-rest.place c.loop-rest.rest.now _ c.loop-rest.invariant.cutting (sym c.in-Bad.ensures.value) (some_left (length c.loop-rest.rest.now) c.is_empty.result c.is_empty.ensures c.loop-rest-test.true)
 
 pub returns : goal.returns
 returns c = cutting_done c.loop-rest.tokens c.loop-rest.from c.loop-rest.place c.loop-rest.rest.now _ c.loop-rest.invariant.cutting (none_left (length c.loop-rest.rest.now) c.is_empty.result c.is_empty.ensures c.loop-rest-test.false)
