@@ -3,7 +3,7 @@ use Rattle.std.specs.Prelude.{ℕ, suc, ◌+◌, ◌%◌, List, [], ◌∷◌, �
 use Rattle.std.specs.Cmp.Lexicographic.{pointwise}
 use Rattle.std.specs.List.{list_any}
 use Rattle.osi_base.specs.SetPlaces.{pair_of, without_context}
-use Rattle.osi_base.specs.Syntax.{syntax_named}
+use Rattle.osi_base.specs.Syntax.{name_of, syntax_named}
 use Rattle.osi_base.specs.declared.syntax.Pair.{Pair}
 use Rattle.osi_base.specs.declared.syntax.Syntax.{Syntax}
 use Rattle.osi_base.specs.declared.layer_words.SetItem.{SetItem}
