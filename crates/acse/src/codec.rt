@@ -13,8 +13,8 @@ use crate::table::{APDU, AcseTable};
 use crate::words::{said, value_of};
 use asn1_types::{TypeTable, Val};
 use ber_writing::ber_octets;
-use fixed_tables::{PduFault, fault_of};
-use osi_base::{Acse, Kind, NoMemory, Octets};
+use fixed_tables::{PduFault, all_of, fault_of};
+use osi_base::{Acse, NoMemory, Octets};
 use std::alloc::Global;
 
 /// The value that all of the octets are.
@@ -23,15 +23,7 @@ fn whole(alloc: Global, table: &TypeTable, bytes: &[u8]) -> Result<Val, PduFault
     ensures { GivesWhole result (all_at (any_apdu_at acse_rows) most_octets bytes.now) }
 {
     match front(alloc, table, bytes) {
-        Ok((value, used)) => {
-            if used == bytes.len() {
-                return Ok(value);
-            }
-            Err(PduFault::At {
-                place: used,
-                kind: Kind::Extra,
-            })
-        }
+        Ok((value, used)) => all_of(bytes.len(), value, used),
         Err(fault) => Err(fault_of(bytes.len(), fault)),
     }
 }

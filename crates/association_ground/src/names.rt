@@ -2,10 +2,10 @@
 
 ghost use Rattle.std.specs.Prelude.{◌≡◌, IfOk};
 ghost use Rattle.end_rules.specs.Base.{acse_name, rtse_name, ber_name, application_context};
-ghost use Rattle.end_rules.specs.Sets.{same_name, is_among, syntax_named};
+ghost use Rattle.end_rules.specs.Sets.{same_name, is_among};
 
 use dialogue::Mode;
-use osi_base::{NoMemory, Oid, Syntax};
+use osi_base::{NoMemory, Oid};
 use std::alloc::Global;
 
 /// Whether two object identifiers are one, or two strings of octets.
@@ -20,22 +20,6 @@ pub fn is_among(k: u32, ks: &[u32]) -> bool
     ensures { result ≡ is_among k ks.now }
 {
     ks.iter().any(|other| k == *other)
-}
-
-/// The syntax with this name, where it is one of the three.
-pub fn syntax_named(name: &[u32]) -> Option<Syntax>
-    ensures { result ≡ syntax_named name.now }
-{
-    if same_name(name, Syntax::Ber.arcs()) {
-        return Some(Syntax::Ber);
-    }
-    if same_name(name, Syntax::Der.arcs()) {
-        return Some(Syntax::Der);
-    }
-    if same_name(name, Syntax::Packed.arcs()) {
-        return Some(Syntax::Packed);
-    }
-    None
 }
 
 /// Whether this is the name of association control (X.227 11).

@@ -5,7 +5,6 @@ ghost use Rattle.association_ground.specs.end_rules.Sets.{proposed_ids, named_id
 
 use crate::alteration::Alteration;
 use crate::sets::put_context;
-use association_ground::syntax_named;
 use osi_base::{
     AddAnswer, Answers, Copied, Ids, ListOf, NoMemory, Oid, Pair, Proposal, SetItem, SetList,
     Syntax, remove_context,
@@ -48,7 +47,7 @@ fn named_syntax(name: &Option<Oid>) -> Option<Syntax>
 {
     match name {
         None => None,
-        Some(name) => syntax_named(name.arcs()),
+        Some(name) => Syntax::from_name(name.arcs()),
     }
 }
 

@@ -4,12 +4,12 @@ ghost use Rattle.std.specs.Prelude.{◌≡◌, IfOk, min, ◌||◌, length, nat_
 ghost use Rattle.std.specs.List.{list_any};
 ghost use Rattle.osi_base.specs.Limits.{most_contexts};
 ghost use Rattle.association_ground.specs.end_rules.Sets.{is_named_in, is_deleted_in, is_among, named_ids, proposed_ids, count_added, has_parity};
-ghost use Rattle.association_ground.specs.end_rules.Altering.{has_double, is_no_context, has_bad_transfers, is_bad};
+ghost use Rattle.association_ground.specs.end_rules.Altering.{has_double, is_no_context, is_bad};
 
 use crate::alteration::Alteration;
 use crate::altering::named_ids;
 use association_ground::is_among;
-use osi_base::{NoMemory, Proposal};
+use osi_base::{NoMemory, Proposal, is_badly_offered};
 use std::alloc::Global;
 
 /// Whether the identifier is one of an initiator's, or else one of a responder's (X.226 8.4.2).
@@ -112,25 +112,6 @@ fn has_no_context(ids: &[u32]) -> bool
 {
     for id in ids {
         if is_no_context(*id) {
-            return true;
-        }
-    }
-    false
-}
-
-/// Whether an addition offers no or too many transfer syntaxes.
-fn has_bad_transfers(proposal: &Proposal) -> bool
-    ensures { result ≡ has_bad_transfers proposal.now }
-{
-    proposal.transfers.len() == 0 || proposal.transfers.len() > 8
-}
-
-/// Whether one of the additions does.
-fn is_badly_offered(add: &[Proposal]) -> bool
-    ensures { result ≡ list_any has_bad_transfers add.now }
-{
-    for proposal in add {
-        if has_bad_transfers(proposal) {
             return true;
         }
     }

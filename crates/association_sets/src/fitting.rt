@@ -1,24 +1,10 @@
 //! Whether answers fit what was proposed (X.226 8.4.3).
 
-ghost use Rattle.std.specs.Prelude.{◌≡◌, is_some};
-ghost use Rattle.std.specs.List.{list_any};
-ghost use Rattle.association_ground.specs.end_rules.Sets.{same_name, is_offered, fits_proposal, fit_proposals, fit_alteration};
+ghost use Rattle.std.specs.Prelude.{◌≡◌};
+ghost use Rattle.association_ground.specs.end_rules.Sets.{is_offered, fits_proposal, fit_proposals, fit_alteration};
 
 use crate::alteration::Alteration;
-use association_ground::{same_name, syntax_named};
-use osi_base::{AddAnswer, Answers, Oid, Proposal};
-
-/// Whether the name is one of these.
-pub fn is_listed(name: &[u32], names: &[Oid]) -> bool
-    ensures { result ≡ list_any (same_name name.now) names.now }
-{
-    for other in names {
-        if same_name(name, other.arcs()) {
-            return true;
-        }
-    }
-    false
-}
+use osi_base::{AddAnswer, Answers, Oid, Proposal, Syntax, is_listed};
 
 /// Whether the syntax that an answer names is one of the three, and was offered.
 fn is_offered(offers: &[Oid], name: &Option<Oid>) -> bool
@@ -26,7 +12,7 @@ fn is_offered(offers: &[Oid], name: &Option<Oid>) -> bool
 {
     match name {
         None => false,
-        Some(name) => is_listed(name.arcs(), offers) && syntax_named(name.arcs()).is_some(),
+        Some(name) => is_listed(name.arcs(), offers) && Syntax::from_name(name.arcs()).is_some(),
     }
 }
 

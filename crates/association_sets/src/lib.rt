@@ -14,7 +14,7 @@ pub use asking::{
     count_added, has_double, has_parity, is_bad_alteration, is_deleted_in, is_named_in, is_proposed,
 };
 pub use association_ground as association_ground_layer;
-pub use fitting::{fit_alteration, fit_proposals, is_listed};
+pub use fitting::{fit_alteration, fit_proposals};
 pub use restored::{restored_list, same_lists};
 pub use sets::{
     carrier, copy_set, has_abstract, has_name, is_fixed, lowest_with, may_send, put_context,

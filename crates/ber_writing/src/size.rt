@@ -1,5 +1,7 @@
-//! How many octets values have in the packed syntax. A length past 64 bits stands still at their
-//! end.
+//! How many octets values have in the packed syntax, counted by the rule `packed_size`, by which
+//! `fits` asks below the packed syntax itself; `packed_len` of `packed_codec` tells how many octets
+//! are written, and a law of `packed_laws` that the two are one for values that fit. A length past
+//! 64 bits stands still at their end.
 
 ghost use Rattle.std.specs.Prelude.{◌≡◌, ◌<◌, ◌+◌, Some, slice_get};
 ghost use Rattle.std.specs.List.{AllByRecursion};

@@ -1,9 +1,10 @@
 -- What the policy answers fits what was asked.
-use Rattle.std.proofs.Common.{◌≡◌, ℕ, suc, Bool, true, false, not, ◌||◌, ◌&&◌, nat_eq, nat_le, if◌then◌else◌, List, [], ◌∷◌, length, map, Option, Some, None, is_some, Result, Ok, Err, refl, sym, ap, ◌∙◌, ◌+◌, arith}
+use Rattle.std.proofs.Common.{◌≡◌, ℕ, suc, Bool, true, false, not, ◌||◌, ◌&&◌, nat_eq, nat_le, if◌then◌else◌, List, [], ◌∷◌, length, map, Option, Some, None, is_some, Result, Ok, Err, refl, sym, subst, ap, ◌∙◌, ◌+◌, arith}
 use Rattle.std.proofs.lemmas.List.{length-map}
 use Rattle.std.proofs.lemmas.Bool.Decides.{nat_tests}
 use Rattle.std.specs.Option.{option_or}
-use Rattle.osi_base.specs.Syntax.{name_of}
+use Rattle.osi_base.specs.Syntax.{name_of, syntax_named, is_listed}
+use Rattle.osi_base.proofs.Syntaxes.{named_back}
 use Rattle.osi_base.specs.declared.syntax.Syntax.{Syntax}
 use Rattle.osi_base.specs.declared.syntax.Syntax.TheVariants.{Ber, Der, Packed}
 use Rattle.osi_base.specs.declared.layer_words.Proposal.{Proposal}
@@ -14,25 +15,18 @@ use Rattle.context_sets.specs.declared.rules.Rules.{Rules}
 use Rattle.context_sets.specs.declared.rules.Rejection.{Rejection}
 use Rattle.context_sets.specs.declared.rules.Rejection.TheVariants.{AbstractSyntax, LocalLimit}
 use Rattle.context_sets.specs.Sets.{ContextSet}
-use Rattle.context_sets.specs.Syntaxes.{is_same, is_listed, syntax_named}
+use Rattle.context_sets.specs.Syntaxes.{is_same}
 use Rattle.context_sets.specs.Alterations.{additions}
 use Rattle.context_sets.specs.Policy.{is_service, accepts, acceptable, chosen, within_limit, judged, add_answer, taken_after, added_answers, deletion_answer, policy}
 use Rattle.context_sets.specs.Results.{is_offered, fits, all_fit, mismatch}
 
-named_by_tests : (t : List ℕ) (u : Syntax) (a b c : Bool) → is_same t (name_of Ber) ≡ a → is_same t (name_of Der) ≡ b → is_same t (name_of Packed) ≡ c → (if a then Some Ber else if b then Some Der else if c then Some Packed else None) ≡ Some u → is_same t (name_of u) ≡ true
-named_by_tests t Ber true b c e f g h = e
-named_by_tests t Der true b c e f g h = cc
-named_by_tests t Packed true b c e f g h = cc
-named_by_tests t Ber false true c e f g h = cc
-named_by_tests t Der false true c e f g h = f
-named_by_tests t Packed false true c e f g h = cc
-named_by_tests t Ber false false true e f g h = cc
-named_by_tests t Der false false true e f g h = cc
-named_by_tests t Packed false false true e f g h = g
-named_by_tests t u false false false e f g h = cc
+same_itself : (u : Syntax) → is_same (name_of u) (name_of u) ≡ true
+same_itself Ber = refl
+same_itself Der = refl
+same_itself Packed = refl
 
-acceptable_named : (t : List ℕ) (u : Syntax) (b : Bool) → (if b then syntax_named t else None) ≡ Some u → is_same t (name_of u) ≡ true
-acceptable_named t u true h = named_by_tests t u (is_same t (name_of Ber)) (is_same t (name_of Der)) (is_same t (name_of Packed)) refl refl refl h
+acceptable_named : (t : List ℕ) (u : Syntax) (b : Bool) → (if b then syntax_named t else None) ≡ Some u → is_same (name_of u) t ≡ true
+acceptable_named t u true h = subst (λ n. is_same (name_of u) n ≡ true) (sym (named_back t u h)) (same_itself u)
 acceptable_named t u false h = cc
 
 listed_first : (a b : Bool) → a ≡ true → (a || b) ≡ true
@@ -48,8 +42,8 @@ chosen_listed rules name [] s e = cc
 chosen_listed rules name (t ∷ ts) s e = go (chosen_listed rules name ts s) (acceptable rules name t) refl e
   where
     go : (chosen rules name ts ≡ Some s → is_listed (name_of s) ts ≡ true) → (o : Option Syntax) → acceptable rules name t ≡ o → option_or o (chosen rules name ts) ≡ Some s → is_listed (name_of s) (t ∷ ts) ≡ true
-    go ih None f h = listed_later (is_same t (name_of s)) _ (ih h)
-    go ih (Some u) f h = listed_first (is_same t (name_of s)) _ (acceptable_named t s (accepts rules name t) (f ∙ h))
+    go ih None f h = listed_later (is_same (name_of s) t) _ (ih h)
+    go ih (Some u) f h = listed_first (is_same (name_of s) t) _ (acceptable_named t s (accepts rules name t) (f ∙ h))
 
 known_name : (s : Syntax) → is_some (syntax_named (name_of s)) ≡ true
 known_name Ber = refl

@@ -9,7 +9,7 @@ use Rattle.osi_base.specs.declared.layer_words.Answers.{Answers}
 use Rattle.context_sets.specs.declared.alteration.Alteration.{Alteration}
 use Rattle.context_sets.specs.Sets.{ContextSet, put}
 use Rattle.osi_base.specs.SetPlaces.{without_context}
-use Rattle.context_sets.specs.Syntaxes.{syntax_named}
+use Rattle.osi_base.specs.Syntax.{syntax_named}
 
 -- the transfer syntax with which an addition is accepted: result 0 with a syntax that is known
 abbrev pub syntax_known : Option (List ℕ) → Option Syntax

@@ -5,6 +5,7 @@ use Rattle.std.specs.Option.{option_or}
 use Rattle.osi_base.specs.declared.syntax.Pair.{Pair}
 use Rattle.osi_base.specs.declared.layer_words.Proposal.{Proposal}
 use Rattle.osi_base.specs.Limits.{highest_context, most_contexts, most_alterations}
+use Rattle.osi_base.specs.Proposals.{has_bad_transfers}
 use Rattle.context_sets.specs.declared.alteration.Alteration.{Alteration}
 use Rattle.context_sets.specs.declared.fault.SetRefusal.{SetRefusal}
 use Rattle.context_sets.specs.declared.fault.SetRefusal.TheVariants.{AlterPending, BadProposal, WrongParity, Named, Present, Absent, Fixed, InUse, SetFull, NoMemory}
@@ -26,14 +27,10 @@ abbrev pub are_bad : List ℕ → List ℕ → Bool
 are_bad before [] = false
 are_bad before (id ∷ ids) = is_no_identifier id || (is_among id before || are_bad (id ∷ before) ids)
 
--- an addition offers 1 to 8 transfer syntaxes (this project's own limit)
-abbrev pub is_bad_offer : Proposal → Bool
-is_bad_offer proposal = nat_eq (length proposal.transfers) 0 || nat_lt 8 (length proposal.transfers)
-
 -- nothing is asked, an identifier is none or stands twice, or an addition offers none or too many
 abbrev pub is_bad : Alteration → Bool
 is_bad asked =
-    nat_eq (length (named_by asked)) 0 || (are_bad [] (named_by asked) || list_any is_bad_offer asked.added)
+    nat_eq (length (named_by asked)) 0 || (are_bad [] (named_by asked) || list_any has_bad_transfers asked.added)
 
 -- the first refusal in a list
 abbrev pub first_of : {X : Type 0} → (X → Option SetRefusal) → List X → Option SetRefusal

@@ -4,10 +4,10 @@ use Rattle.osi_base.specs.declared.layer_words.Proposal.{Proposal}
 use Rattle.osi_base.specs.declared.layer_words.AddAnswer.{AddAnswer}
 use Rattle.osi_base.specs.declared.layer_words.Answers.{Answers}
 use Rattle.osi_base.specs.Limits.{most_32}
+use Rattle.osi_base.specs.Syntax.{syntax_named, is_listed}
 use Rattle.context_sets.specs.declared.alteration.Alteration.{Alteration}
 use Rattle.context_sets.specs.declared.fault.SetFault.{SetFault}
 use Rattle.context_sets.specs.declared.fault.SetFault.TheVariants.{Mismatch}
-use Rattle.context_sets.specs.Syntaxes.{is_listed, syntax_named}
 use Rattle.context_sets.specs.Alterations.{accepted_as}
 
 -- the syntax of an accepted addition is there, was proposed and is known

@@ -10,9 +10,10 @@ ghost use Rattle.context_sets.specs.Policy.{is_service, accepts, acceptable, cho
 use crate::asking::{is_among, is_of, meets_again};
 use crate::fault::SetFault;
 use crate::rules::{Rejection, Rules};
-use crate::syntaxes::{is_acse, is_fixed, is_listed, is_rtse, is_same, syntax_named};
+use crate::syntaxes::{is_acse, is_fixed, is_rtse, is_same};
 use osi_base::{
-    AddAnswer, AddAnswers, ListOf, NoMemory, Octets, Oid, Pair, Proposal, SetItem, Syntax, pair_of,
+    AddAnswer, AddAnswers, ListOf, NoMemory, Octets, Oid, Pair, Proposal, SetItem, Syntax,
+    is_listed, pair_of,
 };
 use std::alloc::Global;
 use std::collections::BTreeSet;
@@ -39,7 +40,7 @@ fn acceptable(rules: &Rules, name: &[u32], transfer: &[u32]) -> Option<Syntax>
     ensures { result ≡ acceptable rules.now name.now transfer.now }
 {
     if accepts(rules, name, transfer) {
-        syntax_named(transfer)
+        Syntax::from_name(transfer)
     } else {
         None
     }

@@ -3,17 +3,16 @@
 ghost use Rattle.std.specs.Prelude.{◌≡◌, ◌+◌, ◌≤◌, ◌||◌, true, [], length, IfOk, OnOk};
 ghost use Rattle.std.specs.BTreeSet.{contains, Updates};
 ghost use Rattle.std.specs.Bool.{OnFalse};
-ghost use Rattle.std.specs.List.{list_any};
 ghost use Rattle.std.specs.Option.{option_copied};
 ghost use Rattle.std.specs.Ordering.{nat_cmp};
 ghost use Rattle.osi_base.specs.Limits.{most_contexts};
 ghost use Rattle.context_sets.specs.Alterations.{additions, named_by, is_among, names, is_named, is_deleted};
-ghost use Rattle.context_sets.specs.Asking.{is_of, is_no_identifier, are_bad, is_bad_offer, is_bad, first_of, addition_refusal, pair_refusal, deletion_refusal, is_over, refusal};
+ghost use Rattle.context_sets.specs.Asking.{is_of, is_no_identifier, are_bad, is_bad, first_of, addition_refusal, pair_refusal, deletion_refusal, is_over, refusal};
 
 use crate::alteration::Alteration;
 use crate::fault::SetRefusal;
 use crate::syntaxes::is_fixed;
-use osi_base::{NoMemory, Pair, Proposal, SetItem, pair_of};
+use osi_base::{NoMemory, Pair, Proposal, SetItem, is_badly_offered, pair_of};
 use std::alloc::Global;
 use std::collections::BTreeSet;
 
@@ -118,24 +117,6 @@ fn are_bad(alloc: Global, asked: &Alteration) -> Result<bool, NoMemory>
         }
     }
     Ok(false)
-}
-
-fn is_bad_offer(proposal: &Proposal) -> bool
-    ensures { result ≡ is_bad_offer proposal.now }
-{
-    proposal.transfers.len() == 0 || proposal.transfers.len() > 8
-}
-
-/// Whether one of the additions offers no or too many transfer syntaxes.
-fn is_badly_offered(added: &[Proposal]) -> bool
-    ensures { result ≡ list_any is_bad_offer added.now }
-{
-    for proposal in added {
-        if is_bad_offer(proposal) {
-            return true;
-        }
-    }
-    false
 }
 
 fn is_bad(alloc: Global, asked: &Alteration) -> Result<bool, NoMemory>

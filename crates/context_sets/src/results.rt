@@ -9,8 +9,9 @@ ghost use Rattle.context_sets.specs.Results.{is_offered, fits, all_fit, counted,
 
 use crate::fault::SetFault;
 use crate::settling::{acceptances, put_additions};
-use crate::syntaxes::{is_listed, syntax_named};
-use osi_base::{AddAnswer, AddAnswers, Copied, ListOf, Oid, Proposal, Proposals, SetList};
+use osi_base::{
+    AddAnswer, AddAnswers, Copied, ListOf, Oid, Proposal, Proposals, SetList, Syntax, is_listed,
+};
 use std::alloc::Global;
 
 fn is_offered(transfers: &[Oid], transfer: &Option<Oid>) -> bool
@@ -18,7 +19,7 @@ fn is_offered(transfers: &[Oid], transfer: &Option<Oid>) -> bool
 {
     match transfer {
         None => false,
-        Some(name) => is_listed(name.arcs(), transfers) && syntax_named(name.arcs()).is_some(),
+        Some(name) => is_listed(name.arcs(), transfers) && Syntax::from_name(name.arcs()).is_some(),
     }
 }
 

@@ -6,7 +6,6 @@ ghost use Rattle.context_sets.specs.Results.{acceptances};
 
 use crate::alteration::Alteration;
 use crate::sets::put_context;
-use crate::syntaxes::syntax_named;
 use osi_base::{AddAnswer, Answers, Pair, Proposal, Proposals, SetItem, Syntax, remove_context};
 
 /// The transfer syntax with which an addition is accepted.
@@ -18,7 +17,7 @@ fn accepted_as(answer: &AddAnswer) -> Option<Syntax>
     }
     match &answer.transfer {
         None => None,
-        Some(name) => syntax_named(name.arcs()),
+        Some(name) => Syntax::from_name(name.arcs()),
     }
 }
 

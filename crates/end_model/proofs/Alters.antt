@@ -19,9 +19,10 @@ use Rattle.end_rules.specs.State.{Ending, Suspended, is_free, is_empty, is_curre
 use Rattle.end_rules.specs.State.{is_suspended}
 use Rattle.end_rules.specs.Sets.{Alteration, is_among, named_ids, proposed_ids}
 use Rattle.osi_base.specs.SetPlaces.{pair_of}
+use Rattle.osi_base.specs.Proposals.{has_bad_transfers}
 use Rattle.end_rules.specs.Sets.{is_named_in, is_fixed, has_parity}
 use Rattle.end_rules.specs.Altering.{can_alter, used, context_of_encoding, context_of_current}
-use Rattle.end_rules.specs.Altering.{has_double, is_bad, is_no_context, has_bad_transfers}
+use Rattle.end_rules.specs.Altering.{has_double, is_bad, is_no_context}
 use Rattle.end_rules.specs.Altering.{addition_refusal, deletion_refusal, or_else, additions_refusal}
 use Rattle.end_rules.specs.Altering.{deletions_refusal, is_set_full, alteration_refusal}
 use Rattle.end_rules.specs.TakesData.{alteration}

@@ -6,13 +6,13 @@ use Rattle.std.specs.Prelude.{Bool, not, ◌||◌, Option, Some, None, is_some, 
 use Rattle.std.specs.Prelude.{slice_index_or}
 use Rattle.std.proofs.lemmas.Bool.Decides.{nat_tests}
 use Rattle.std.specs.List.{list_any}
-use Rattle.osi_base.specs.Syntax.{name_of}
+use Rattle.osi_base.specs.Syntax.{name_of, syntax_named}
 use Rattle.osi_base.specs.declared.syntax.Syntax.{Syntax}
 use Rattle.osi_base.specs.declared.syntax.Pair.{Pair}
 use Rattle.osi_base.specs.declared.layer_words.Proposal.{Proposal}
 use Rattle.osi_base.specs.declared.layer_words.AddAnswer.{AddAnswer}
 use Rattle.osi_base.specs.declared.layer_words.Answers.{Answers}
-use Rattle.end_rules.specs.Sets.{Alteration, same_name, syntax_named, accepted_pair, named_syntax}
+use Rattle.end_rules.specs.Sets.{Alteration, same_name, accepted_pair, named_syntax}
 use Rattle.end_rules.specs.Sets.{pair_accepted, is_offered, fits_proposal, fit_proposals}
 use Rattle.end_rules.specs.Sets.{fit_alteration}
 use Rattle.agreement.specs.Sets.{Result, Pair as ModelPair, FitsItem, Fits}

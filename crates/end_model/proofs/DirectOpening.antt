@@ -9,6 +9,7 @@ use Rattle.osi_base.specs.declared.session_word.SessionConnect.{SessionConnect}
 use Rattle.osi_base.specs.declared.presentation_word.PresentationConnect.{PresentationConnect}
 use Rattle.osi_base.specs.declared.presentation_word.PresentationAccept.{PresentationAccept}
 use Rattle.osi_base.specs.declared.presentation_word.PresentationReject.{PresentationReject}
+use Rattle.osi_base.specs.Syntax.{syntax_named}
 use Rattle.stub_tables.specs.declared.tables.Tables.{Tables}
 use Rattle.dialogue.specs.declared.config.Config.{Config}
 use Rattle.dialogue.specs.declared.config.Mode.TheVariants.{Direct}
@@ -22,7 +23,7 @@ use Rattle.end_rules.specs.Messages.{Message, Transport, Session, unit_of}
 use Rattle.end_rules.specs.State.{Body, Stage, Unused, Asked, Joined, Carrying, NoAnswer}
 use Rattle.end_rules.specs.State.{passes_over, is_joined, is_carrying, is_unused, is_asked}
 use Rattle.end_rules.specs.State.{is_broken}
-use Rattle.end_rules.specs.Sets.{accepted_set, fit_proposals, syntax_named}
+use Rattle.end_rules.specs.Sets.{accepted_set, fit_proposals}
 use Rattle.end_rules.specs.Units.{selected_with, proposed_units, needed_units, has_units}
 use Rattle.end_rules.specs.Units.{has_version_two, manages_with}
 use Rattle.end_rules.specs.World.{Shared, anew}

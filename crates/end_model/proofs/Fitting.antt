@@ -5,7 +5,7 @@ use Rattle.std.specs.Prelude.{Bool, not, ◌&&◌, ◌||◌, Option, Some, None,
 use Rattle.std.specs.Prelude.{nat_eq, nat_lt, Contains, find}
 use Rattle.std.specs.List.{list_any}
 use Rattle.std.proofs.lemmas.Bool.Decides.{nat_tests}
-use Rattle.osi_base.specs.Syntax.{name_of}
+use Rattle.osi_base.specs.Syntax.{name_of, syntax_named}
 use Rattle.osi_base.specs.declared.syntax.Syntax.{Syntax}
 use Rattle.osi_base.specs.declared.syntax.Syntax.TheVariants.{Ber, Der, Packed}
 use Rattle.osi_base.specs.declared.syntax.Pair.{Pair}
@@ -15,7 +15,7 @@ use Rattle.osi_base.specs.declared.layer_words.Answers.{Answers}
 use Rattle.end_rules.specs.Base.{Base, ber_name}
 use Rattle.osi_base.specs.Limits.{most_contexts}
 use Rattle.end_rules.specs.State.{Body}
-use Rattle.end_rules.specs.Sets.{Alteration, same_name, syntax_named, accepted_pair, named_syntax}
+use Rattle.end_rules.specs.Sets.{Alteration, same_name, accepted_pair, named_syntax}
 use Rattle.end_rules.specs.Sets.{pair_accepted, is_offered, fits_proposal, fit_proposals}
 use Rattle.end_rules.specs.Sets.{fit_alteration}
 use Rattle.end_rules.specs.Policy.{is_association, is_taken, takes_syntax, acceptance, rejection}

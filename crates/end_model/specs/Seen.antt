@@ -1,6 +1,6 @@
 -- What the model of agreement sees of one end: its state as a function of the end's body.
 use Rattle.std.specs.Prelude.{ℕ, ℤ, pos, negsuc, List, [], ◌∷◌, ◌++◌, map, length, Bool, true, false, not, ◌&&◌, nat_eq, nat_le, if◌then◌else◌, Option, Some, None, option_map, unwrap_or, is_some}
-use Rattle.osi_base.specs.Syntax.{name_of}
+use Rattle.osi_base.specs.Syntax.{name_of, syntax_named}
 use Rattle.osi_base.specs.declared.syntax.Pair.{Pair}
 use Rattle.osi_base.specs.declared.syntax.Syntax.TheVariants.{Der}
 use Rattle.osi_base.specs.declared.layer_words.SetItem.{SetItem}
@@ -18,7 +18,7 @@ use Rattle.dialogue.specs.declared.config.Mode.TheVariants.{Bare, Direct, Reliab
 use Rattle.dialogue.specs.declared.config.Phase.{Phase}
 use Rattle.dialogue.specs.declared.config.Phase.TheVariants as phases
 use Rattle.end_rules.specs.Base.{Base, HeardHead, ResultHead, ErrorHead, Item}
-use Rattle.end_rules.specs.Sets.{Alteration, Saved, syntax_named}
+use Rattle.end_rules.specs.Sets.{Alteration, Saved}
 use Rattle.end_rules.specs.State.{Stage, Unused, Asked, Joined, Carrying, Awaited, NoAnswer, RestartOf, InterruptOf, DiscardOf, ReleaseOf, OpenCall, is_whose, is_none, Calls, Queued, Piece, Octets, Marked, Progress, Running, Ending, Suspended, Encoded, Transfer, Sending, Receiving, Body}
 use Rattle.end_rules.specs.Invoking.{is_linked_to}
 use Rattle.end_rules.specs.Hearing.{is_silent_at, has_links, result_problem, error_problem}

@@ -2,7 +2,8 @@
 use Rattle.std.specs.Prelude.{ℕ, ◌+◌, List, [], ◌∷◌, ◌++◌, map, length, Bool, false, not, ◌&&◌, ◌||◌, nat_eq, nat_lt, nat_le, Option, Some, None, is_some, Ok, Err, if◌then◌else◌}
 use Rattle.std.specs.List.{list_any}
 use Rattle.osi_base.specs.declared.layer_words.Proposal.{Proposal}
-use Rattle.osi_base.specs.Limits.{highest_context, most_contexts, most_alterations, most_transfers}
+use Rattle.osi_base.specs.Limits.{highest_context, most_contexts, most_alterations}
+use Rattle.osi_base.specs.Proposals.{has_bad_transfers}
 use Rattle.dialogue.specs.declared.call.CallRefusal.{CallRefusal}
 use Rattle.dialogue.specs.declared.call.CallRefusal.TheVariants as refusals
 use Rattle.end_rules.specs.Base.{Base, is_reliable}
@@ -37,9 +38,6 @@ has_double (k ∷ ks) = is_among k ks || has_double ks
 
 abbrev pub is_no_context : ℕ → Bool
 is_no_context k = nat_eq k 0 || nat_lt highest_context k
-
-abbrev pub has_bad_transfers : Proposal → Bool
-has_bad_transfers p = is_empty p.transfers || nat_lt most_transfers (length p.transfers)
 
 -- nothing is asked for, an identifier comes twice or is none, or an addition has no or too many syntaxes
 abbrev pub is_bad : Alteration → Bool

@@ -6,9 +6,10 @@ use Rattle.osi_base.specs.declared.layer_words.AddAnswer.{AddAnswer}
 use Rattle.osi_base.specs.declared.layer_words.Answers.{Answers}
 use Rattle.osi_base.specs.declared.layer_words.SetItem.{SetItem}
 use Rattle.end_rules.specs.Base.{Base, is_reliable, acse_name, rtse_name, ber_name}
-use Rattle.end_rules.specs.Sets.{Alteration, same_name, syntax_named, is_among, is_fixed, has_parity, count_added, proposed_ids}
+use Rattle.end_rules.specs.Sets.{Alteration, same_name, is_among, is_fixed, has_parity, count_added, proposed_ids}
 use Rattle.osi_base.specs.SetPlaces.{pair_of}
 use Rattle.osi_base.specs.Limits.{most_contexts}
+use Rattle.osi_base.specs.Syntax.{syntax_named}
 use Rattle.end_rules.specs.State.{Body}
 use Rattle.end_rules.specs.Altering.{used, has_double}
 

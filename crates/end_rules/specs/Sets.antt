@@ -3,10 +3,9 @@ use Rattle.std.specs.Prelude.{ℕ, suc, ◌+◌, ◌%◌, List, [], ◌∷◌, �
 use Rattle.std.specs.Cmp.Lexicographic.{pointwise}
 use Rattle.std.specs.List.{list_any}
 use Rattle.osi_base.specs.SetPlaces.{pair_of, without_context}
-use Rattle.osi_base.specs.Syntax.{name_of}
+use Rattle.osi_base.specs.Syntax.{name_of, syntax_named}
 use Rattle.osi_base.specs.declared.syntax.Pair.{Pair}
 use Rattle.osi_base.specs.declared.syntax.Syntax.{Syntax}
-use Rattle.osi_base.specs.declared.syntax.Syntax.TheVariants.{Ber, Der, Packed}
 use Rattle.osi_base.specs.declared.layer_words.SetItem.{SetItem}
 use Rattle.osi_base.specs.declared.layer_words.Proposal.{Proposal}
 use Rattle.osi_base.specs.declared.layer_words.AddAnswer.{AddAnswer}
@@ -20,14 +19,6 @@ same_name a b = pointwise nat_eq a b
 
 abbrev pub is_among : ℕ → List ℕ → Bool
 is_among k ks = list_any (nat_eq k) ks
-
--- the syntax with this name, where it is one of the three
-abbrev pub syntax_named : List ℕ → Option Syntax
-syntax_named name =
-    if same_name name (name_of Ber) then Some Ber
-    else (if same_name name (name_of Der) then Some Der
-    else (if same_name name (name_of Packed) then Some Packed
-    else None))
 
 -- a context that is added, by rising identifier
 abbrev pub put : ℕ → Pair → List SetItem → List SetItem

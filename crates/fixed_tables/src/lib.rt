@@ -18,7 +18,7 @@ pub use making::{
     any, bits, bits_part, chosen, integer, name_part, number_part, object_id, octets, present,
     sequence,
 };
-pub use pdu::{PduFault, fault_of, whole};
+pub use pdu::{PduFault, all_of, fault_of, whole};
 pub use pdvs::{pdv_in, pdv_value};
 pub use reasons::{reason_in, reason_value};
 pub use values::{

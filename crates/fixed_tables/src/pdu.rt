@@ -1,7 +1,7 @@
 //! Values that all of the octets spell.
 
-ghost use Rattle.std.specs.Prelude.{◌≡◌, ◌<◌, ◌^◌, length};
-ghost use Rattle.fixed_tables.specs.Whole.{GivesWhole, whole_at};
+ghost use Rattle.std.specs.Prelude.{◌≡◌, ◌<◌, ◌^◌, length, Ok};
+ghost use Rattle.fixed_tables.specs.Whole.{GivesWhole, of_whole, whole_at};
 ghost use Rattle.fixed_tables.specs.Faults.{fault_in};
 
 use asn1_types::{TypeId, TypeTable, Val};
@@ -28,14 +28,8 @@ impl fmt::Display for PduFault {
 
     fn fmt<W: fmt::Write>(&self, f: &mut fmt::Formatter<W>) -> fmt::Result {
         match self {
-            PduFault::At { place, kind } => fmt::Display::fmt(
-                &FaultAt {
-                    cause: kind.word(),
-                    place: *place as u64,
-                },
-                f,
-            ),
-            PduFault::NoMemory => f.write_str("out of memory"),
+            PduFault::At { place, kind } => fmt::Display::fmt(&FaultAt::field(*kind, *place), f),
+            PduFault::NoMemory => fmt::Display::fmt(&NoMemory, f),
         }
     }
 }
@@ -66,19 +60,23 @@ pub fn whole(
     ensures { GivesWhole result (whole_at table.now of.0 most bytes.now) }
 {
     match ber_read_within(alloc, table, of, bytes, most) {
-        Ok(read) => {
-            if read.used == bytes.len() {
-                Ok(read.value)
-            } else {
-                let place = read.used;
-                Err(PduFault::At {
-                    place,
-                    kind: Kind::Extra,
-                })
-            }
-        }
+        Ok(read) => all_of(bytes.len(), read.value, read.used),
         Err(fault) => Err(fault_of(bytes.len(), fault)),
     }
+}
+
+/// The value that was read from the first `used` of `end` octets, where it has them all; else they
+/// are `Extra` from its end on.
+pub fn all_of(end: usize, value: Val, used: usize) -> Result<Val, PduFault>
+    ensures { result ≡ of_whole end (Ok (value, used)) }
+{
+    if used == end {
+        return Ok(value);
+    }
+    Err(PduFault::At {
+        place: used,
+        kind: Kind::Extra,
+    })
 }
 
 /// The fault of reading, in octets that end here.

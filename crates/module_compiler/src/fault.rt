@@ -4,6 +4,7 @@ ghost use Rattle.std.specs.Prelude.{◌≡◌};
 ghost use Rattle.module_compiler.specs.declared.fault.TableFault.TheVariants as faults;
 
 use module_faults::TableKind;
+use notation_tokens::RefusedAt;
 use osi_base::NoMemory;
 use std::error::Error;
 use std::fmt;
@@ -32,11 +33,11 @@ impl fmt::Display for TableFault {
 
     fn fmt<W: fmt::Write>(&self, f: &mut fmt::Formatter<W>) -> fmt::Result {
         match self {
-            TableFault::At { line, column, kind } => write!(
-                f,
-                "module refused {line} {column} {kind}"
-            ),
-            TableFault::NoMemory => f.write_str("out of memory"),
+            TableFault::At { line, column, kind } => {
+                let (line, column, word) = (*line, *column as u64, kind.word());
+                fmt::Display::fmt(&RefusedAt { line, column, word }, f)
+            }
+            TableFault::NoMemory => fmt::Display::fmt(&NoMemory, f),
         }
     }
 }

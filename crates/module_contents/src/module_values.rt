@@ -1,4 +1,5 @@
-//! Values that APDUs of remote operations carry.
+//! Values that APDUs of remote operations carry: what the octets spell, without asking `fits`. The
+//! roles of bare mode (`rose_roles`) read values that fit alone.
 
 ghost use Rattle.std.specs.Prelude.{◌≡◌, ◌<◌, length, IfOk, true, false, nat_eq};
 ghost use Rattle.std.specs.Option.{option_copied};

@@ -4,8 +4,8 @@ ghost use Rattle.std.specs.Prelude.{◌≡◌};
 ghost use Rattle.module_reading.specs.Words.{kind_word};
 
 use module_compiler::TableKind;
-use notation_tokens::NotationKind;
-use osi_base::Kind;
+use notation_tokens::{NotationKind, RefusedAt};
+use osi_base::{Kind, NoMemory};
 use std::error::Error;
 use std::fmt;
 
@@ -57,11 +57,11 @@ impl fmt::Display for ModuleFault {
 
     fn fmt<W: fmt::Write>(&self, f: &mut fmt::Formatter<W>) -> fmt::Result {
         match self {
-            ModuleFault::At { line, column, kind } => write!(
-                f,
-                "module refused {line} {column} {kind}"
-            ),
-            ModuleFault::NoMemory => f.write_str("out of memory"),
+            ModuleFault::At { line, column, kind } => {
+                let (line, column, word) = (*line, *column, kind_word(*kind));
+                fmt::Display::fmt(&RefusedAt { line, column, word }, f)
+            }
+            ModuleFault::NoMemory => fmt::Display::fmt(&NoMemory, f),
         }
     }
 }

@@ -14,7 +14,10 @@ notation_kind_word kinds.TextTooLong = codes "TextTooLong"
 notation_kind_word kinds.TooManyTokens = codes "TooManyTokens"
 notation_kind_word kinds.Unsupported = codes "Unsupported"
 
--- what the program tells of it
+-- what the program tells of a fault with this name, at this line and column
+abbrev pub refused_text : ℕ → ℕ → List ℕ → List ℕ
+refused_text line column word = codes "module refused " ++ (decimal line ++ (codes " " ++ (decimal column ++ (codes " " ++ word))))
+
 abbrev pub notation_fault_text : NotationFault → List ℕ
-notation_fault_text (faults.At line column kind) = codes "module refused " ++ (decimal line ++ (codes " " ++ (decimal column ++ (codes " " ++ notation_kind_word kind))))
+notation_fault_text (faults.At line column kind) = refused_text line column (notation_kind_word kind)
 notation_fault_text faults.NoMemory = no_memory_text

@@ -67,6 +67,32 @@ pub enum NotationFault {
     NoMemory,
 }
 
+/// A place of a text and what is wrong there; prints as `module refused 3 23 DoubleCode`.
+#[derive(Clone, Copy, Debug, PartialEq, Eq)]
+pub struct RefusedAt {
+    /// The line, counted from 1; 0 in a table file.
+    pub line: u32,
+    /// The column in octets, counted from 1; in a table file the place, counted from 0.
+    pub column: u64,
+    /// The name of what is wrong there.
+    pub word: &'static str,
+}
+
+impl fmt::Display for RefusedAt {
+    ghost use Rattle.std.specs.Prelude.{Some};
+    ghost use Rattle.notation_tokens.specs.Printed.{refused_text};
+
+    ghost output = { λ at. Some (refused_text at.line at.column at.word.now) };
+
+    fn fmt<W: fmt::Write>(&self, f: &mut fmt::Formatter<W>) -> fmt::Result {
+        write!(
+            f,
+            "module refused {} {} {}",
+            self.line, self.column, self.word
+        )
+    }
+}
+
 impl fmt::Display for NotationFault {
     ghost use Rattle.std.specs.Prelude.{Some};
     ghost use Rattle.notation_tokens.specs.Printed.{notation_fault_text};
@@ -75,11 +101,11 @@ impl fmt::Display for NotationFault {
 
     fn fmt<W: fmt::Write>(&self, f: &mut fmt::Formatter<W>) -> fmt::Result {
         match self {
-            NotationFault::At { line, column, kind } => write!(
-                f,
-                "module refused {line} {column} {kind}"
-            ),
-            NotationFault::NoMemory => f.write_str("out of memory"),
+            NotationFault::At { line, column, kind } => {
+                let (line, column, word) = (*line, *column as u64, kind.word());
+                fmt::Display::fmt(&RefusedAt { line, column, word }, f)
+            }
+            NotationFault::NoMemory => fmt::Display::fmt(&NoMemory, f),
         }
     }
 }

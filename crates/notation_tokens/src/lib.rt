@@ -8,7 +8,7 @@ mod token;
 mod token_cutting;
 pub mod words;
 
-pub use faults::{NotationFault, NotationKind};
+pub use faults::{NotationFault, NotationKind, RefusedAt};
 pub use lexing::{TEXT_TOO_LONG, fault_at, lex};
 pub use token::{Located, Place, Token, TokenKind, Tokens};
 pub use token_cutting::{Lexed, MOST_MODULE_OCTETS, cut_text};

@@ -2,4 +2,5 @@ pub mod Contents
 pub mod Placing
 pub mod Grown
 pub mod Shuts
+pub mod Syntaxes
 pub mod Whole

@@ -11,5 +11,6 @@ pub mod Oid
 pub mod Outside
 pub mod PdvContent
 pub mod Printed
+pub mod Proposals
 pub mod SetPlaces
 pub mod Syntax

@@ -26,6 +26,7 @@ mod octets;
 mod oid;
 mod presentation_word;
 mod printing;
+mod proposals;
 mod real_files;
 mod rtse_word;
 mod session_word;
@@ -59,11 +60,12 @@ pub use presentation_word::{
     PresentationWord,
 };
 pub use printing::{FaultAt, WordWithNumber};
+pub use proposals::is_badly_offered;
 pub use real_files::{DiskFiles, StdSink};
 pub use rtse_word::{ConnectionData, Rtse};
 pub use session_word::{SessionConnect, SessionWord, Spdu, Spdus};
 pub use set_places::{pair_of, place_of, remove_context};
 pub use sink::{Sink, SinkFault, write_all};
 pub use sure_line::SureLine;
-pub use syntax::{Pair, Syntax};
+pub use syntax::{Pair, Syntax, is_listed};
 pub use tcp_line::TcpLine;

@@ -1,8 +1,9 @@
 //! How faults and refusals print that tell a place or a number.
 
-ghost use Rattle.std.specs.Prelude.{Some};
-ghost use Rattle.osi_base.specs.Printed.{fault_at_text, numbered_text};
+ghost use Rattle.std.specs.Prelude.{◌≡◌, Some};
+ghost use Rattle.osi_base.specs.Printed.{fault_at_text, kind_word, numbered_text};
 
+use crate::layer_words::Kind;
 use std::fmt;
 
 /// A cause, and the octet at which it stands; prints as `Tag at octet 12`.
@@ -12,6 +13,19 @@ pub struct FaultAt {
     pub cause: &'static str,
     /// The place, counted in octets from 0.
     pub place: u64,
+}
+
+impl FaultAt {
+    /// A field that breaks its rule in this way, at this octet.
+    pub fn field(kind: Kind, place: usize) -> FaultAt
+        ensures cause { result.cause.now ≡ kind_word kind }
+        ensures place { result.place ≡ place }
+    {
+        FaultAt {
+            cause: kind.word(),
+            place: place as u64,
+        }
+    }
 }
 
 impl fmt::Display for FaultAt {

@@ -1,6 +1,7 @@
 //! Transfer syntaxes, and the pairs that presentation contexts stand for.
 
 ghost use Rattle.std.specs.Prelude.{◌≡◌, ◌≢◌, IfOk, IfSome, IfNone};
+ghost use Rattle.osi_base.specs.Syntax.{is_listed};
 
 use crate::copied::Copied;
 use crate::fault::NoMemory;
@@ -19,7 +20,7 @@ pub enum Syntax {
 }
 
 impl Syntax {
-    ghost use Rattle.osi_base.specs.Syntax.{name_of};
+    ghost use Rattle.osi_base.specs.Syntax.{name_of, syntax_named};
     ghost use Rattle.osi_base.specs.declared.syntax.Syntax.{Syntax};
 
     /// The arcs of the syntax's name.
@@ -44,18 +45,36 @@ impl Syntax {
         }
     }
 
-    /// The syntax with this name, where there is one.
-    pub fn from_name(name: &Oid) -> Option<Syntax>
+    /// The syntax whose name has these arcs (X.690 12); `None` where it is none of the three.
+    #[tactic(auto, using(crate::proofs::Syntaxes::named_back, crate::proofs::Syntaxes::none_named))]
+    pub fn from_name(name: &[u32]) -> Option<Syntax>
+        ensures named { result ≡ syntax_named name.now }
         ensures found { IfSome result (λ syntax. name.now ≡ name_of syntax) }
         ensures none { IfNone result ((syntax : Syntax) → name.now ≢ name_of syntax) }
     {
-        match name.arcs() {
-            [2, 1, 1] => Some(Syntax::Ber),
-            [2, 1, 2, 1] => Some(Syntax::Der),
-            [2, 999, 5, 1] => Some(Syntax::Packed),
-            _ => None,
+        if name == Syntax::Ber.arcs() {
+            return Some(Syntax::Ber);
+        }
+        if name == Syntax::Der.arcs() {
+            return Some(Syntax::Der);
+        }
+        if name == Syntax::Packed.arcs() {
+            return Some(Syntax::Packed);
+        }
+        None
+    }
+}
+
+/// Whether the name with these arcs stands among the others.
+pub fn is_listed(name: &[u32], names: &[Oid]) -> bool
+    ensures { result ≡ is_listed name.now names.now }
+{
+    for other in names {
+        if name == other.arcs() {
+            return true;
         }
     }
+    false
 }
 
 /// What a presentation context stands for: an abstract syntax, and the transfer syntax in which

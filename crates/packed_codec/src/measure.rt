@@ -1,4 +1,6 @@
-//! How many octets values have in the packed syntax. Counts stand still at their type's end.
+//! How many octets the packed spelling of a value has, whether or not the value fits; `packed_size`
+//! of `ber_writing` counts by a rule of its own, and a law of `packed_laws` tells that the two are
+//! one for values that fit. Counts stand still at their type's end.
 
 ghost use Rattle.std.specs.Prelude.{◌≡◌, ◌≤◌, ◌<◌, ◌+◌, min, length};
 ghost use Rattle.std.specs.List.{AllByRecursion, flat_map};

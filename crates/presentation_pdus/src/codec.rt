@@ -14,7 +14,7 @@ use crate::table::PpduTable;
 use crate::words::{row_of, said, value_of};
 use asn1_types::{TypeTable, Val};
 use ber_writing::ber_octets;
-use fixed_tables::{PduFault, fault_of};
+use fixed_tables::{PduFault, all_of, fault_of};
 use osi_base::{Kind, NoMemory, Octets, Ppdu};
 use std::alloc::Global;
 
@@ -24,15 +24,7 @@ fn whole(alloc: Global, table: &TypeTable, place: PpduPlace, bytes: &[u8]) -> Re
     ensures { GivesWhole result (all_at (ppdu_run ppdu_rows place) most_spelled bytes.now) }
 {
     match front(alloc, table, place, bytes) {
-        Ok((value, used)) => {
-            if used == bytes.len() {
-                return Ok(value);
-            }
-            Err(PduFault::At {
-                place: used,
-                kind: Kind::Extra,
-            })
-        }
+        Ok((value, used)) => all_of(bytes.len(), value, used),
         Err(fault) => Err(fault_of(bytes.len(), fault)),
     }
 }

@@ -61,13 +61,10 @@ impl fmt::Display for PpduFault {
     fn fmt<W: fmt::Write>(&self, f: &mut fmt::Formatter<W>) -> fmt::Result {
         match self {
             PpduFault::At { place, kind, .. } => fmt::Display::fmt(
-                &FaultAt {
-                    cause: kind.word(),
-                    place: *place as u64,
-                },
+                &FaultAt::field(*kind, *place),
                 f,
             ),
-            PpduFault::NoMemory => f.write_str("out of memory"),
+            PpduFault::NoMemory => fmt::Display::fmt(&NoMemory, f),
         }
     }
 }

@@ -1,4 +1,5 @@
-//! Reading what an APDU carries.
+//! Reading what an APDU carries: a role takes a value only where `fits` holds of it, which
+//! `module_contents` doesn't ask of the values that it reads.
 
 ghost use Rattle.std.specs.Prelude.{◌≡◌, ◌<◌, length, IfOk, Some, true, false};
 ghost use Rattle.osi_base.specs.declared.syntax.Syntax.TheVariants as syntaxes;
@@ -13,7 +14,7 @@ use std::alloc::Global;
 use stub_tables::Use;
 
 /// The value that fits and that all of these octets spell in BER.
-fn ber_value(
+fn fitting_in_ber(
     alloc: Global,
     types: &TypeTable,
     of: TypeId,
@@ -37,7 +38,7 @@ fn ber_value(
 }
 
 /// The value that fits and that all of these octets spell in DER.
-fn der_value(
+fn fitting_in_der(
     alloc: Global,
     types: &TypeTable,
     of: TypeId,
@@ -60,8 +61,9 @@ fn der_value(
     }
 }
 
-/// The value that all of these octets spell in the packed syntax.
-fn packed_value(
+/// The value that fits and that all of these octets, as many as have room, spell in the packed
+/// syntax.
+fn fitting_in_packed(
     alloc: Global,
     types: &TypeTable,
     of: TypeId,
@@ -84,8 +86,9 @@ fn packed_value(
     }
 }
 
-/// The value of this type that all of these octets spell; in the packed syntax they have a limit.
-fn value_of(
+/// The value of this type that fits and that all of these octets spell; in the packed syntax they
+/// have a limit.
+fn fitting_value(
     alloc: Global,
     syntax: Syntax,
     types: &TypeTable,
@@ -97,13 +100,13 @@ fn value_of(
     ensures { IfOk result (IsReadAs syntax types.now room of.0 octets.now) }
 {
     match syntax {
-        Syntax::Ber => ber_value(alloc, types, of, octets, room),
-        Syntax::Der => der_value(alloc, types, of, octets, room),
-        Syntax::Packed => packed_value(alloc, types, of, octets, room),
+        Syntax::Ber => fitting_in_ber(alloc, types, of, octets, room),
+        Syntax::Der => fitting_in_der(alloc, types, of, octets, room),
+        Syntax::Packed => fitting_in_packed(alloc, types, of, octets, room),
     }
 }
 
-/// The value of the row, where there is such a row.
+/// The value of the row that fits, where there is such a row.
 fn row_value(
     alloc: Global,
     syntax: Syntax,
@@ -115,7 +118,7 @@ fn row_value(
     ensures { IfOk result (IsReadAs syntax types.now room of.0 octets.now) }
 {
     if types.has(of) {
-        value_of(alloc, syntax, types, of, octets, room)
+        fitting_value(alloc, syntax, types, of, octets, room)
     } else {
         Ok(None)
     }

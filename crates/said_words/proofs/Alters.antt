@@ -11,8 +11,9 @@ use Rattle.dialogue.specs.declared.call.CallRefusal.TheVariants as refusals
 use Rattle.end_model.specs.end_rules.Base.{Base}
 use Rattle.end_model.specs.end_rules.Sets.{Alteration, is_among, named_ids, proposed_ids, is_fixed, is_named_in, count_added}
 use Rattle.osi_base.specs.SetPlaces.{pair_of}
+use Rattle.osi_base.specs.Proposals.{has_bad_transfers}
 use Rattle.end_model.specs.end_rules.State.{Body, is_empty, is_free, is_current, is_ending}
-use Rattle.end_model.specs.end_rules.Altering.{used, has_double, is_no_context, has_bad_transfers, is_bad, additions_refusal, deletion_refusal, deletions_refusal, or_else, is_set_full, alteration_refusal, can_alter}
+use Rattle.end_model.specs.end_rules.Altering.{used, has_double, is_no_context, is_bad, additions_refusal, deletion_refusal, deletions_refusal, or_else, is_set_full, alteration_refusal, can_alter}
 use Rattle.end_model.specs.Rows.{at}
 use Rattle.end_model.proofs.Ladder.{passed, unrefused}
 use Rattle.reliable_model.proofs.Fixed.{AreIdentifiers, good-identifiers}
@@ -43,7 +44,7 @@ not-full false refusal h = refl
 few-transfers : (ps : List Proposal) → AreIdentifiers ps → list_any has_bad_transfers ps ≡ false → AreFew ps
 few-transfers [] i h = tt
 few-transfers (p ∷ ps) i h =
-    ((i.0.low, i.0.high), few (length p.transfers) (or-right (is_empty p.transfers) (nat_lt 8 (length p.transfers)) (or-left (has_bad_transfers p) (list_any has_bad_transfers ps) h)), few-transfers ps i.1 (or-right (has_bad_transfers p) (list_any has_bad_transfers ps) h))
+    ((i.0.low, i.0.high), few (length p.transfers) (or-right (nat_eq (length p.transfers) 0) (nat_lt 8 (length p.transfers)) (or-left (has_bad_transfers p) (list_any has_bad_transfers ps) h)), few-transfers ps i.1 (or-right (has_bad_transfers p) (list_any has_bad_transfers ps) h))
   where
     few : (n : ℕ) → nat_lt 8 n ≡ false → n ≤ 8
     few n h = grind (arith, nat_tests)

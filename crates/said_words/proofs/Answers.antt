@@ -6,9 +6,10 @@ use Rattle.osi_base.specs.declared.syntax.Syntax.{Syntax}
 use Rattle.osi_base.specs.declared.syntax.Syntax.TheVariants.{Ber}
 use Rattle.osi_base.specs.declared.layer_words.Proposal.{Proposal}
 use Rattle.end_model.specs.end_rules.Base.{Base, ber_name}
-use Rattle.end_model.specs.end_rules.Sets.{Alteration, same_name, syntax_named, is_among, is_fixed, count_added}
+use Rattle.end_model.specs.end_rules.Sets.{Alteration, same_name, is_among, is_fixed, count_added}
 use Rattle.osi_base.specs.SetPlaces.{pair_of}
 use Rattle.osi_base.specs.Limits.{most_contexts}
+use Rattle.osi_base.specs.Syntax.{syntax_named}
 use Rattle.end_model.specs.end_rules.State.{Body}
 use Rattle.end_model.specs.end_rules.Altering.{used}
 use Rattle.end_model.specs.end_rules.Policy.{is_association, is_taken, takes_syntax, acceptance, rejection, answer_within, counted_with, answer_to_addition, answers_to_additions, answer_to_deletion, policy}

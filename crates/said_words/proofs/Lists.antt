@@ -11,7 +11,8 @@ use Rattle.osi_base.specs.Limits.{most_marks, most_contexts}
 use Rattle.end_model.specs.end_rules.Base.{Base}
 use Rattle.end_model.specs.end_rules.Sets.{Alteration, Saved, is_among, put, put_accepted, pair_accepted, accepted_pair}
 use Rattle.osi_base.specs.SetPlaces.{pair_of, without_context}
-use Rattle.end_model.specs.end_rules.Sets.{syntax_named, with_added, with_deleted, altered, count_added, below, newest, next_number, listed}
+use Rattle.osi_base.specs.Syntax.{syntax_named}
+use Rattle.end_model.specs.end_rules.Sets.{with_added, with_deleted, altered, count_added, below, newest, next_number, listed}
 use Rattle.end_model.specs.end_rules.State.{Body}
 use Rattle.end_model.specs.end_rules.Altering.{has_double}
 use Rattle.end_model.specs.end_rules.Policy.{is_taken, takes_syntax, rejection, acceptance, answer_within, answer_to_addition, counted_with, answers_to_additions, policy}

@@ -7,11 +7,10 @@ ghost use Rattle.association_sets.specs.end_rules.Policy.{is_association, is_tak
 ghost use Rattle.set_rules.specs.Plain.{plain_base};
 
 use association_sets::association_ground_layer::{
-    is_acse, is_ber, is_reliable, is_rtse, same_name, syntax_named,
+    is_acse, is_ber, is_reliable, is_rtse, same_name,
 };
-use association_sets::is_listed;
 use dialogue::Config;
-use osi_base::{AddAnswer, AddAnswers, Copied, ListOf, NoMemory, Oid, Proposal};
+use osi_base::{AddAnswer, AddAnswers, Copied, ListOf, NoMemory, Oid, Proposal, Syntax, is_listed};
 use std::alloc::Global;
 use stub_tables::Tables;
 
@@ -43,7 +42,7 @@ fn takes_syntax(
     if connecting && is_association(tables, config, name) {
         return is_ber(syntax);
     }
-    syntax_named(syntax).is_some() && is_listed(syntax, config.accepts.as_slice())
+    Syntax::from_name(syntax).is_some() && is_listed(syntax, config.accepts.as_slice())
 }
 
 /// The first transfer syntax of a proposal that is taken.

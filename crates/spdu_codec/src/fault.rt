@@ -24,14 +24,8 @@ impl fmt::Display for SFault {
 
     fn fmt<W: fmt::Write>(&self, f: &mut fmt::Formatter<W>) -> fmt::Result {
         match self {
-            SFault::At { place, kind } => fmt::Display::fmt(
-                &FaultAt {
-                    cause: kind.word(),
-                    place: *place as u64,
-                },
-                f,
-            ),
-            SFault::NoMemory => f.write_str("out of memory"),
+            SFault::At { place, kind } => fmt::Display::fmt(&FaultAt::field(*kind, *place), f),
+            SFault::NoMemory => fmt::Display::fmt(&NoMemory, f),
         }
     }
 }

@@ -28,14 +28,8 @@ impl fmt::Display for LoadFault {
 
     fn fmt<W: fmt::Write>(&self, f: &mut fmt::Formatter<W>) -> fmt::Result {
         match self {
-            LoadFault::At { place, kind } => fmt::Display::fmt(
-                &FaultAt {
-                    cause: kind.word(),
-                    place: *place as u64,
-                },
-                f,
-            ),
-            LoadFault::NoMemory => f.write_str("out of memory"),
+            LoadFault::At { place, kind } => fmt::Display::fmt(&FaultAt::field(*kind, *place), f),
+            LoadFault::NoMemory => fmt::Display::fmt(&NoMemory, f),
         }
     }
 }

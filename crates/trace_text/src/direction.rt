@@ -1,6 +1,6 @@
 //! One direction of a recorded dialogue.
 
-ghost use Rattle.std.specs.Prelude.{◌≡◌, ◌∷◌, [], ℕ, List, ◌++◌, IfOk, OnOk, MatchOption, codes};
+ghost use Rattle.std.specs.Prelude.{◌≡◌, [], ℕ, List, ◌++◌, IfOk, OnOk, codes};
 ghost use Rattle.stub_tables.specs.declared.tables.Tables.{Tables};
 ghost use Rattle.trace_units.specs.declared.said_text.Said.TheVariants as saids;
 ghost use Rattle.trace_text.specs.Directions.{PacketSaid};
@@ -12,7 +12,7 @@ use osi_base::{NoMemory, Octets, Side};
 use std::alloc::Global;
 use tpkt::{Packet, TFault, TReader};
 use trace_file::Recorded;
-use trace_units::{Said, Viewer, direction_word, fault_text};
+use trace_units::{Said, Viewer, direction_word, fault_text, first_of};
 use value_text::Text;
 
 /// What one end sent, as far as it was recorded. Behind a fault nothing more is said of it.
@@ -95,17 +95,6 @@ fn put_stop(
             put_line(text, from, &line)?;
             Ok(true)
         }
-    }
-}
-
-/// The first packet and those behind it.
-fn first_of(packets: &[Packet]) -> Option<(&Packet, &[Packet])>
-    ensures { MatchOption result (packets.entry.now ≡ []) (λ x. packets.entry.now ≡ x.0.now ∷
-        x.1.now) }
-{
-    match packets {
-        [] => None,
-        [first, rest @ ..] => Some((first, rest)),
     }
 }
 

@@ -1,6 +1,6 @@
 //! The trace of a recorded dialogue.
 
-ghost use Rattle.std.specs.Prelude.{◌≡◌, ◌∷◌, [], IfOk, MatchOption};
+ghost use Rattle.std.specs.Prelude.{◌≡◌, IfOk};
 ghost use Rattle.trace_text.specs.Trace.{TraceTextOf};
 
 use crate::direction::Directions;
@@ -8,18 +8,8 @@ use osi_base::{NoMemory, Octets};
 use std::alloc::Global;
 use stub_tables::Tables;
 use trace_file::{Recorded, Recording};
-use trace_units::Viewer;
+use trace_units::{Viewer, first_of};
 use value_text::Text;
-
-/// The first record and those behind it.
-fn first_of(told: &[Recorded]) -> Option<(&Recorded, &[Recorded])>
-    ensures { MatchOption result (told.entry.now ≡ []) (λ x. told.entry.now ≡ x.0.now ∷ x.1.now) }
-{
-    match told {
-        [] => None,
-        [first, rest @ ..] => Some((first, rest)),
-    }
-}
 
 /// What a recorded dialogue says, with the names of a module: a line for each packet that isn't
 /// data and for each transport unit, in the order in which they were whole; a line for the first

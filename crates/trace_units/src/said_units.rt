@@ -8,14 +8,14 @@ ghost use Rattle.trace_units.specs.Units.{ClosedSaid, TwoSaid, WordsSaid, IsOneO
 
 use crate::names::{ppdu_name, spdu_name};
 use crate::said_text::{Said, fault_text};
-use crate::units::{carried, first_of, on, place_in, values_of};
+use crate::units::{carried, on, place_in, values_of};
 use apdu_codec::Heads;
 use osi_base::{NoMemory, Octets, PresentationWord, SessionWord};
 use presentation_pdus::{PpduFault, PpduPlace, PpduTable};
 use spdu_codec::{SFault, UserPlaces, read_spdus, user_places};
 use std::alloc::Global;
 use stub_tables::Tables;
-use trace_values::put_pdvs;
+use trace_values::{first_of, put_pdvs};
 use value_text::Text;
 
 /// With what messages are read: the tables of a module, and those of the upper layers' units.

@@ -1,6 +1,6 @@
 //! What session units carry.
 
-ghost use Rattle.std.specs.Prelude.{◌≡◌, ◌∷◌, [], MatchOption};
+ghost use Rattle.std.specs.Prelude.{◌≡◌, MatchOption};
 ghost use Rattle.spdu_codec.specs.Places.{user_of};
 ghost use Rattle.trace_units.specs.Units.{carrier_of, values_of, place_in, on};
 
@@ -50,16 +50,6 @@ pub(crate) fn values_of(unit: &PresentationWord) -> &[Pdv]
         PresentationWord::UserAbort { user, .. } => user.as_slice(),
         PresentationWord::Data { user } => user.as_slice(),
         _ => &[],
-    }
-}
-
-/// The first session unit and those behind it.
-pub(crate) fn first_of(words: &[SessionWord]) -> Option<(&SessionWord, &[SessionWord])>
-    ensures { MatchOption result (words.entry.now ≡ []) (λ x. words.entry.now ≡ x.0.now ∷ x.1.now) }
-{
-    match words {
-        [] => None,
-        [first, rest @ ..] => Some((first, rest)),
     }
 }
 

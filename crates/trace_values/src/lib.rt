@@ -6,4 +6,4 @@ mod content;
 mod head;
 mod values;
 
-pub use values::put_pdvs;
+pub use values::{first_of, put_pdvs};

@@ -26,11 +26,11 @@ fn put_pdv(
     put_content(alloc, heads, tables, text, &pdv.content)
 }
 
-/// The first value and those behind it.
-fn first_of(pdvs: &[Pdv]) -> Option<(&Pdv, &[Pdv])>
-    ensures { MatchOption result (pdvs.entry.now ≡ []) (λ x. pdvs.entry.now ≡ x.0.now ∷ x.1.now) }
+/// The first item and those behind it; `None` where there is none.
+pub fn first_of<T>(items: &[T]) -> Option<(&T, &[T])>
+    ensures { MatchOption result (items.entry.now ≡ []) (λ x. items.entry.now ≡ x.0.now ∷ x.1.now) }
 {
-    match pdvs {
+    match items {
         [] => None,
         [first, rest @ ..] => Some((first, rest)),
     }

@@ -55,7 +55,7 @@ fn put_syntax(text: &mut Text, name: &Oid) -> Result<(), NoMemory>
     ensures { OnOk result (text.new ≡ text.old ++ syntax_field name.now) }
 {
     text.put(" ")?;
-    match Syntax::from_name(name) {
+    match Syntax::from_name(name.arcs()) {
         Some(Syntax::Ber) => text.put("ber"),
         Some(Syntax::Der) => text.put("der"),
         Some(Syntax::Packed) => text.put("packed"),

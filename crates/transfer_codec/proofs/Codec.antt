@@ -3,7 +3,7 @@ use Rattle.std.proofs.Common.{◌≡◌, refl, true, false, ◌∙◌, sym, ap, 
 use Rattle.std.specs.Prelude.{Bool, not, ◌&&◌, ℤ, pos, negsuc, Option, Some, None, is_some, Result, Ok, Err, nat_eq, nat_le, if◌then◌else◌}
 use Rattle.std.proofs.lemmas.Bool.{le-leb}
 use Rattle.std.proofs.lemmas.Bool.Decides.{nat_tests}
-use Rattle.osi_base.specs.Syntax.{name_of}
+use Rattle.osi_base.specs.Syntax.{name_of, syntax_named}
 use Rattle.osi_base.specs.declared.syntax.Pair.{Pair}
 use Rattle.osi_base.specs.declared.syntax.Syntax.{Syntax}
 use Rattle.osi_base.specs.declared.syntax.Syntax.TheVariants.{Ber, Der, Packed}
@@ -21,7 +21,7 @@ use Rattle.apdu_spelling.proofs.Written.{written_spelled}
 use Rattle.dialogue.specs.declared.config.Config.{Config}
 use Rattle.dialogue.specs.declared.config.Mode.{Mode}
 use Rattle.end_rules.specs.Base.{Base, Item, Fault, Arrived, Whole, Raw}
-use Rattle.end_rules.specs.Sets.{same_name, syntax_named}
+use Rattle.end_rules.specs.Sets.{same_name}
 use Rattle.osi_base.specs.SetPlaces.{pair_of}
 use Rattle.end_rules.specs.Invoking.{is_too_long}
 use Rattle.end_wire.specs.Heads.{head_at, apdu_of}

@@ -1,5 +1,5 @@
 use Rattle.std.proofs.Common.{◌≡◌, ℕ, ◌+◌, ◌++◌, [], drop}
-use Rattle.context_sets.specs.Asking.{is_bad_offer, first_of, addition_refusal, deletion_refusal, are_bad}
+use Rattle.context_sets.specs.Asking.{first_of, addition_refusal, deletion_refusal, are_bad}
 use Rattle.context_sets.proofs.asking.additions_refusal.Given as goal
 
 abbrev pub invariant-loop-proposal : goal.invariant-loop-proposal
