@@ -1,4 +1,6 @@
-//! Table files: the tables of a module as octets, in the packed syntax of one value.
+//! Table files: the compiled tables of a module as octets, which are one value in the packed
+//! syntax. They are stored, loaded, or refused with their first fault, and migrated to the newest
+//! version.
 #![tactic(auto)]
 
 mod fault;
