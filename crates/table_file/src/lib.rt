@@ -1,6 +1,6 @@
 //! Table files: the compiled tables of a module as octets, which are one value in the packed
-//! syntax. They are stored, loaded, or refused with their first fault, and migrated to the newest
-//! version.
+//! syntax. They are stored; they are loaded, or refused with their first fault; and those of an
+//! older version are migrated to the present one.
 #![tactic(auto)]
 
 mod fault;
