@@ -1,4 +1,7 @@
-//! Agreement of two ends at message level: the model of an association and its laws.
+//! A model of two ends that exchange messages, in all modes and without octets: the laws that hold
+//! of each of its runs, such as that an invocation has at most one outcome (X.880 8), and worked
+//! runs. The crates `end_model` and `reliable_model` prove that what ends do are steps of this
+//! model.
 #![tactic(auto)]
 
 mod cases;

@@ -1,5 +1,6 @@
-//! Heads of APDUs of remote operations (X.882 9) read, APDUs written, and told how long they are
-//! without writing them, in BER, DER and the packed syntax.
+//! APDUs of remote operations (X.880 9, X.882 9) in BER, DER and the packed syntax. An APDU is read
+//! up to its value, which stays unread until its type is known; it is written; and its length is
+//! told without writing it.
 #![tactic(auto)]
 
 mod fault;
@@ -12,6 +13,7 @@ mod reading;
 mod values;
 mod writing;
 
+// The head that `read_apdu` gives.
 pub use apdu_spelling::{ApduHead, ApduKind};
 pub use fault::HeadFault;
 pub use heads::Heads;

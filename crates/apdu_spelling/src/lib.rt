@@ -1,5 +1,6 @@
-//! The spellings of APDUs of remote operations (X.880 9, X.882 9) in BER, DER and the packed
-//! syntax.
+//! Which octets spell an APDU of remote operations (X.880 9, X.882 9) in BER, DER and the packed
+//! syntax, as definitions with their laws; and the head of an APDU, all of it but its value, as a
+//! type.
 #![tactic(auto)]
 
 mod head;

@@ -1,5 +1,6 @@
-//! Types and values of ASN.1 (X.680), below every transfer syntax: the value type, rows and
-//! tables of types, which values fit, and what stands behind one whole value.
+//! Types and values of ASN.1 (X.680), whatever the transfer syntax: values, tables whose rows are
+//! types, and which values fit a type; beside them where a whole value in BER or DER ends (X.690
+//! 8.1).
 #![tactic(auto)]
 
 mod clash;

@@ -1,5 +1,6 @@
-//! What a message leads to, in small: lists of answers and indications, the policy on proposed
-//! contexts, and the end of an association.
+//! What an end of an association answers for a message, and what it tells its user: lists of
+//! answers and indications, the policy on contexts that the peer proposes, and the end of an
+//! association with its abort. The crates that take messages share it.
 #![tactic(auto)]
 
 mod brought;
@@ -7,6 +8,7 @@ mod choosing;
 mod ending;
 mod telling;
 
+// Passed on: crates above name these through this one.
 pub use association_calls as association_calls_layer;
 pub use association_calls::{association_state_layer, open_invocations_layer};
 pub use association_sends as association_sends_layer;

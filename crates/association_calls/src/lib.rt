@@ -1,4 +1,6 @@
-//! What may be called of one end of an association, and why not: the first row that fails decides.
+//! Whether a call of an end of an association is allowed (X.225 7, X.226 6, X.228 7, X.880 8). Each
+//! kind of call has rows of conditions; the first that fails is the refusal that the caller is
+//! answered.
 #![tactic(auto)]
 
 mod altering;
@@ -11,6 +13,7 @@ mod transfers;
 mod units;
 
 pub use altering::can_alter;
+// Passed on: crates above name these through this one.
 pub use association_state as association_state_layer;
 pub use association_state::open_invocations_layer;
 use dialogue::CallRefusal;
@@ -25,5 +28,6 @@ pub use units::{
     manages_with, needed_units, selected_with,
 };
 
-/// The answer to a call.
+/// The answer to a call: refused, with the first reason; or allowed, with the identifier of the
+/// invocation where the call makes one.
 pub type Reply = Result<Option<i64>, CallRefusal>;

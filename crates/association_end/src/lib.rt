@@ -12,5 +12,6 @@ mod reading;
 mod sending;
 mod told_and_sent;
 
+// Passed on: crates above name these through this one.
 pub use association_line as association_line_layer;
 pub use end::End;

@@ -1,4 +1,4 @@
-//! What an end of reliable mode does by itself (X.228 7.2, 7.3).
+//! What an end of reliable mode does by itself (X.228 7.3).
 
 ghost use Rattle.std.specs.Prelude.{◌≡◌, [], ◌∷◌, Some, false, IfOk, OnOk, OnErr, MatchResult, option_map};
 ghost use Rattle.end_rules.specs.ByItself.{encoding, item_on, encoded_as, next_own as rule_next};

@@ -1,5 +1,6 @@
-//! Modes with the units that each proposes, names of syntaxes and of the application context, and
-//! phases, as ends of every mode ask of them.
+//! What the rules of an end ask first, in every mode: which mode it is and which units of the
+//! session it proposes, which names are those of syntaxes and of the application context, and in
+//! which phase an association is.
 #![tactic(auto)]
 
 mod modes;

@@ -1,6 +1,6 @@
-//! What becomes of an APDU of remote operations that an end takes on a context: what it shows, what
-//! it opens and closes, which reject it brings (X.880 9, X.882 9); and what both takings and calls
-//! do with transfers.
+//! What an end of an association does with an APDU of remote operations that came on a context
+//! (X.880 9, X.882 9): what it tells its user, which invocations it opens and closes, and which
+//! reject it sends. Beside it what both takings and calls do with transfers (X.228 7).
 #![tactic(auto)]
 
 mod apdus;
@@ -13,6 +13,7 @@ mod unread;
 mod values;
 
 pub use apdus::hear_apdu;
+// Passed on: crates above name these through this one.
 pub use association_answers as association_answers_layer;
 pub use association_answers::{
     association_calls_layer, association_sends_layer, association_state_layer,

@@ -1,4 +1,4 @@
--- How much is left of what an end does by itself, and that each thing that it does leaves less (X.228 7.2, 7.3).
+-- How much is left of what an end does by itself, and that each thing that it does leaves less (X.228 7.3).
 use Rattle.std.specs.Prelude.{◌≡◌, ℕ, ◌+◌, ◌*◌, ◌<◌, List, [], ◌∷◌, length, Bool, true, false, Option, Some, None}
 use Rattle.association_reading.specs.end_rules.Base.{Base}
 use Rattle.osi_base.specs.SetPlaces.{pair_of}

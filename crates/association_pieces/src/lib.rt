@@ -1,5 +1,5 @@
-//! The pieces of what one end of an association holds, each the matter of one layer, and their
-//! small changes.
+//! What one end of an association holds, in pieces: the session, context sets, saved sets, and what
+//! it sends and receives, each with its small changes. `association_state` puts them together.
 #![tactic(auto)]
 
 mod link;
@@ -11,6 +11,7 @@ mod sending;
 mod sets;
 mod stack;
 
+// Passed on: crates above name these through this one.
 pub use association_sets as association_sets_layer;
 pub use association_sets::association_ground_layer;
 pub use link::{Awaited, Link, Stage};

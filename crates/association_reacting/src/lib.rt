@@ -8,6 +8,7 @@ mod faults;
 mod reacting;
 mod taking;
 
+// Passed on: crates above name these through this one.
 pub use association_connecting::{association_answers_layer, association_sends_layer};
 pub use association_place as association_place_layer;
 pub use association_place::association_state_layer;

@@ -1,5 +1,6 @@
-//! What a call of an end of an association changes and sends, what an end of reliable mode sends by
-//! itself, and what the sending of a request and a break of the connection change.
+//! What a call of an end of an association changes and sends once it is allowed (X.225 7, X.226 6,
+//! X.228 7); what an end of reliable mode sends by itself (X.228 7.3); and what changes when a
+//! request has been sent, and when the connection breaks.
 #![tactic(auto)]
 
 mod broken;

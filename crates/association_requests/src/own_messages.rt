@@ -1,5 +1,5 @@
 //! What an end of reliable mode sends by itself: while it leads, all that its transfer in progress
-//! gives, and the start of the next item (X.228 7.2, 7.3).
+//! gives, and the start of the next item (X.228 7.3).
 
 ghost use Rattle.std.specs.Prelude.{◌≡◌, length, take, Some, IfOk, option_map};
 ghost use Rattle.end_rules.specs.Messages.{OfMarks, OfActivities, Session, Mark, End};

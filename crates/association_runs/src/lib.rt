@@ -1,4 +1,5 @@
-//! Runs of two ends of direct or reliable mode that see of each other octets alone.
+//! The laws of every run of two ends of direct or reliable mode that see of each other octets
+//! alone. Each law is the contract of a function that does nothing.
 #![tactic(auto)]
 
 mod laws;

@@ -1,9 +1,11 @@
-//! All that one end of an association holds but its line, and what its rules stand on.
+//! All that one end of an association holds but its octets (`Body`), and what its rules stand on:
+//! the configuration and the tables (`Ground`).
 #![tactic(auto)]
 
 mod basis;
 mod body;
 
+// Passed on: crates above name these through this one.
 pub use association_pieces::{
     Awaited, Encoded, Link, Piece, Pieces, Progress, Queued, Receiving, SavedSet, SavedSets,
     Sending, Sets, Stack, Stage, Transfer, association_ground_layer, association_sets_layer,
@@ -12,5 +14,6 @@ pub use association_pieces::{
 pub use association_reading::apdu_codec_layer;
 pub use basis::Ground;
 pub use body::Body;
+// Passed on: crates above name these through this one.
 pub use open_invocations as open_invocations_layer;
 pub use open_invocations::rose_roles_layer;

@@ -1,5 +1,6 @@
-//! What an end of an association does with transport units, data, alterations, marks and tokens,
-//! and activities.
+//! What an end of an association does with what comes, but for openings, releases and aborts:
+//! transport units, data, alterations of contexts, marks and tokens, and activities (X.225 7.11 to
+//! 7.36, X.226 6, X.228 7).
 #![tactic(auto)]
 
 mod activities;

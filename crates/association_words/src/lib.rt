@@ -1,4 +1,5 @@
-//! The messages that two ends of an association exchange, as values.
+//! The messages that two ends of an association exchange, as types: what each says, apart from its
+//! octets (X.224 13, X.225 8.3, X.226 8, X.227 9, X.228 9).
 #![tactic(auto)]
 
 mod faults;

@@ -66,7 +66,7 @@ pub struct Value {
     pub id: u32,
     /// The pair that the identifier stands for; `None` on a context that isn't there.
     pub pair: Option<Pair>,
-    /// What it is.
+    /// What its octets are: an APDU of one of the layers, or they themselves.
     pub content: ValueContent,
 }
 
@@ -80,7 +80,7 @@ pub struct TransferItem {
     pub id: u32,
     /// The pair of abstract and transfer syntax under which the APDU is written or was read.
     pub pair: Pair,
-    /// The APDU.
+    /// The APDU of remote operations.
     pub apdu: Apdu,
 }
 

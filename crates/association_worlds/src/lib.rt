@@ -1,4 +1,6 @@
-//! Two ends of an association that see of each other octets alone, step by step.
+//! Two ends of an association that see of each other octets alone, step by step: laws by which what
+//! is proved of ends that exchange messages holds of these too. Each law is the contract of a
+//! function that does nothing.
 #![tactic(auto)]
 
 mod laws;

@@ -1,5 +1,5 @@
-//! The octets of messages of an association: values in units of the presentation, in units of the
-//! session, in packets.
+//! Messages of an association written as octets: values in units of the presentation (X.226 8),
+//! these in units of the session (X.225 8), and these in packets (X.224 13, RFC 1006 6).
 #![tactic(auto)]
 
 mod message;

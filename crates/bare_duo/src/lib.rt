@@ -7,6 +7,7 @@ mod end;
 mod laws;
 mod running;
 
+// Passed on: crates above name these through this one.
 pub use bare_end as bare_end_layer;
 pub use cases::{
     invocations_with_links, last_octets_count, one_answer_is_told, outcomes_of_open_invocations,

@@ -1,5 +1,6 @@
-//! Types and values of ASN.1 (X.680) in BER and DER (X.690): rows and tables of types, values and
-//! which of them fit, reading, writing and their laws, as one crate.
+//! Types and values of ASN.1 (X.680) in BER and DER (X.690), as one crate: rows and tables of
+//! types, values and which of them fit, reading, writing and their laws. It has no code of its own;
+//! each part stands in the crate that its line below names.
 #![tactic(auto)]
 
 pub use asn1_types::{

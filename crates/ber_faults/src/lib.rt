@@ -1,4 +1,5 @@
-//! The first fault of octets in BER and DER (X.690), told by the grammar alone, and its laws.
+//! The first fault of octets that spell no value in BER or DER (X.690), defined by the grammar and
+//! apart from the reader; the laws that the reader tells exactly this fault, and worked faults.
 #![tactic(auto)]
 
 mod examples;

@@ -1,5 +1,5 @@
-//! Laws of all spellings in BER and DER, which need no reader: each is one whole value, and unused
-//! bits may have any values.
+//! Laws of all spellings in BER and DER (X.690), apart from any reader: each is one whole value,
+//! and the unused bits of a bit string may have any values in BER.
 #![tactic(auto)]
 
 mod laws;

@@ -1,4 +1,4 @@
-//! Reading values of the types of `asn1_types` from BER and DER (X.690).
+//! Values of the types of `asn1_types`, read from octets in BER and DER (X.690).
 #![tactic(auto)]
 
 mod contents;
@@ -7,6 +7,7 @@ mod reading;
 mod short_parts;
 mod whole_values;
 
+// The fault that every reader here gives.
 pub use ber_spelling::ReadFault;
 pub use contents::any_value;
 pub use reading::value;

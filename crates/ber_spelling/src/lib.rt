@@ -1,5 +1,5 @@
-//! What spells a value in BER and DER (X.690), the laws of spellings, and the reading of single
-//! fields.
+//! Which octets spell a value in BER and DER (X.690), as definitions with their laws; and the
+//! reading of single fields, on which `ber_reading` is built.
 #![tactic(auto)]
 
 mod fault;
@@ -14,6 +14,7 @@ mod strings;
 mod tag;
 mod whole;
 
+// The tag that `expect_tag` and `tag_or` look for.
 pub use asn1_types::Tag;
 pub use fault::ReadFault;
 pub use fields::{class_of, extent, identifier_octets, look_ahead, refusal};

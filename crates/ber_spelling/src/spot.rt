@@ -23,7 +23,7 @@ pub struct Scope {
     pub end: Option<usize>,
     /// The contents end at end-of-contents octets, and not at `end`.
     pub marked: bool,
-    /// Only DER is taken.
+    /// Whether only DER is taken, and not all of BER.
     pub strict: bool,
 }
 

@@ -1,5 +1,5 @@
-//! The lengths of values of the types of `asn1_types` in DER (X.690), their order, which values
-//! fit, and writing them.
+//! Values of the types of `asn1_types`, written in DER (X.690), with what that needs: their
+//! lengths, the order of a SET OF's items, and which values fit their type.
 #![tactic(auto)]
 
 mod compare;

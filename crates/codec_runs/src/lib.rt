@@ -1,5 +1,6 @@
 //! The laws of every run of two ends of direct or of reliable mode that see of each other octets
-//! alone, as the codecs spell them.
+//! alone, with this project's own codecs: nothing is presumed of spellings any more. Each law is
+//! the contract of a function that does nothing but cite others.
 #![tactic(auto)]
 
 mod direct_laws;

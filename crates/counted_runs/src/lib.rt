@@ -1,5 +1,5 @@
-//! Runs of two ends of an association whose lines are octets: the messages that an end took,
-//! counted by the octets that were given to it.
+//! A law on runs of two ends of an association whose lines are octets: after each event, an end
+//! that isn't over has taken exactly the messages whose last octet was given to it.
 #![tactic(auto)]
 
 mod laws;

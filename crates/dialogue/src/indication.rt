@@ -68,7 +68,7 @@ pub enum Indication {
     Cut {
         /// Whether this end made it.
         own: bool,
-        /// Its identifier.
+        /// The identifier of the invocation.
         id: i64,
     },
     /// The peer's alteration of the context set was taken and answered.

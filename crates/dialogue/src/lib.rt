@@ -1,5 +1,5 @@
-//! What an end is asked, what it answers and what it indicates; configurations, events of a
-//! schedule and transcripts.
+//! What the user of an end calls, what the end answers and what it tells, as types; with them
+//! configurations of ends, events of a schedule, and transcripts of runs.
 #![tactic(auto)]
 
 mod call;

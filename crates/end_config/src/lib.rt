@@ -1,5 +1,5 @@
-//! Which configurations an end refuses, in any mode, and the CP with which an initiator opens or
-//! recovers an association.
+//! Which configurations an end refuses, in any mode, and the unit CP (X.226 8.2.1) with which an
+//! initiator opens or recovers an association, as octets.
 #![tactic(auto)]
 
 mod checking;

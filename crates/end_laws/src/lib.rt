@@ -1,5 +1,6 @@
-//! The laws of two ends of bare and of direct mode where APDUs are spelled by the codecs: what the
-//! laws of `end_model` ask of spellings and of configurations is proved of them.
+//! The laws of two ends of bare and of direct mode with this project's codecs: what the laws of
+//! `end_model` presume of spellings and of configurations is proved here of the codecs and of
+//! configurations that no end refuses.
 #![tactic(auto)]
 
 mod laws;

@@ -1,5 +1,6 @@
-//! One end as the model of agreement sees it: each request that an end sends and each message that
-//! it takes is the act or the taking of the model.
+//! One end as the model of `agreement` sees it: each request that an end sends, and each message
+//! that it takes, is a step of the model. So the model's laws hold of two ends of bare and of
+//! direct mode.
 #![tactic(auto)]
 
 mod acting;

@@ -1,5 +1,5 @@
 -- What an end of reliable mode sends by itself: while it leads, all that its transfer in progress gives, and the
--- start of the next item (X.228 7.2, 7.3).
+-- start of the next item (X.228 7.3).
 use Rattle.std.specs.Prelude.{ℕ, zero, suc, ◌-◌, ◌*◌, List, [], ◌∷◌, length, take, drop, Bool, true, false, not, ◌&&◌, nat_lt, nat_le, if◌then◌else◌, Option, Some, None, is_some}
 use Rattle.osi_base.specs.declared.syntax.Pair.{Pair}
 use Rattle.osi_base.specs.Limits.{last_activity, checkpoint_unit}

@@ -1,5 +1,5 @@
 -- How an opening is taken: what may not stand in it, whether it is accepted, and what an end is afterwards (X.225
--- 7.1 to 7.3, X.226 6.1, X.227 7.1, X.228 7.1; recoveries as in this project's profile).
+-- 7.1, 7.4, 7.5; X.226 6.1, X.227 7.1, X.228 7.1; recoveries as in this project's profile).
 use Rattle.std.specs.Prelude.{ℕ, ◌/◌, ◌%◌, min, pos, List, [], ◌∷◌, ◌++◌, Bool, true, false, not, ◌&&◌, ◌||◌, nat_eq, if◌then◌else◌, Option, Some, None, is_some}
 use Rattle.std.specs.Ordering.{int_eq}
 use Rattle.osi_base.specs.declared.layer_words.SetItem.{SetItem}

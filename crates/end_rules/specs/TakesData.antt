@@ -1,4 +1,4 @@
--- Values and alterations (X.225 7.10, X.226 6.2, 6.3; X.228 7.3).
+-- Values and alterations (X.225 7.11, 7.13; X.226 6.2, 6.3; X.228 7.3).
 use Rattle.std.specs.Prelude.{ℕ, List, [], ◌∷◌, ◌++◌, length, Bool, true, false, not, ◌&&◌, ◌||◌, nat_lt, if◌then◌else◌, Option, Some}
 use Rattle.std.specs.List.{list_any}
 use Rattle.osi_base.specs.declared.layer_words.Proposal.{Proposal}

@@ -1,4 +1,4 @@
--- Marks, restarts and tokens (X.225 7.14 to 7.25; what is restored is this project's own rule).
+-- Marks, restarts and tokens (X.225 7.16 to 7.25; what is restored is this project's own rule).
 use Rattle.std.specs.Prelude.{ℕ, List, [], ◌∷◌, ◌++◌, Bool, true, false, not, if◌then◌else◌, Option, Some, None}
 use Rattle.std.specs.List.{list_any}
 use Rattle.osi_base.specs.declared.layer_words.SetItem.{SetItem}

@@ -1,4 +1,6 @@
-//! The rules of one end of an association in all modes, as definitions, with worked histories.
+//! The rules of one end in all modes, as definitions: what may be called, what may come and what is
+//! passed over, what is sent, and what the user is told (X.225 7, X.226 6, X.227 7, X.228 7, X.880
+//! 8); with worked histories. The crates of ends are the code that follows them.
 #![tactic(auto)]
 
 mod cases;

@@ -1,5 +1,6 @@
-//! What the protocol data units of the upper layers share: fixed tables of types, whole values of
-//! them, the fields of values read and made, presentation data values, and reasons.
+//! What the codecs of the upper layers' protocol data units share (X.226 8, X.227 9, X.228 9):
+//! fixed tables of types, whole values of them, the fields of values read and made, presentation
+//! data values, and reasons.
 #![tactic(auto)]
 
 mod building;

@@ -1,4 +1,5 @@
-//! The check of a module: its tables shown as a listing or as a table file, or why it is refused.
+//! The check of a module, as the command `check` does it: its listing or its table file, or the
+//! line that tells why it is refused.
 #![tactic(auto)]
 
 mod checking;

@@ -16,4 +16,5 @@ pub use laws::{
     fault_or_none, faultless_have_tables, faultless_rows_are_sound, one_is_faultless,
     refused_are_least,
 };
+// The kinds of `TableFault`.
 pub use module_faults::TableKind;

@@ -1,5 +1,5 @@
-//! What octets of a module's abstract syntax are: an APDU of remote operations that they spell, or
-//! they themselves (X.882 9).
+//! What the octets of a value of a module's abstract syntax are: the APDU of remote operations that
+//! they spell (X.882 9), or, where they spell none, they themselves.
 #![tactic(auto)]
 
 mod contents;

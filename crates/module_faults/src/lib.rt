@@ -1,4 +1,5 @@
-//! What is wrong with a module that reads: the least of its faults.
+//! What is wrong with a module whose text follows the grammar, such as a code that stands twice:
+//! the first of its faults in the order of the text, and at one place in the order of their kinds.
 #![tactic(auto)]
 
 mod assignment_faults;

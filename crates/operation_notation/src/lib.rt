@@ -19,5 +19,6 @@ pub use module::{
     Locateds, ModuleText, OpText, PartText, PartTexts, PlainText, RangeText, TagText, TypeText,
     UseText,
 };
+// The tokens that a text is cut into, and the faults that `lex` and `parse_module` give.
 pub use notation_tokens::{Located, NotationFault, NotationKind, Token, TokenKind, Tokens, lex};
 pub use parser::parse_module;

@@ -1,9 +1,8 @@
-//! The words that all layers of the stack share: octets and queues of them, hexadecimal digits,
-//! names, object identifiers, transfer syntaxes, pairs, look-ups and places in sets of contexts,
-//! sides, layers, kinds of fault, and how faults print; units of the session and of the
-//! presentation protocol, and APDUs of association control and of reliable transfer, as types;
-//! limits, as definitions; the traits of the outside: the real files, output and TCP, and files,
-//! sinks and lines in memory that fail where they are told to.
+//! What all layers share: octets, names, object identifiers, syntaxes and sides; units of the
+//! session (X.225) and of the presentation (X.226), and APDUs of association control (X.227) and of
+//! reliable transfer (X.228), as types; limits, as definitions; how faults print; and the outside
+//! as traits (files, output, connections), with the real ones and ones in memory that fail where
+//! they are told to.
 #![tactic(auto)]
 
 mod acse_word;

@@ -72,7 +72,7 @@ pub struct PresentationConnect {
     /// User session requirements, `[9]`, a bit for each functional unit: 0 half-duplex, 1 duplex, 3
     /// minor synchronize, 5 resynchronize, 6 activities, 10 typed data.
     pub session_requirements: Option<BitString>,
-    /// User data.
+    /// User data: the presentation data values that the unit carries, in their order.
     pub user: Pdvs,
 }
 
@@ -90,7 +90,7 @@ pub struct PresentationAccept {
     /// User session requirements, `[9]`, a bit for each functional unit: 0 half-duplex, 1 duplex, 3
     /// minor synchronize, 5 resynchronize, 6 activities, 10 typed data.
     pub session_requirements: Option<BitString>,
-    /// User data.
+    /// User data: the presentation data values that the unit carries, in their order.
     pub user: Pdvs,
 }
 
@@ -109,7 +109,7 @@ pub struct PresentationReject {
     /// called address, 4 the protocol version, 5 the default context, 6 user data that can't be
     /// read, 7 nobody at the address.
     pub reason: Option<i64>,
-    /// User data.
+    /// User data: the presentation data values that the unit carries, in their order.
     pub user: Pdvs,
 }
 
@@ -149,7 +149,7 @@ pub enum PresentationWord {
     UserAbort {
         /// The contexts of the set, `[0]`.
         contexts: Option<RestoredList>,
-        /// User data.
+        /// User data: the presentation data values that the unit carries, in their order.
         user: Pdvs,
     },
     /// ABNORMAL RELEASE PROVIDER, ARP.
@@ -163,7 +163,7 @@ pub enum PresentationWord {
     },
     /// User data alone, as data, releases and pleas for the token carry it.
     Data {
-        /// User data.
+        /// User data: the presentation data values that the unit carries, in their order.
         user: Pdvs,
     },
 }

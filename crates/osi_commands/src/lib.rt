@@ -1,4 +1,5 @@
-//! The commands of `osi_tool`: words, files and an output in, a status out.
+//! The commands `check`, `replay` and `trace` of `osi_tool`: words, files and an output in, a
+//! status out.
 #![tactic(auto)]
 
 mod answers;

@@ -1,4 +1,5 @@
-//! The program: words, files and a standard output in, a status out.
+//! The program: hands the process's words, the disk's files, its output and TCP to the commands,
+//! and ends with the number of their status.
 #![tactic(auto)]
 
 use osi_base::{DiskFiles, StdSink, TcpLine};
@@ -9,7 +10,8 @@ use std::env::Env;
 use std::io::ErrorKind;
 use std::process::ExitCode;
 
-/// The arguments of this process.
+/// All arguments of this process, its name first; or why they are not known: memory was refused,
+/// or one of them is no UTF-8.
 fn read_arguments<R: Env + Alloc<A = Global>>(rt: &R) -> Arguments {
     match env::args(rt) {
         Ok(arguments) => match arguments.collect(rt.alloc()) {

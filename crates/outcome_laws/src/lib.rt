@@ -1,4 +1,5 @@
-//! Outcomes between two ends of every mode: each invocation gets at most one.
+//! Laws on the outcomes of invocations between two ends, in every mode (X.880 8, 9): an end is told
+//! at most one of each invocation, and the other end wrote it.
 #![tactic(auto)]
 
 mod laws;

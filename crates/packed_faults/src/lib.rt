@@ -1,4 +1,5 @@
-//! The first fault of octets in the packed syntax, told by the grammar alone, and its laws.
+//! The first fault of octets that spell no value in the packed syntax, defined by the grammar and
+//! apart from the reader; the laws that the reader tells exactly this fault, and worked faults.
 #![tactic(auto)]
 
 mod examples;

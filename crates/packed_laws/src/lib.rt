@@ -1,5 +1,6 @@
-//! Laws of the packed syntax over values that fit their types: each has a packed spelling, of
-//! octets, as many as are told of it, and as few items as its octets in DER allow.
+//! Laws of the packed syntax over values that fit their types: each such value has a packed
+//! spelling, which consists of octets, as many as its size tells. And each item of a list takes two
+//! octets at least in DER, which bounds how many items there are.
 #![tactic(auto)]
 
 mod laws;

@@ -1,5 +1,5 @@
-//! Fields one after the other in constructed contents, of which some are known and others are
-//! passed over: checked where they stand, and left out.
+//! Reads the fields of a constructed value (X.690) one after the other: those that are known are
+//! kept; others, which a standard lets a reader skip, are checked where they stand and left out.
 #![tactic(auto)]
 
 mod field;

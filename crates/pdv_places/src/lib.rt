@@ -1,4 +1,5 @@
-//! Where the fields of presentation data values stand in the octets of a unit that carries them.
+//! Where the fields of presentation data values (X.226 8.4.2) stand in the octets of a unit that
+//! carries them: asked for only to tell the place of a fault.
 #![tactic(auto)]
 
 mod places;

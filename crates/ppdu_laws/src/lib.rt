@@ -1,5 +1,5 @@
-//! The laws of units of the presentation protocol as values of the table's rows: units that are
-//! written are read back, and units without fields that are passed over are such values.
+//! Laws of the units of the presentation protocol (X.226 8): a unit that is written is read back as
+//! it was, and a unit without fields that a reader skips is a value of the table's types.
 #![tactic(auto)]
 
 mod laws;

@@ -1,5 +1,5 @@
-//! The octets of messages, cut anywhere: what comes of a message before its last octet brings
-//! nothing.
+//! Laws of messages that are cut anywhere (RFC 1006 6, X.224 13.7): what came of a message has no
+//! effect before its last octet.
 #![tactic(auto)]
 
 mod laws;

@@ -1,4 +1,5 @@
-//! The units of the presentation protocol (X.226 8) as octets.
+//! The units of the presentation protocol (X.226 8), read from octets and written as octets in BER
+//! (X.690), by the kind of session unit that carries them.
 #![tactic(auto)]
 
 mod codec;

@@ -1,4 +1,6 @@
-//! Two ends of reliable mode and the model of agreement that goes with them, message by message.
+//! Two ends of reliable mode as the model of `agreement` sees them: what they reach message by
+//! message is a run of the model. So transfers arrive whole, at most once and as they were sent
+//! (X.228 7).
 #![tactic(auto)]
 
 mod own_messages;

@@ -1,4 +1,4 @@
-//! Schedules that are run over two new ends, in each of the three modes.
+//! Runs a schedule over two new ends, in each of the three modes, and gives the transcript.
 #![tactic(auto)]
 
 mod associated;
@@ -8,4 +8,5 @@ mod running;
 
 pub use laws::one_transcript;
 pub use running::run_schedule;
+// Passed on: crates above name these through this one.
 pub use schedule_text as schedule_text_layer;

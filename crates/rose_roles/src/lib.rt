@@ -13,6 +13,7 @@ mod performer;
 mod values;
 
 pub use apdu_problems::{has_links, is_linked_to};
+// Passed on: crates above name these through this one.
 pub use apdu_spelling as apdu_spelling_layer;
 pub use apdu_taken::{RoseTaken, is_of_invocation, refused_head, reject_with};
 pub use apdus::{error_apdu, invoke_apdu, result_apdu};

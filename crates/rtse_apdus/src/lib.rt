@@ -1,4 +1,5 @@
-//! The APDUs of reliable transfer (X.228 9) as octets.
+//! The APDUs of reliable transfer (X.228 9), and the one value of which a transfer's octets
+//! consist, read from octets and written as octets in BER (X.690).
 #![tactic(auto)]
 
 mod codec;

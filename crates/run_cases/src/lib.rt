@@ -1,4 +1,5 @@
-//! Worked runs of two ends of direct and of reliable mode, message by message.
+//! Worked runs of two ends of direct and of reliable mode, message by message: what `run_laws`
+//! defines of a run is computed of each.
 #![tactic(auto)]
 
 mod cases;

@@ -33,7 +33,7 @@ NothingFails (m ∷ w) = IsFaultless m.step × NothingFails w
 abbrev pub NobodyIsDead : Ends → World → Type 0
 NobodyIsDead ends w = (side : Side) → is_dead (body_at ends side w).link.phase ≡ false
 
--- ---- one holder of the turn: the minor token in direct mode, all tokens in reliable mode (X.225 7.4)
+-- ---- one holder of the turn: the minor token in direct mode, all tokens in reliable mode (X.225 7.16 to 7.19)
 
 abbrev pub OneHolder : Ends → World → Type 0
 OneHolder ends w = holds_at ends A w ≡ true → holds_at ends B w ≡ true → ⊥

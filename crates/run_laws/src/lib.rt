@@ -1,2 +1,3 @@
-//! What every run of two ends keeps, told of its moments and of its transcript.
+//! What every run of two ends keeps, as definitions in `specs/`: on its transcript, and on the
+//! messages that were sent and taken. The crates of runs prove it; there is no code here.
 #![tactic(auto)]

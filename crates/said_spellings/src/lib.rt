@@ -1,4 +1,5 @@
-//! Whatever two ends of direct mode or of reliable mode say may be written.
+//! A law: whatever two ends of direct mode, or of reliable mode, say to each other can be written
+//! as octets.
 #![tactic(auto)]
 
 mod laws;

@@ -1,4 +1,4 @@
-//! What two ends take of each other stands on the contexts that both have.
+//! A law: what an end takes of the other end stands on a context that its own set has.
 #![tactic(auto)]
 
 mod laws;

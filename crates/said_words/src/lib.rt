@@ -1,5 +1,6 @@
-//! What two ends of direct mode, and two ends of reliable mode, say to each other: each message on
-//! its way is one that the rules make.
+//! A law on what two ends of direct mode, and two ends of reliable mode, say to each other: each
+//! message on its way is one that the rules make, with names, numbers and values within their
+//! limits.
 #![tactic(auto)]
 
 mod laws;

@@ -1,5 +1,5 @@
-//! What two ends of direct mode, and two of reliable mode, say may be written, and means itself
-//! where it is taken.
+//! A law: what two ends of direct mode, or of reliable mode, say can be written as octets, and is
+//! read as it was meant where it is taken.
 #![tactic(auto)]
 
 mod laws;

@@ -1,5 +1,5 @@
-//! What is presumed of two ends and of the events of their run holds of every schedule that is
-//! read.
+//! Laws on schedules that were read: what the laws of runs presume of two ends and of the calls in
+//! their run holds of each such schedule.
 #![tactic(auto)]
 
 mod ends;

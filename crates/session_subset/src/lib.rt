@@ -1,4 +1,4 @@
-//! The session machine: which units of the session protocol (X.225) an end may send and may take,
+//! The session machine (X.225 7): which units of the session protocol an end may send and may take,
 //! from the connection of an association to its end.
 #![tactic(auto)]
 

@@ -1,4 +1,5 @@
-//! How an end answers proposed contexts, and which contexts stand as an opening is answered.
+//! How an end answers proposed presentation contexts (X.226), and which contexts stand when an
+//! opening has been answered.
 #![tactic(auto)]
 
 mod answering;

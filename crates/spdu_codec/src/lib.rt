@@ -1,4 +1,4 @@
-//! The units of the session protocol (X.225) as octets, and back.
+//! The units of the session protocol (X.225 8), read from octets and written as octets.
 #![tactic(auto)]
 
 mod fault;

@@ -16,9 +16,9 @@ use crate::words::{has_information, leads};
 /// unit's first octet; `None` for a unit that isn't there or has none.
 #[derive(Clone, Copy, Debug, PartialEq, Eq)]
 pub struct UserPlaces {
-    /// Of the first unit.
+    /// Where those of the first unit begin, in octets from the front of the transport unit.
     pub first: Option<usize>,
-    /// Of the second unit.
+    /// Where those of the second unit begin, in octets from the front of the transport unit.
     pub second: Option<usize>,
 }
 

@@ -1,4 +1,5 @@
-//! The tables of a module: its types, operations and errors, and the APDUs that carry them.
+//! The tables of a module: its types, operations and errors (X.880 8); and the APDUs that carry
+//! their values, as types.
 #![tactic(auto)]
 
 mod apdu;

@@ -1,4 +1,6 @@
-//! Table files: the tables of a module as octets, in the packed syntax of one value.
+//! Table files: the compiled tables of a module as octets, which are one value in the packed
+//! syntax. They are stored; they are loaded, or refused with their first fault; and those of an
+//! older version are migrated to the present one.
 #![tactic(auto)]
 
 mod fault;

@@ -1,4 +1,4 @@
-//! The listing of a module's operations and errors.
+//! The listing of a module's operations and errors that `check` writes, a line for each.
 #![tactic(auto)]
 
 mod lines;

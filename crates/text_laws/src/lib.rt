@@ -1,4 +1,4 @@
-//! Laws of values as texts: what is printed is read back.
+//! Laws of values as texts: what `value_text` prints, `value_reading` reads back.
 #![tactic(auto)]
 
 mod laws;

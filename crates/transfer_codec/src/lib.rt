@@ -1,5 +1,5 @@
-//! The model of agreement has a codec with the spellings of transfers, so that the laws of two ends
-//! of reliable mode are about something.
+//! A law: the codec of transfers that the model of `agreement` presumes exists, with this project's
+//! spellings. So the laws of two ends of reliable mode don't presume what there isn't.
 #![tactic(auto)]
 
 mod laws;

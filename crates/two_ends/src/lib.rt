@@ -1,4 +1,5 @@
-//! Events run over two ends that see of each other octets alone, whatever ends they are.
+//! Runs events over two ends of any mode that see of each other octets alone: calls, carrying of
+//! octets and breaks.
 #![tactic(auto)]
 
 mod giving;

@@ -1,5 +1,5 @@
-//! The types of modules: none of them is any type, whether the module is a text of the notation,
-//! which has no word for it, or a table file, which has no row for it.
+//! A law on the types of modules: none of them is `Any`, one whole BER value of any type, kept as
+//! octets. The notation has no word for it, and a table file no row.
 #![tactic(auto)]
 
 mod typed;

@@ -6,7 +6,7 @@ ghost use Rattle.std.specs.Prelude.{◌<◌};
 use osi_base::{NoMemory, Octets};
 use std::alloc::Global;
 
-/// The number of an upper-case hexadecimal digit.
+/// The number of an upper-case hexadecimal digit; 0 for any other octet.
 fn digit(octet: u8) -> u8
     ensures { result < 16 }
 {
@@ -17,7 +17,8 @@ fn digit(octet: u8) -> u8
     }
 }
 
-/// The octets of a text that has two digits for each, with a space between two octets.
+/// The octets of a text that has two digits for each, with a space between two octets. A field of
+/// another length is left out. Refused for want of memory alone.
 pub fn octets_of(alloc: Global, text: &str) -> Result<Octets, NoMemory> {
     let mut octets = Octets::new(alloc);
     for field in text.as_bytes().split(|octet| *octet == b' ') {
