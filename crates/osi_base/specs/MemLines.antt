@@ -1,5 +1,5 @@
 -- A line that is held in memory.
-use Rattle.std.specs.Prelude.{ℕ, ◌≡◌, ◌+◌, List, [], ◌∷◌, min, take, drop}
+use Rattle.std.specs.Prelude.{ℕ, ◌≡◌, ◌+◌, ◌≤◌, List, [], ◌∷◌, min, take, drop}
 use Rattle.osi_base.specs.Failing.{CallPasses, CallFails}
 use Rattle.osi_base.specs.declared.mem_line.MemLine.{MemLine}
 
@@ -11,6 +11,12 @@ due_in line room = take (min line.most room) (drop line.octets_read line.said)
 abbrev pub next_said : List (List ℕ) → List ℕ
 next_said [] = []
 next_said (said ∷ peers) = said
+
+-- a call was made, whatever it came to: no fault was taken back, and a call reads or writes as many
+-- octets at most as before
+pub record IsAfterCall (old new : MemLine) : Type 0 where
+  pub count : old.failing.faults ≤ new.failing.faults
+  pub most : new.most ≡ old.most
 
 -- a call that wasn't to fail began a connection to the next peer
 pub record Begins (old new : MemLine) : Type 0 where

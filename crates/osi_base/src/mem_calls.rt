@@ -2,7 +2,7 @@
 
 ghost use Rattle.std.specs.Prelude.{◌≡◌, ◌↔◌, ◌+◌, ◌^◌, ◌<◌, ◌≤◌, [], Some, IfOk, IfSome, OnOk, OnErr, IsErrOf, min, length, take, drop};
 ghost use Rattle.osi_base.specs.Failing.{IsDue, CallPasses, CallFails};
-ghost use Rattle.osi_base.specs.MemLines.{due_in, next_said, Begins, EndsFailed, ReadsOn, KeepsFailed, StaysAsItWas};
+ghost use Rattle.osi_base.specs.MemLines.{due_in, next_said, IsAfterCall, Begins, EndsFailed, ReadsOn, KeepsFailed, StaysAsItWas};
 ghost use Rattle.osi_base.specs.Outside.{logged, counted};
 ghost use Rattle.osi_base.specs.Lines.{shuts_told};
 ghost use Rattle.osi_base.specs.Limits.{last_count};
@@ -26,9 +26,8 @@ impl MemLine {
         ensures failed { OnErr result (CallFails self.old.failing self.new.failing) }
         ensures failed_peers { OnErr result (self.new.peers ≡ self.old.peers) }
         ensures failed_said { OnErr result (self.new.said ≡ []) }
-        ensures count { self.old.failing.faults ≤ self.new.failing.faults }
+        ensures after { IsAfterCall self.old self.new }
         ensures log { self.new.log ≡ self.old.log }
-        ensures most { self.new.most ≡ self.old.most }
         ensures no_memory { ¬ (IsErrOf result LineFault.NoMemory) }
     {
         self.failing.is_next();
@@ -65,8 +64,7 @@ impl Line for MemLine {
     ghost octets_read = { λ it. it.octets_read };
 
     fn open(&mut self, alloc: Global, host: &Name, port: u16) -> Result<(), LineFault>
-        ensures count { self.old.failing.faults ≤ self.new.failing.faults }
-        ensures most { self.new.most ≡ self.old.most }
+        ensures after { IsAfterCall self.old self.new }
 
         // It fails exactly where it is to
         ensures begins { OnOk result (Begins self.old self.new) }
@@ -86,8 +84,7 @@ impl Line for MemLine {
     }
 
     fn accept(&mut self, _alloc: Global, port: u16) -> Result<(), LineFault>
-        ensures count { self.old.failing.faults ≤ self.new.failing.faults }
-        ensures most { self.new.most ≡ self.old.most }
+        ensures after { IsAfterCall self.old self.new }
 
         // It fails exactly where it is to
         ensures begins { OnOk result (Begins self.old self.new) }
@@ -106,8 +103,7 @@ impl Line for MemLine {
     }
 
     fn read(&mut self, room: &mut [u8]) -> Result<usize, LineFault>
-        ensures count { self.old.failing.faults ≤ self.new.failing.faults }
-        ensures most { self.new.most ≡ self.old.most }
+        ensures after { IsAfterCall self.old self.new }
 
         // It fails exactly where it is to
         ensures reads { IfOk result (λ filled. ReadsOn self.old self.new filled) }
@@ -143,8 +139,7 @@ impl Line for MemLine {
     }
 
     fn write(&mut self, bytes: &[u8]) -> Result<usize, LineFault>
-        ensures count { self.old.failing.faults ≤ self.new.failing.faults }
-        ensures most { self.new.most ≡ self.old.most }
+        ensures after { IsAfterCall self.old self.new }
 
         // It fails exactly where it is to
         ensures writes { IfOk result (λ taken. ReadsOn self.old self.new 0) }
@@ -175,8 +170,7 @@ impl Line for MemLine {
     }
 
     fn shut(&mut self) -> Result<(), Failed>
-        ensures count { self.old.failing.faults ≤ self.new.failing.faults }
-        ensures most { self.new.most ≡ self.old.most }
+        ensures after { IsAfterCall self.old self.new }
 
         // It fails exactly where it is to
         ensures shuts { OnOk result (ReadsOn self.old self.new 0) }
