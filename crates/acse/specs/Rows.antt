@@ -1,14 +1,21 @@
 -- The APDUs of association control as rows of types (X.227 9), without the fields that are passed over.
-use Rattle.std.specs.Prelude.{ℕ, ℤ, pos, negsuc, true, false, List, [], ◌∷◌, codes}
+use Rattle.std.specs.Prelude.{◌≡◌, ℕ, ℤ, pos, negsuc, true, false, List, [], ◌∷◌, length, codes}
 use Rattle.osi_base.specs.Limits.{highest_context, most_signed}
+use Rattle.osi_base.specs.OctetPlaces.{HasPlaces}
 use Rattle.asn1_types.specs.declared.row.Class.TheVariants.{Universal, Application}
 use Rattle.asn1_types.specs.declared.row.TypeRow.{TypeRow}
 use Rattle.asn1_types.specs.declared.row.TypeRow.TheVariants.{Integer, BitString, ObjectId, Sequence, SequenceOf, Choice, Tagged, Any}
+use Rattle.ber_spelling.specs.declared.spot.Spot.{Spot}
 use Rattle.fixed_tables.specs.Rows.{part, implicit, explicit}
 
 -- how many rows the table has
 abbrev pub row_count : ℕ
 row_count = 31
+
+-- A table has all rows, and the octets of a spot all have places.
+pub record HasRowsAndPlaces (table : List TypeRow) (spot : Spot) : Type 0 where
+  pub all : length table ≡ row_count
+  pub whole : HasPlaces spot.place spot.rest.now
 
 -- the row of all APDUs
 abbrev pub acse_row : ℕ

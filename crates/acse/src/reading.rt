@@ -6,7 +6,7 @@ ghost use Rattle.osi_base.specs.OctetPlaces.{HasPlaces};
 ghost use Rattle.ber_spelling.specs.Reading.{Gives, GoesOn, opened_of, spot_of};
 ghost use Rattle.passed_fields.specs.Known.{HaveRows};
 ghost use Rattle.passed_fields.specs.Front.{front_at};
-ghost use Rattle.acse.specs.Rows.{acse_rows, row_count};
+ghost use Rattle.acse.specs.Rows.{acse_rows, row_count, HasRowsAndPlaces};
 ghost use Rattle.acse.specs.Fields.{request_fields, request_passed, response_fields, response_passed, release_fields, release_passed, abort_fields, abort_passed, apdu_at, of_number, any_apdu_at};
 
 use asn1_types::{Class, TypeTable, Val, same_class};
@@ -88,8 +88,7 @@ fn request_apdu<'a>(
     opened: &Opened<'a>,
     spot: Spot<'a>,
 ) -> Result<(Val, Spot<'a>), ReadFault>
-    requires rows { length table.now ≡ row_count }
-    requires whole { HasPlaces spot.place spot.rest.now }
+    requires whole { HasRowsAndPlaces table.now spot }
     ensures gives { Gives (λ x. (x.0, spot_of x.1)) result
         (apdu_at table.now 0 request_fields request_passed scope.now
         (opened_of opened.now) (spot_of spot.entry)) }
@@ -109,8 +108,7 @@ fn response_apdu<'a>(
     opened: &Opened<'a>,
     spot: Spot<'a>,
 ) -> Result<(Val, Spot<'a>), ReadFault>
-    requires rows { length table.now ≡ row_count }
-    requires whole { HasPlaces spot.place spot.rest.now }
+    requires whole { HasRowsAndPlaces table.now spot }
     ensures gives { Gives (λ x. (x.0, spot_of x.1)) result
         (apdu_at table.now 1 response_fields response_passed scope.now
         (opened_of opened.now) (spot_of spot.entry)) }
@@ -131,8 +129,7 @@ fn release_apdu<'a>(
     opened: &Opened<'a>,
     spot: Spot<'a>,
 ) -> Result<(Val, Spot<'a>), ReadFault>
-    requires rows { length table.now ≡ row_count }
-    requires whole { HasPlaces spot.place spot.rest.now }
+    requires whole { HasRowsAndPlaces table.now spot }
     ensures gives { Gives (λ x. (x.0, spot_of x.1)) result
         (apdu_at table.now which release_fields release_passed scope.now
         (opened_of opened.now) (spot_of spot.entry)) }
@@ -152,8 +149,7 @@ fn abort_apdu<'a>(
     opened: &Opened<'a>,
     spot: Spot<'a>,
 ) -> Result<(Val, Spot<'a>), ReadFault>
-    requires rows { length table.now ≡ row_count }
-    requires whole { HasPlaces spot.place spot.rest.now }
+    requires whole { HasRowsAndPlaces table.now spot }
     ensures gives { Gives (λ x. (x.0, spot_of x.1)) result
         (apdu_at table.now 4 abort_fields abort_passed scope.now
         (opened_of opened.now) (spot_of spot.entry)) }
@@ -172,8 +168,7 @@ fn of_number<'a>(
     opened: &Opened<'a>,
     spot: Spot<'a>,
 ) -> Result<(Val, Spot<'a>), ReadFault>
-    requires rows { length table.now ≡ row_count }
-    requires whole { HasPlaces spot.place spot.rest.now }
+    requires whole { HasRowsAndPlaces table.now spot }
     ensures gives { Gives (λ x. (x.0, spot_of x.1)) result
         (of_number table.now scope.now (opened_of opened.now) (spot_of spot.entry)) }
     ensures stops { IfOk result (λ x. GoesOn spot.entry.place (length spot.entry.rest.now) x.1) }
@@ -205,8 +200,7 @@ fn any_apdu<'a>(
     opened: &Opened<'a>,
     spot: Spot<'a>,
 ) -> Result<(Val, Spot<'a>), ReadFault>
-    requires rows { length table.now ≡ row_count }
-    requires whole { HasPlaces spot.place spot.rest.now }
+    requires whole { HasRowsAndPlaces table.now spot }
     ensures gives { Gives (λ x. (x.0, spot_of x.1)) result
         (any_apdu_at table.now scope.now (opened_of opened.now) (spot_of spot.entry)) }
     ensures stops { IfOk result (λ x. GoesOn spot.entry.place (length spot.entry.rest.now) x.1) }
