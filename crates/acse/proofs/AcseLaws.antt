@@ -22,7 +22,7 @@ use Rattle.fixed_tables.specs.declared.pdu.PduFault as units
 use Rattle.fixed_tables.specs.Values.{natural_in, octet_of, values_list}
 use Rattle.fixed_tables.specs.declared.pdu.PduFault.TheVariants as unit
 use Rattle.fixed_tables.proofs.Numbers.{natural_fits, number_fits, range_fits}
-use Rattle.passed_fields.specs.Front.{all_at}
+use Rattle.passed_fields.specs.AllOctets.{all_at}
 use Rattle.passed_fields.proofs.Fronts.{all_found, all_only, all_first}
 use Rattle.acse.specs.Rows.{acse_row, acse_rows}
 use Rattle.acse.specs.Words.{external_in, external_value, said, value_of}

@@ -16,7 +16,7 @@ use Rattle.passed_fields.specs.declared.field.Passed as over
 use Rattle.passed_fields.specs.Known.{of_row, anywhere}
 use Rattle.passed_fields.specs.Reading.{fielded_at}
 use Rattle.passed_fields.specs.Spelling.{FieldedIs}
-use Rattle.passed_fields.specs.Front.{all_at}
+use Rattle.passed_fields.specs.AllOctets.{all_at}
 use Rattle.acse.specs.Rows.{acse_rows}
 use Rattle.acse.specs.Words.{said}
 use Rattle.acse.specs.Plain.{of_value}

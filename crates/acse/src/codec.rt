@@ -3,7 +3,7 @@
 ghost use Rattle.std.specs.Prelude.{◌≡◌, IfOk};
 ghost use Rattle.osi_base.specs.Limits.{most_octets};
 ghost use Rattle.fixed_tables.specs.Whole.{GivesWhole, of_whole};
-ghost use Rattle.passed_fields.specs.Front.{all_at};
+ghost use Rattle.passed_fields.specs.AllOctets.{all_at};
 ghost use Rattle.acse.specs.Rows.{acse_rows};
 ghost use Rattle.acse.specs.Fields.{any_apdu_at, acse_at};
 ghost use Rattle.acse.specs.Written.{written_acse};

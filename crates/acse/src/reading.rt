@@ -5,7 +5,7 @@ ghost use Rattle.osi_base.specs.Limits.{most_octets};
 ghost use Rattle.osi_base.specs.OctetPlaces.{HasPlaces};
 ghost use Rattle.ber_spelling.specs.Reading.{Gives, GoesOn, opened_of, spot_of};
 ghost use Rattle.passed_fields.specs.Known.{HaveRows};
-ghost use Rattle.passed_fields.specs.Front.{front_at};
+ghost use Rattle.passed_fields.specs.AllOctets.{front_at};
 ghost use Rattle.acse.specs.Rows.{acse_rows, row_count, HasRowsAndPlaces};
 ghost use Rattle.acse.specs.Fields.{request_fields, request_passed, response_fields, response_passed, release_fields, release_passed, abort_fields, abort_passed, apdu_at, of_number, any_apdu_at};
 

@@ -5,7 +5,7 @@ use Rattle.std.proofs.lemmas.Bool.{eqb-false}
 use Rattle.agreement.specs.Sets.{Role, other, Pair, ContextSet, Item, Saved, lookup, listed, below, newest, next_number, AllMayAsk, altered, deletes, some_deletes}
 use Rattle.agreement.specs.Sets.Role.{Initiator, Responder}
 use Rattle.agreement.specs.Sets.Item.{Addition, Deletion}
-use Rattle.agreement.specs.Messages.{Setup, Message, Act}
+use Rattle.agreement.specs.Messages.{ModelSetup, Message, Act}
 use Rattle.agreement.specs.Messages.Mode.{Direct}
 use Rattle.agreement.specs.Messages.Act.{Connects, Recovers, SaysValue, Queues, Drops, Alters, Marks, GivesTurn, Pleads, Restarts, Starts, Encodes, Sends, EndsActivity, Interrupts, Discards, Resumes, Releases, Aborts, Withdraws, TransportFails}
 use Rattle.agreement.specs.Messages.Message.{Data, Alter, AlterAnswer, Mark, Restart, Give, Please, Release, UserAbort}
@@ -230,12 +230,12 @@ releases most role x y f g s at v k initiates =
         (subst IsNoRelease (sym shape.asks) tt, aborts-no_release shape.behind shape.ends))
 
 -- an end of an association that stands doesn't withdraw
-stays : (base : Setup) (role : Role) (x y : State) (f g : List Sending) (shared : Shared) → Joined base.most_marks role x y f g shared.set shared.saved → (x.phase ≡ Idle) ⊎ ((x.phase ≡ Broken) × (role ≡ Initiator)) → ⊥
+stays : (base : ModelSetup) (role : Role) (x y : State) (f g : List Sending) (shared : Shared) → Joined base.most_marks role x y f g shared.set shared.saved → (x.phase ≡ Idle) ⊎ ((x.phase ≡ Broken) × (role ≡ Initiator)) → ⊥
 stays base role x y f g shared j (inl e) = not-idle base.most_marks role x y f g shared.set shared.saved j e
 stays base role x y f g shared j (inr e) = not-broken base.most_marks role x y f g shared.set shared.saved j e.0
 
 -- what an act keeps
-pub acts : (base : Setup) (role : Role) (x y : State) (f g : List Sending) (shared : Shared) (act : Act) → MayAct (direct base) role x act → Joined base.most_marks role x y f g shared.set shared.saved → Joined base.most_marks role (acted (direct base) x act) y f (g ++ sendings shared.set (sent_by (direct base) x act)) (shared_all Direct role (sent_by (direct base) x act) shared).set (shared_all Direct role (sent_by (direct base) x act) shared).saved
+pub acts : (base : ModelSetup) (role : Role) (x y : State) (f g : List Sending) (shared : Shared) (act : Act) → MayAct (direct base) role x act → Joined base.most_marks role x y f g shared.set shared.saved → Joined base.most_marks role (acted (direct base) x act) y f (g ++ sendings shared.set (sent_by (direct base) x act)) (shared_all Direct role (sent_by (direct base) x act) shared).set (shared_all Direct role (sent_by (direct base) x act) shared).saved
 acts base role x y f g shared Connects h j = absurd (not-idle base.most_marks role x y f g shared.set shared.saved j h.is_idle)
 acts base role x y f g shared Recovers h j = absurd (not-broken base.most_marks role x y f g shared.set shared.saved j h.is_broken)
 acts base role x y f g shared (SaysValue value) h j =

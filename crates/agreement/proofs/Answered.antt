@@ -4,7 +4,7 @@ use Rattle.std.specs.Prelude.{Option, Some, None}
 use Rattle.std.proofs.lemmas.Bool.Decides.{nat_tests}
 use Rattle.agreement.specs.Sets.{Role, is_among, AreDistinct, Item}
 use Rattle.agreement.specs.Sets.Role.{Initiator, Responder}
-use Rattle.agreement.specs.Messages.{Apdu, Value, Mode, Setup, Message, Act, Choice, Invocation, Calls}
+use Rattle.agreement.specs.Messages.{Apdu, Value, Mode, ModelSetup, Message, Act, Choice, Invocation, Calls}
 use Rattle.agreement.specs.Messages.Mode.{Bare, Direct, Reliable}
 use Rattle.agreement.specs.Messages.Apdu.{Invoke, Outcome, Reject}
 use Rattle.agreement.specs.Messages.Act.{Connects, Recovers, SaysValue, Queues, Drops, Alters, Marks, GivesTurn, Pleads, Restarts, Starts, Encodes, Sends, EndsActivity, Interrupts, Discards, Resumes, Releases, Aborts, Withdraws, TransportFails}
@@ -75,7 +75,7 @@ answers ks n calls ns o k =
     }
 
 -- an outcome that may be handed in is of an open invocation
-pub answers-open : (setup : Setup) (calls : List Invocation) (n : ℕ) (content : List ℕ) → may_answer setup calls n content ≡ true → is_open n calls ≡ true
+pub answers-open : (setup : ModelSetup) (calls : List Invocation) (n : ℕ) (content : List ℕ) → may_answer setup calls n content ≡ true → is_open n calls ≡ true
 answers-open setup [] n content h = absurd (true≢false (sym h))
 answers-open setup (call ∷ calls) n content h = go (nat_eq call.number n) h (answers-open setup calls n content)
   where
@@ -83,7 +83,7 @@ answers-open setup (call ∷ calls) n content h = go (nat_eq call.number n) h (a
     go true e ih = refl
     go false e ih = ih e
 
-hands-in : (setup : Setup) (ks : List ℕ) (calls : Calls) (due : List Handed) (context : ℕ) (apdu : Apdu) (ns : List ℕ) → MayHandIn setup calls due apdu → Keeps_answers ks calls.peer_open ns → Keeps_answers (answer_in apdu ++ ks) (handed_in setup calls context apdu).peer_open ns
+hands-in : (setup : ModelSetup) (ks : List ℕ) (calls : Calls) (due : List Handed) (context : ℕ) (apdu : Apdu) (ns : List ℕ) → MayHandIn setup calls due apdu → Keeps_answers ks calls.peer_open ns → Keeps_answers (answer_in apdu ++ ks) (handed_in setup calls context apdu).peer_open ns
 hands-in setup ks calls due context (Invoke number operation link argument) ns m k = k
 hands-in setup ks calls due context (Outcome number content) ns m k = answers ks number calls.peer_open ns (answers-open setup calls.peer_open number content m) k
 hands-in setup ks calls due context (Reject number b) ns m k = k
@@ -109,7 +109,7 @@ up-more : (n : ℕ) (calls : List Invocation) (ns : List ℕ) → AreFalling (n 
 up-more n [] ns f h = tt
 up-more n (call ∷ calls) ns f h = ((let b = above n call.number ns f h.0 in omega arith), up-more n calls ns f h.1)
 
-done-opened : (setup : Setup) (ks : List ℕ) (n operation context : ℕ) (calls : List Invocation) (ns : List ℕ) → AreFalling (n ∷ ns) → AllDone ks calls ns → AllDone ks (opened setup n operation context calls) (n ∷ ns)
+done-opened : (setup : ModelSetup) (ks : List ℕ) (n operation context : ℕ) (calls : List Invocation) (ns : List ℕ) → AreFalling (n ∷ ns) → AllDone ks calls ns → AllDone ks (opened setup n operation context calls) (n ∷ ns)
 done-opened setup [] n operation context calls ns f h = tt
 done-opened setup (k ∷ ks) n operation context calls ns f h =
     (by_test (λ x. is_open k x ≡ false) (setup.silent operation) _ _ (λ t. h.0) (λ t. other), (let b = above n k ns f h.1 in omega arith), done-opened setup ks n operation context calls ns f h.2)
@@ -117,14 +117,14 @@ done-opened setup (k ∷ ks) n operation context calls ns f h =
     other : (nat_eq n k || is_open k calls) ≡ false
     other = let b = above n k ns f h.1 in let o = h.0 in grind (arith, nat_tests)
 
-up-opened : (setup : Setup) (n operation context : ℕ) (calls : List Invocation) (ns : List ℕ) → AreFalling (n ∷ ns) → AllUp calls ns → AllUp (opened setup n operation context calls) (n ∷ ns)
+up-opened : (setup : ModelSetup) (n operation context : ℕ) (calls : List Invocation) (ns : List ℕ) → AreFalling (n ∷ ns) → AllUp calls ns → AllUp (opened setup n operation context calls) (n ∷ ns)
 up-opened setup n operation context calls ns f h =
     by_test (λ x. AllUp x (n ∷ ns)) (setup.silent operation) _ _ (λ t. up-more n calls ns f h) (λ t. (self, up-more n calls ns f h))
   where
     self : n ≤ n
     self = omega arith
 
-hears-apdu : (setup : Setup) (ks : List ℕ) (calls : Calls) (context : ℕ) (apdu : Apdu) (ns : List ℕ) → AreFalling ((if is_accepted setup calls apdu then invocation_in apdu else []) ++ ns) → Keeps_answers ks calls.peer_open ns → Keeps_answers ks (heard setup calls context apdu).peer_open ((if is_accepted setup calls apdu then invocation_in apdu else []) ++ ns)
+hears-apdu : (setup : ModelSetup) (ks : List ℕ) (calls : Calls) (context : ℕ) (apdu : Apdu) (ns : List ℕ) → AreFalling ((if is_accepted setup calls apdu then invocation_in apdu else []) ++ ns) → Keeps_answers ks calls.peer_open ns → Keeps_answers ks (heard setup calls context apdu).peer_open ((if is_accepted setup calls apdu then invocation_in apdu else []) ++ ns)
 hears-apdu setup ks calls context apdu ns f k = go (is_accepted setup calls apdu) f
   where
     takes : (a : Apdu) → AreFalling (invocation_in a ++ ns) → Keeps_answers ks (accepted setup calls context a).peer_open (invocation_in a ++ ns)
@@ -137,11 +137,11 @@ hears-apdu setup ks calls context apdu ns f k = go (is_accepted setup calls apdu
     go true f = takes apdu f
     go false f = k
 
-hears-value : (setup : Setup) (ks : List ℕ) (x : State) (v : Option Value) (ns : List ℕ) → AreFalling (invoked_by setup x v ++ ns) → Keeps_answers ks x.calls.peer_open ns → Keeps_answers ks (hears setup v x).calls.peer_open (invoked_by setup x v ++ ns)
+hears-value : (setup : ModelSetup) (ks : List ℕ) (x : State) (v : Option Value) (ns : List ℕ) → AreFalling (invoked_by setup x v ++ ns) → Keeps_answers ks x.calls.peer_open ns → Keeps_answers ks (hears setup v x).calls.peer_open (invoked_by setup x v ++ ns)
 hears-value setup ks x None ns f k = k
 hears-value setup ks x (Some v) ns f k = hears-apdu setup ks x.calls v.identifier v.apdu ns f k
 
-acts-answers : (setup : Setup) (role : Role) (ks : List ℕ) (x : State) (act : Act) (ns : List ℕ) → MayAct setup role x act → Keeps_answers ks x.calls.peer_open ns → Keeps_answers (answered_after (Acts act) ks) (acted setup x act).calls.peer_open ns
+acts-answers : (setup : ModelSetup) (role : Role) (ks : List ℕ) (x : State) (act : Act) (ns : List ℕ) → MayAct setup role x act → Keeps_answers ks x.calls.peer_open ns → Keeps_answers (answered_after (Acts act) ks) (acted setup x act).calls.peer_open ns
 acts-answers setup role ks x Connects ns h k = k
 acts-answers setup role ks x Recovers ns h k = k
 acts-answers setup role ks x (SaysValue value) ns h k = hands-in setup ks x.calls x.outgoing.queue value.identifier value.apdu ns h.may_hand_in k
@@ -177,19 +177,19 @@ acts-answers setup role ks x TransportFails ns h k = k
 begins : Keeps_answers [] [] []
 begins = record { distinct = tt; done = tt; up = tt }
 
-opens-answers : (setup : Setup) (role : Role) (ks : List ℕ) (x : State) (choice : Choice) (ns : List ℕ) → Keeps_answers ks x.calls.peer_open ns → Keeps_answers (answered_after (Takes Connect choice) ks) (taken setup role x Connect choice).calls.peer_open (invoked_after setup x (Takes Connect choice) ns)
+opens-answers : (setup : ModelSetup) (role : Role) (ks : List ℕ) (x : State) (choice : Choice) (ns : List ℕ) → Keeps_answers ks x.calls.peer_open ns → Keeps_answers (answered_after (Takes Connect choice) ks) (taken setup role x Connect choice).calls.peer_open (invoked_after setup x (Takes Connect choice) ns)
 opens-answers setup role ks x (Accepting set) ns k = begins
 opens-answers setup role ks x Refusing ns k = k
 opens-answers setup role ks x Nothing ns k = k
 opens-answers setup role ks x (Results results) ns k = k
 
-recovers-answers : (setup : Setup) (role : Role) (ks : List ℕ) (x : State) (choice : Choice) (ns : List ℕ) → Keeps_answers ks x.calls.peer_open ns → Keeps_answers ks (taken setup role x Recover choice).calls.peer_open ns
+recovers-answers : (setup : ModelSetup) (role : Role) (ks : List ℕ) (x : State) (choice : Choice) (ns : List ℕ) → Keeps_answers ks x.calls.peer_open ns → Keeps_answers ks (taken setup role x Recover choice).calls.peer_open ns
 recovers-answers setup role ks x (Accepting set) ns k = k
 recovers-answers setup role ks x Refusing ns k = k
 recovers-answers setup role ks x Nothing ns k = k
 recovers-answers setup role ks x (Results results) ns k = k
 
-alters-answers : (setup : Setup) (role : Role) (ks : List ℕ) (x : State) (items : List Item) (choice : Choice) (ns : List ℕ) → Keeps_answers ks x.calls.peer_open ns → Keeps_answers ks (taken setup role x (Alter items) choice).calls.peer_open ns
+alters-answers : (setup : ModelSetup) (role : Role) (ks : List ℕ) (x : State) (items : List Item) (choice : Choice) (ns : List ℕ) → Keeps_answers ks x.calls.peer_open ns → Keeps_answers ks (taken setup role x (Alter items) choice).calls.peer_open ns
 alters-answers setup role ks x items (Results results) ns k = k
 alters-answers setup role ks x items (Accepting set) ns k = k
 alters-answers setup role ks x items Refusing ns k = k
@@ -204,7 +204,7 @@ cuts-item ks (Some t) calls ns k = go t.item.apdu
     go (Outcome number content) = k
     go (Reject number b) = k
 
-takes-answers : (setup : Setup) (role : Role) (ks : List ℕ) (x : State) (m : Message) (choice : Choice) (ns : List ℕ) → AreFalling (invoked_after setup x (Takes m choice) ns) → Keeps_answers ks x.calls.peer_open ns → Keeps_answers (answered_after (Takes m choice) ks) (taken setup role x m choice).calls.peer_open (invoked_after setup x (Takes m choice) ns)
+takes-answers : (setup : ModelSetup) (role : Role) (ks : List ℕ) (x : State) (m : Message) (choice : Choice) (ns : List ℕ) → AreFalling (invoked_after setup x (Takes m choice) ns) → Keeps_answers ks x.calls.peer_open ns → Keeps_answers (answered_after (Takes m choice) ks) (taken setup role x m choice).calls.peer_open (invoked_after setup x (Takes m choice) ns)
 takes-answers setup role ks x Connect choice ns f k = opens-answers setup role ks x choice ns k
 takes-answers setup role ks x Recover choice ns f k = recovers-answers setup role ks x choice ns k
 takes-answers setup role ks x (Accept set) choice ns f k = k
@@ -238,12 +238,12 @@ takes-answers setup role ks x Release choice ns f k = cuts ks x.calls.peer_open 
 takes-answers setup role ks x ReleaseAnswer choice ns f k = cuts ks x.calls.peer_open ns k
 takes-answers setup role ks x UserAbort choice ns f k = cuts ks x.calls.peer_open ns k
 
-step-answers : (setup : Setup) (role : Role) (ks : List ℕ) (x : State) (flight : List Sending) (step : Step) (ns : List ℕ) → IsStep setup role x flight step → AreFalling (invoked_after setup x step ns) → Keeps_answers ks x.calls.peer_open ns → Keeps_answers (answered_after step ks) (after setup role x step).calls.peer_open (invoked_after setup x step ns)
+step-answers : (setup : ModelSetup) (role : Role) (ks : List ℕ) (x : State) (flight : List Sending) (step : Step) (ns : List ℕ) → IsStep setup role x flight step → AreFalling (invoked_after setup x step ns) → Keeps_answers ks x.calls.peer_open ns → Keeps_answers (answered_after step ks) (after setup role x step).calls.peer_open (invoked_after setup x step ns)
 step-answers setup role ks x flight (Acts act) ns h f k = acts-answers setup role ks x act ns h k
 step-answers setup role ks x flight (Takes m choice) ns h f k = takes-answers setup role ks x m choice ns f k
 step-answers setup role ks x flight (Passes m) ns h f k = k
 
-answers-kept : (setup : Setup) → InvokedOnce setup → (world : World) → IsRun setup world → (role : Role) → Keeps_answers (answered role world) (state_of setup role world).calls.peer_open (invoked setup role world)
+answers-kept : (setup : ModelSetup) → InvokedOnce setup → (world : World) → IsRun setup world → (role : Role) → Keeps_answers (answered role world) (state_of setup role world).calls.peer_open (invoked setup role world)
 answers-kept setup once [] h role = begins
 answers-kept setup once (Break ∷ world) h role = go setup.mode (answers-kept setup once world h.1 role)
   where
@@ -258,5 +258,5 @@ answers-kept setup once (By Responder step ∷ world) h Responder =
 answers-kept setup once (By Initiator step ∷ world) h Responder = answers-kept setup once world h.1 Responder
 answers-kept setup once (By Responder step ∷ world) h Initiator = answers-kept setup once world h.1 Initiator
 
-pub answered-once : (setup : Setup) → InvokedOnce setup → AnsweredOnce setup
+pub answered-once : (setup : ModelSetup) → InvokedOnce setup → AnsweredOnce setup
 answered-once setup once world h role = (answers-kept setup once world h role).distinct

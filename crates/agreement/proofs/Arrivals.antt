@@ -4,7 +4,7 @@ use Rattle.std.specs.Prelude.{Option, Some, None}
 use Rattle.std.proofs.lemmas.Bool.{eqb-false}
 use Rattle.agreement.specs.Sets.{Role, Item}
 use Rattle.agreement.specs.Sets.Role.{Initiator, Responder}
-use Rattle.agreement.specs.Messages.{Value, Mode, Setup, Message, Act, Choice}
+use Rattle.agreement.specs.Messages.{Value, Mode, ModelSetup, Message, Act, Choice}
 use Rattle.agreement.specs.Messages.Mode.{Bare, Direct, Reliable}
 use Rattle.agreement.specs.Messages.Act.{Marks, GivesTurn}
 use Rattle.agreement.specs.Messages.Choice.{Nothing, Accepting, Refusing, Results}
@@ -69,11 +69,11 @@ ended-record ns i v f = go i.was_handed v f.under
     go false None u = record { falling = f.falling; under = weaker ns u }
     go false (Some v) u = record { falling = more ns f.falling u; under = self i.last }
 
-hears-record : (setup : Setup) (ns : List ℕ) (v : Option Value) (x : State) → Falls ns x.incoming → Falls ns (hears setup v x).incoming
+hears-record : (setup : ModelSetup) (ns : List ℕ) (v : Option Value) (x : State) → Falls ns x.incoming → Falls ns (hears setup v x).incoming
 hears-record setup ns None x f = f
 hears-record setup ns (Some v) x f = f
 
-acts-record : (setup : Setup) (ns : List ℕ) (x : State) (act : Act) → Falls ns x.incoming → Falls ns (acted setup x act).incoming
+acts-record : (setup : ModelSetup) (ns : List ℕ) (x : State) (act : Act) → Falls ns x.incoming → Falls ns (acted setup x act).incoming
 acts-record setup ns x Marks f = go setup.mode
   where
     go : (m : Mode) → Falls ns (marked_in m x).incoming
@@ -88,25 +88,25 @@ acts-record setup ns x GivesTurn f = go setup.mode
     go Reliable = f
 acts-record setup ns x act f = f
 
-opens-record : (setup : Setup) (role : Role) (ns : List ℕ) (x : State) (choice : Choice) → Falls ns x.incoming → Falls (arrived_after setup x (Takes Connect choice) ns) (taken setup role x Connect choice).incoming
+opens-record : (setup : ModelSetup) (role : Role) (ns : List ℕ) (x : State) (choice : Choice) → Falls ns x.incoming → Falls (arrived_after setup x (Takes Connect choice) ns) (taken setup role x Connect choice).incoming
 opens-record setup role ns x (Accepting set) f = record { falling = tt; under = tt }
 opens-record setup role ns x Refusing f = f
 opens-record setup role ns x Nothing f = f
 opens-record setup role ns x (Results results) f = f
 
-recovers-record : (setup : Setup) (role : Role) (ns : List ℕ) (x : State) (choice : Choice) → Falls ns x.incoming → Falls ns (taken setup role x Recover choice).incoming
+recovers-record : (setup : ModelSetup) (role : Role) (ns : List ℕ) (x : State) (choice : Choice) → Falls ns x.incoming → Falls ns (taken setup role x Recover choice).incoming
 recovers-record setup role ns x (Accepting set) f = f
 recovers-record setup role ns x Refusing f = f
 recovers-record setup role ns x Nothing f = f
 recovers-record setup role ns x (Results results) f = f
 
-alters-record : (setup : Setup) (role : Role) (ns : List ℕ) (x : State) (items : List Item) (choice : Choice) → Falls ns x.incoming → Falls ns (taken setup role x (Alter items) choice).incoming
+alters-record : (setup : ModelSetup) (role : Role) (ns : List ℕ) (x : State) (items : List Item) (choice : Choice) → Falls ns x.incoming → Falls ns (taken setup role x (Alter items) choice).incoming
 alters-record setup role ns x items (Results results) f = f
 alters-record setup role ns x items (Accepting set) f = f
 alters-record setup role ns x items Refusing f = f
 alters-record setup role ns x items Nothing f = f
 
-takes-record : (setup : Setup) (role : Role) (ns : List ℕ) (x : State) (m : Message) (choice : Choice) → MayTake setup role x m → Falls ns x.incoming → Falls (arrived_after setup x (Takes m choice) ns) (taken setup role x m choice).incoming
+takes-record : (setup : ModelSetup) (role : Role) (ns : List ℕ) (x : State) (m : Message) (choice : Choice) → MayTake setup role x m → Falls ns x.incoming → Falls (arrived_after setup x (Takes m choice) ns) (taken setup role x m choice).incoming
 takes-record setup role ns x Connect choice h f = opens-record setup role ns x choice f
 takes-record setup role ns x Recover choice h f = recovers-record setup role ns x choice f
 takes-record setup role ns x (Accept set) choice h f = f
@@ -140,12 +140,12 @@ takes-record setup role ns x Release choice h f = f
 takes-record setup role ns x ReleaseAnswer choice h f = f
 takes-record setup role ns x UserAbort choice h f = f
 
-step-record : (setup : Setup) → NoAbortOfItself setup → (role : Role) (world : World) (step : Step) → IsRun setup (By role step ∷ world) → Falls (arrived setup role world) (state_of setup role world).incoming → Falls (arrived_after setup (state_of setup role world) step (arrived setup role world)) (after setup role (state_of setup role world) step).incoming
+step-record : (setup : ModelSetup) → NoAbortOfItself setup → (role : Role) (world : World) (step : Step) → IsRun setup (By role step ∷ world) → Falls (arrived setup role world) (state_of setup role world).incoming → Falls (arrived_after setup (state_of setup role world) step (arrived setup role world)) (after setup role (state_of setup role world) step).incoming
 step-record setup n role world (Acts act) h f = acts-record setup (arrived setup role world) (state_of setup role world) act f
 step-record setup n role world (Takes m choice) h f = takes-record setup role (arrived setup role world) (state_of setup role world) m choice (n world role m choice h) f
 step-record setup n role world (Passes m) h f = f
 
-pub record-kept : (setup : Setup) → NoAbortOfItself setup → (world : World) → IsRun setup world → (role : Role) → Falls (arrived setup role world) (state_of setup role world).incoming
+pub record-kept : (setup : ModelSetup) → NoAbortOfItself setup → (world : World) → IsRun setup world → (role : Role) → Falls (arrived setup role world) (state_of setup role world).incoming
 record-kept setup n [] h role = record { falling = tt; under = tt }
 record-kept setup n (Break ∷ world) h role =
     same-record (arrived setup role world) (state_of setup role world).incoming (record (state_of setup role world).incoming { active = false }) refl refl (record-kept setup n world h.1 role)
@@ -154,5 +154,5 @@ record-kept setup n (By Responder step ∷ world) h Responder = step-record setu
 record-kept setup n (By Initiator step ∷ world) h Responder = record-kept setup n world h.1 Responder
 record-kept setup n (By Responder step ∷ world) h Initiator = record-kept setup n world h.1 Initiator
 
-pub arrive-once : (setup : Setup) → NoAbortOfItself setup → ArriveOnce setup
+pub arrive-once : (setup : ModelSetup) → NoAbortOfItself setup → ArriveOnce setup
 arrive-once setup n world h role = (record-kept setup n world h role).falling

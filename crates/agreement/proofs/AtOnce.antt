@@ -2,7 +2,7 @@
 use Rattle.std.proofs.Common.{◌≡◌, ℕ, true, List, [], ◌∷◌, sym, ap, ◌∙◌, subst, true≢false}
 use Rattle.agreement.specs.Sets.{Role, other, ContextSet, Saved}
 use Rattle.agreement.specs.Sets.Role.{Initiator, Responder}
-use Rattle.agreement.specs.Messages.{Setup, Message, Choice}
+use Rattle.agreement.specs.Messages.{ModelSetup, Message, Choice}
 use Rattle.agreement.specs.State.{State}
 use Rattle.agreement.specs.State.Awaited.{NoAnswer}
 use Rattle.agreement.specs.Takings.{MayTake}
@@ -22,42 +22,42 @@ use Rattle.agreement.proofs.BareWorlds.{bare, BareRelation, bare-takes, bare-kee
 use Rattle.agreement.proofs.Mail.{SamePair, taken-as_sent}
 
 -- a taking in a world of direct mode
-pub record Given (setup : Setup) (role : Role) (x : State) (flight : List Sending) (m : Message) : Type 0 where
+pub record Given (setup : ModelSetup) (role : Role) (x : State) (flight : List Sending) (m : Message) : Type 0 where
   pub may : MayTake setup role x m
   pub pair : SamePair x flight m
 
-direct-given : (base : Setup) (role : Role) (x y : State) (flight g : List Sending) (shared : Shared) (m : Message) (choice : Choice) → DirectRelation base role x y flight g shared → IsStep (direct base) role x flight (Takes m choice) → WasSent (direct base) m → Given (direct base) role x flight m
+direct-given : (base : ModelSetup) (role : Role) (x y : State) (flight g : List Sending) (shared : Shared) (m : Message) (choice : Choice) → DirectRelation base role x y flight g shared → IsStep (direct base) role x flight (Takes m choice) → WasSent (direct base) m → Given (direct base) role x flight m
 direct-given base role x y [] g shared m choice i h w = absurd h.comes
 direct-given base role x y (s ∷ flight) g shared m choice i h w =
     let t = direct-takes base role x y s flight g shared m choice i h.comes h.is_alive h.is_kept h.is_choice in
     record { may = t.may w; pair = t.pair }
 
-bare-given : (base : Setup) (role : Role) (x y : State) (flight g : List Sending) (shared : Shared) (m : Message) (choice : Choice) → BareRelation base role x y flight g shared → IsStep (bare base) role x flight (Takes m choice) → Given (bare base) role x flight m
+bare-given : (base : ModelSetup) (role : Role) (x y : State) (flight g : List Sending) (shared : Shared) (m : Message) (choice : Choice) → BareRelation base role x y flight g shared → IsStep (bare base) role x flight (Takes m choice) → Given (bare base) role x flight m
 bare-given base role x y [] g shared m choice i h = absurd h.comes
 bare-given base role x y (s ∷ flight) g shared m choice i h =
     let t = bare-takes base role x y s flight g shared m choice i h.comes h.is_alive in
     record { may = t.may; pair = t.pair }
 
-pub direct-at : (base : Setup) (world : World) (role : Role) (m : Message) (choice : Choice) → IsRun (direct base) (By role (Takes m choice) ∷ world) → Given (direct base) role (state_of (direct base) role world) (flight_to (direct base) role world) m
+pub direct-at : (base : ModelSetup) (world : World) (role : Role) (m : Message) (choice : Choice) → IsRun (direct base) (By role (Takes m choice) ∷ world) → Given (direct base) role (state_of (direct base) role world) (flight_to (direct base) role world) m
 direct-at base world role m choice h =
     direct-given base role (state_of (direct base) role world) (state_of (direct base) (other role) world) (flight_to (direct base) role world) (flight_to (direct base) (other role) world) (shared_at (direct base) world) m choice
     (at-role (direct base) (DirectRelation base) (direct-keeps base) role world (reached (direct base) (DirectRelation base) (direct-keeps base) world h.1)) h.0 (was-sent (direct base) world role m h.1 h.0.comes)
 
-pub bare-at : (base : Setup) (world : World) (role : Role) (m : Message) (choice : Choice) → IsRun (bare base) (By role (Takes m choice) ∷ world) → Given (bare base) role (state_of (bare base) role world) (flight_to (bare base) role world) m
+pub bare-at : (base : ModelSetup) (world : World) (role : Role) (m : Message) (choice : Choice) → IsRun (bare base) (By role (Takes m choice) ∷ world) → Given (bare base) role (state_of (bare base) role world) (flight_to (bare base) role world) m
 bare-at base world role m choice h =
     bare-given base role (state_of (bare base) role world) (state_of (bare base) (other role) world) (flight_to (bare base) role world) (flight_to (bare base) (other role) world) (shared_at (bare base) world) m choice
     (at-role (bare base) (BareRelation base) (bare-keeps base) role world (reached (bare base) (BareRelation base) (bare-keeps base) world h.1)) h.0
 
-pub direct-no_abort : (base : Setup) → NoAbortOfItself (direct base)
+pub direct-no_abort : (base : ModelSetup) → NoAbortOfItself (direct base)
 direct-no_abort base world role m choice h = (direct-at base world role m choice h).may
 
-pub bare-no_abort : (base : Setup) → NoAbortOfItself (bare base)
+pub bare-no_abort : (base : ModelSetup) → NoAbortOfItself (bare base)
 bare-no_abort base world role m choice h = (bare-at base world role m choice h).may
 
-pub direct-as_sent : (base : Setup) → TakenAsSent (direct base)
+pub direct-as_sent : (base : ModelSetup) → TakenAsSent (direct base)
 direct-as_sent base = taken-as_sent (direct base) (λ world role m choice h. (direct-at base world role m choice h).pair)
 
-pub bare-as_sent : (base : Setup) → TakenAsSent (bare base)
+pub bare-as_sent : (base : ModelSetup) → TakenAsSent (bare base)
 bare-as_sent base = taken-as_sent (bare base) (λ world role m choice h. (bare-at base world role m choice h).pair)
 
 -- the holder in direct mode awaits no restart, so it is free
@@ -95,7 +95,7 @@ both-hold most x y f g s v j h k =
     go a peer f0 g0 (Leaving r p w l) n = absurd (let u = k.1 in cc)
     go a peer f0 g0 (Gone p) n = absurd (let e = k.1 in cc)
 
-direct-stage_holder : (base : Setup) (a b : State) (f g : List Sending) (shared : Shared) → Stage base.most_marks a b f g shared → HoldsTurn a → HoldsTurn b → ⊥
+direct-stage_holder : (base : ModelSetup) (a b : State) (f g : List Sending) (shared : Shared) → Stage base.most_marks a b f g shared → HoldsTurn a → HoldsTurn b → ⊥
 direct-stage_holder base a b f g shared (Stands j) h k = both-hold base.most_marks a b f g shared.set shared.saved j h k
 direct-stage_holder base a b f g shared (Fresh p q n d i w) h k = let e = h.1 in cc
 direct-stage_holder base a b f g shared (Asked t p w q i n d u) h k = let e = h.1 in cc
@@ -105,11 +105,11 @@ direct-stage_holder base a b f g shared (Lost p q n) h k = let e = h.1 in cc
 direct-stage_holder base a b f g shared (Dead p q) h k = let e = h.1 in cc
 direct-stage_holder base a b f g shared (Deaf p w q n) h k = let e = k.1 in cc
 
-pub direct-holder : (base : Setup) → OneHolder (direct base)
+pub direct-holder : (base : ModelSetup) → OneHolder (direct base)
 direct-holder base world h =
     direct-stage_holder base (state_of (direct base) Initiator world) (state_of (direct base) Responder world) (flight_to (direct base) Initiator world) (flight_to (direct base) Responder world) (shared_at (direct base) world)
     (reached (direct base) (DirectRelation base) (direct-keeps base) world h)
 
-pub bare-holder : (base : Setup) → OneHolder (bare base)
+pub bare-holder : (base : ModelSetup) → OneHolder (bare base)
 bare-holder base world h a b =
     let e = (reached (bare base) (BareRelation base) (bare-keeps base) world h).peer.turn in true≢false (sym b.0 ∙ e)

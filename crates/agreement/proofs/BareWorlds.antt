@@ -3,7 +3,7 @@ use Rattle.std.proofs.Common.{◌≡◌, List, [], ◌∷◌, ◌++◌, refl, sy
 use Rattle.std.specs.Prelude.{Some}
 use Rattle.agreement.specs.Sets.{Role, other, is_initiator, Context, lookup}
 use Rattle.agreement.specs.Sets.Role.{Initiator, Responder}
-use Rattle.agreement.specs.Messages.{Value, Setup, Message, Act, Choice}
+use Rattle.agreement.specs.Messages.{Value, ModelSetup, Message, Act, Choice}
 use Rattle.agreement.specs.Messages.Mode.{Bare}
 use Rattle.agreement.specs.Messages.Act.{Connects, Recovers, SaysValue, Queues, Drops, Alters, Marks, GivesTurn, Pleads, Restarts, Starts, Encodes, Sends, EndsActivity, Interrupts, Discards, Resumes, Releases, Aborts, Withdraws, TransportFails}
 use Rattle.agreement.specs.Messages.Message.{Data}
@@ -15,7 +15,7 @@ use Rattle.agreement.specs.Takings.{MayTake, answer_to, taken, broken, broken_ph
 use Rattle.agreement.specs.Worlds.{Sending, Shared, sendings, shared_all, shared_answered, pair_under}
 use Rattle.agreement.proofs.Runs.{Keeps, Relation}
 
-abbrev pub bare : Setup → Setup
+abbrev pub bare : ModelSetup → ModelSetup
 bare base = record base { mode = Bare }
 
 pub record IsBareEnd (c : Context) (role : Role) (x : State) : Type 0 where
@@ -49,10 +49,10 @@ pub record Plainly (c : Context) (role : Role) (x y : State) (f g : List Sending
   pub to_peer : AllBare c g
   pub set : shared.set ≡ c ∷ []
 
-abbrev pub BareRelation : Setup → Relation
+abbrev pub BareRelation : ModelSetup → Relation
 BareRelation base role x y f g shared = Plainly base.bare_context role x y f g shared
 
-abbrev After : (base : Setup) (role : Role) (x y : State) (f g : List Sending) (shared : Shared) (act : Act) → Type 0
+abbrev After : (base : ModelSetup) (role : Role) (x y : State) (f g : List Sending) (shared : Shared) (act : Act) → Type 0
 After base role x y f g shared act = Plainly base.bare_context role (acted (bare base) x act) y f (g ++ sendings shared.set (sent_by (bare base) x act)) (shared_all Bare role (sent_by (bare base) x act) shared)
 
 not_idle : (c : Context) (role : Role) (x : State) → IsBareEnd c role x → x.phase ≡ Idle → ⊥
@@ -69,7 +69,7 @@ not_broken c role x h e = go h.phase
     go (inl p) = cc
     go (inr p) = cc
 
-bare-acts : (base : Setup) (role : Role) (x y : State) (f g : List Sending) (shared : Shared) (act : Act) → Plainly base.bare_context role x y f g shared → MayAct (bare base) role x act → After base role x y f g shared act
+bare-acts : (base : ModelSetup) (role : Role) (x y : State) (f g : List Sending) (shared : Shared) (act : Act) → Plainly base.bare_context role x y f g shared → MayAct (bare base) role x act → After base role x y f g shared act
 bare-acts base role x y f g shared Connects n h = absurd (not_idle base.bare_context role x n.me h.is_idle)
 bare-acts base role x y f g shared Recovers n h = absurd (not_broken base.bare_context role x n.me h.is_broken)
 bare-acts base role x y f g shared (SaysValue value) n h =
@@ -102,12 +102,12 @@ bare-acts base role x y f g shared Aborts n h = absurd h.in_mode
 bare-acts base role x y f g shared Withdraws n h = absurd h.in_mode
 bare-acts base role x y f g shared TransportFails n h = absurd h.in_mode
 
-pub record TookBare (base : Setup) (role : Role) (x y : State) (f g : List Sending) (shared : Shared) (s : Sending) (m : Message) (choice : Choice) : Type 0 where
+pub record TookBare (base : ModelSetup) (role : Role) (x y : State) (f g : List Sending) (shared : Shared) (s : Sending) (m : Message) (choice : Choice) : Type 0 where
   pub may : MayTake (bare base) role x m
   pub pair : pair_under x.sets.held m ≡ pair_under s.shared m
   pub next : Plainly base.bare_context role (taken (bare base) role x m choice) y f (g ++ sendings shared.set (answer_to (bare base) x m choice)) (shared_answered m choice shared)
 
-pub bare-takes : (base : Setup) (role : Role) (x y : State) (s : Sending) (f g : List Sending) (shared : Shared) (m : Message) (choice : Choice) → Plainly base.bare_context role x y (s ∷ f) g shared → s.message ≡ m → (x.phase ≡ Over → ⊥) → TookBare base role x y f g shared s m choice
+pub bare-takes : (base : ModelSetup) (role : Role) (x y : State) (s : Sending) (f g : List Sending) (shared : Shared) (m : Message) (choice : Choice) → Plainly base.bare_context role x y (s ∷ f) g shared → s.message ≡ m → (x.phase ≡ Over → ⊥) → TookBare base role x y f g shared s m choice
 bare-takes base role x y s f g shared m choice n e alive =
     let first = n.to_me.0 in
     subst (λ t. TookBare base role x y f g shared s t choice) (sym first.is ∙ e)
@@ -133,18 +133,18 @@ bare-takes base role x y s f g shared m choice n e alive =
     up (inl p) = p
     up (inr p) = absurd (alive p)
 
-broken-end : (base : Setup) (role : Role) (x : State) → IsBareEnd base.bare_context role x → IsBareEnd base.bare_context role (broken (bare base) x)
+broken-end : (base : ModelSetup) (role : Role) (x : State) → IsBareEnd base.bare_context role x → IsBareEnd base.bare_context role (broken (bare base) x)
 broken-end base role x h = record { held = h.held; calm = refl; phase = inr (go h.phase); turn = h.turn }
   where
     go : (x.phase ≡ Up) ⊎ (x.phase ≡ Over) → broken_phase Bare x.phase ≡ Over
     go (inl p) = ap (broken_phase Bare) p
     go (inr p) = ap (broken_phase Bare) p
 
-swaps-bare : (base : Setup) (role : Role) (x y : State) (f g : List Sending) (shared : Shared) → BareRelation base role x y f g shared → BareRelation base (other role) y x g f shared
+swaps-bare : (base : ModelSetup) (role : Role) (x y : State) (f g : List Sending) (shared : Shared) → BareRelation base role x y f g shared → BareRelation base (other role) y x g f shared
 swaps-bare base Initiator x y f g shared n = record { me = n.peer; peer = n.me; to_me = n.to_peer; to_peer = n.to_me; set = n.set }
 swaps-bare base Responder x y f g shared n = record { me = n.peer; peer = n.me; to_me = n.to_peer; to_peer = n.to_me; set = n.set }
 
-pub bare-keeps : (base : Setup) → Keeps (bare base) (BareRelation base)
+pub bare-keeps : (base : ModelSetup) → Keeps (bare base) (BareRelation base)
 bare-keeps base =
     record {
       starts = record { me = record { held = refl; calm = refl; phase = inl refl; turn = refl }; peer = record { held = refl; calm = refl; phase = inl refl; turn = refl }; to_me = tt; to_peer = tt; set = refl };

@@ -3,7 +3,7 @@ use Rattle.std.proofs.Common.{◌≡◌, ℕ, zero, suc, Bool, true, false, nat_
 use Rattle.std.specs.Prelude.{Option, Some, None}
 use Rattle.agreement.specs.Sets.{Pair, Role, Item, lookup}
 use Rattle.agreement.specs.Sets.Role.{Initiator, Responder}
-use Rattle.agreement.specs.Messages.{Value, Mode, Setup, Codec, Message, Act, Choice}
+use Rattle.agreement.specs.Messages.{Value, Mode, ModelSetup, Codec, Message, Act, Choice}
 use Rattle.agreement.specs.Messages.Mode.{Bare, Direct, Reliable}
 use Rattle.agreement.specs.Messages.Act.{Connects, Recovers, SaysValue, Queues, Drops, Alters, Marks, GivesTurn, Pleads, Restarts, Starts, Encodes, Sends, EndsActivity, Interrupts, Discards, Resumes, Releases, Aborts, Withdraws, TransportFails}
 use Rattle.agreement.specs.Messages.Choice.{Nothing, Accepting, Refusing, Results}
@@ -71,7 +71,7 @@ begins-encoded codec context item (Some pair) pieces e =
 begins-none : (codec : Codec) (value : Option Value) (pieces : List Piece) → value ≡ None → BeginsIn codec value pieces → pieces ≡ []
 begins-none codec value pieces e h = subst (λ v. BeginsIn codec v pieces) e h
 
-acts-begin : (setup : Setup) (role : Role) (x : State) (t : Option Transfer) (act : Act) → MayAct setup role (with_transfer x t) act → Begins setup.codec t → Begins setup.codec (acted setup (with_transfer x t) act).outgoing.transfer
+acts-begin : (setup : ModelSetup) (role : Role) (x : State) (t : Option Transfer) (act : Act) → MayAct setup role (with_transfer x t) act → Begins setup.codec t → Begins setup.codec (acted setup (with_transfer x t) act).outgoing.transfer
 acts-begin setup role x t Connects h b = b
 acts-begin setup role x t Recovers h b = b
 acts-begin setup role x t (SaysValue value) h b = b
@@ -115,29 +115,29 @@ acts-begin setup role x t Aborts h b = b
 acts-begin setup role x t Withdraws h b = b
 acts-begin setup role x t TransportFails h b = b
 
-hears-begin : (setup : Setup) (v : Option Value) (x : State) → Begins setup.codec x.outgoing.transfer → Begins setup.codec (hears setup v x).outgoing.transfer
+hears-begin : (setup : ModelSetup) (v : Option Value) (x : State) → Begins setup.codec x.outgoing.transfer → Begins setup.codec (hears setup v x).outgoing.transfer
 hears-begin setup None x b = b
 hears-begin setup (Some v) x b = b
 
-opens-begin : (setup : Setup) (role : Role) (x : State) (choice : Choice) → Begins setup.codec x.outgoing.transfer → Begins setup.codec (taken setup role x Connect choice).outgoing.transfer
+opens-begin : (setup : ModelSetup) (role : Role) (x : State) (choice : Choice) → Begins setup.codec x.outgoing.transfer → Begins setup.codec (taken setup role x Connect choice).outgoing.transfer
 opens-begin setup role x (Accepting set) b = tt
 opens-begin setup role x Refusing b = b
 opens-begin setup role x Nothing b = b
 opens-begin setup role x (Results results) b = b
 
-recovers-begin : (setup : Setup) (role : Role) (x : State) (choice : Choice) → Begins setup.codec x.outgoing.transfer → Begins setup.codec (taken setup role x Recover choice).outgoing.transfer
+recovers-begin : (setup : ModelSetup) (role : Role) (x : State) (choice : Choice) → Begins setup.codec x.outgoing.transfer → Begins setup.codec (taken setup role x Recover choice).outgoing.transfer
 recovers-begin setup role x (Accepting set) b = b
 recovers-begin setup role x Refusing b = b
 recovers-begin setup role x Nothing b = b
 recovers-begin setup role x (Results results) b = b
 
-alters-begin : (setup : Setup) (role : Role) (x : State) (items : List Item) (choice : Choice) → Begins setup.codec x.outgoing.transfer → Begins setup.codec (taken setup role x (Alter items) choice).outgoing.transfer
+alters-begin : (setup : ModelSetup) (role : Role) (x : State) (items : List Item) (choice : Choice) → Begins setup.codec x.outgoing.transfer → Begins setup.codec (taken setup role x (Alter items) choice).outgoing.transfer
 alters-begin setup role x items (Results results) b = b
 alters-begin setup role x items (Accepting set) b = b
 alters-begin setup role x items Refusing b = b
 alters-begin setup role x items Nothing b = b
 
-takes-begin : (setup : Setup) (role : Role) (x : State) (t : Option Transfer) (m : Message) (choice : Choice) → Begins setup.codec t → Begins setup.codec (taken setup role (with_transfer x t) m choice).outgoing.transfer
+takes-begin : (setup : ModelSetup) (role : Role) (x : State) (t : Option Transfer) (m : Message) (choice : Choice) → Begins setup.codec t → Begins setup.codec (taken setup role (with_transfer x t) m choice).outgoing.transfer
 takes-begin setup role x t Connect choice b = opens-begin setup role (with_transfer x t) choice b
 takes-begin setup role x t Recover choice b = recovers-begin setup role (with_transfer x t) choice b
 takes-begin setup role x t (Accept set) choice b = b
@@ -173,16 +173,16 @@ takes-begin setup role x t Release choice b = b
 takes-begin setup role x t ReleaseAnswer choice b = b
 takes-begin setup role x t UserAbort choice b = b
 
-broken-begins : (setup : Setup) (x : State) (t : Option Transfer) → Begins setup.codec t → Begins setup.codec (broken setup (with_transfer x t)).outgoing.transfer
+broken-begins : (setup : ModelSetup) (x : State) (t : Option Transfer) → Begins setup.codec t → Begins setup.codec (broken setup (with_transfer x t)).outgoing.transfer
 broken-begins setup x None b = b
 broken-begins setup x (Some t) b = b
 
-step-begins : (setup : Setup) (role : Role) (x : State) (flight : List Sending) (step : Step) → IsStep setup role x flight step → Begins setup.codec x.outgoing.transfer → Begins setup.codec (after setup role x step).outgoing.transfer
+step-begins : (setup : ModelSetup) (role : Role) (x : State) (flight : List Sending) (step : Step) → IsStep setup role x flight step → Begins setup.codec x.outgoing.transfer → Begins setup.codec (after setup role x step).outgoing.transfer
 step-begins setup role x flight (Acts act) h b = acts-begin setup role x x.outgoing.transfer act h b
 step-begins setup role x flight (Takes m choice) h b = takes-begin setup role x x.outgoing.transfer m choice b
 step-begins setup role x flight (Passes m) h b = b
 
-pub pieces-begin : (setup : Setup) (world : World) → IsRun setup world → (role : Role) → Begins setup.codec (state_of setup role world).outgoing.transfer
+pub pieces-begin : (setup : ModelSetup) (world : World) → IsRun setup world → (role : Role) → Begins setup.codec (state_of setup role world).outgoing.transfer
 pieces-begin setup [] h role = tt
 pieces-begin setup (Break ∷ world) h role = broken-begins setup (state_of setup role world) (state_of setup role world).outgoing.transfer (pieces-begin setup world h.1 role)
 pieces-begin setup (By Initiator step ∷ world) h Initiator = step-begins setup Initiator (state_of setup Initiator world) _ step h.0 (pieces-begin setup world h.1 Initiator)

@@ -3,7 +3,7 @@ use Rattle.std.proofs.Common.{◌≡◌, true, false, List, [], ◌∷◌, ◌++
 use Rattle.std.specs.Prelude.{Option, Some, None}
 use Rattle.agreement.specs.Sets.{Role, other, Item}
 use Rattle.agreement.specs.Sets.Role.{Initiator, Responder}
-use Rattle.agreement.specs.Messages.{Mode, Setup, Message, Act, Choice, Value}
+use Rattle.agreement.specs.Messages.{Mode, ModelSetup, Message, Act, Choice, Value}
 use Rattle.agreement.specs.Messages.Mode.{Bare, Direct, Reliable}
 use Rattle.agreement.specs.Messages.Act.{Connects, Recovers, SaysValue, Queues, Drops, Alters, Marks, GivesTurn, Pleads, Restarts, Starts, Encodes, Sends, EndsActivity, Interrupts, Discards, Resumes, Releases, Aborts, Withdraws, TransportFails}
 use Rattle.agreement.specs.Messages.Choice.{Nothing, Accepting, Refusing, Results}
@@ -29,24 +29,24 @@ use Rattle.agreement.proofs.ReliableWorlds.Stage.{Fresh, Asked, Dropped, Refused
 use Rattle.agreement.proofs.Mail.{taken-as_sent, by-mode}
 use Rattle.agreement.proofs.AtOnce.{bare-as_sent, direct-as_sent, bare-no_abort, direct-no_abort, bare-holder, direct-holder, Given}
 
-reliable-given : (base : Setup) (role : Role) (x y : State) (flight g : List Sending) (shared : Shared) (m : Message) (choice : Choice) → ReliableRelation base role x y flight g shared → IsStep (reliable base) role x flight (Takes m choice) → WasSent (reliable base) m → Given (reliable base) role x flight m
+reliable-given : (base : ModelSetup) (role : Role) (x y : State) (flight g : List Sending) (shared : Shared) (m : Message) (choice : Choice) → ReliableRelation base role x y flight g shared → IsStep (reliable base) role x flight (Takes m choice) → WasSent (reliable base) m → Given (reliable base) role x flight m
 reliable-given base role x y [] g shared m choice i h w = absurd h.comes
 reliable-given base role x y (s ∷ flight) g shared m choice i h w =
     let t = reliable-takes base role x y s flight g shared m choice i h.comes h.is_alive h.is_kept h.is_choice in
     record { may = t.may w; pair = t.pair }
 
-pub reliable-at : (base : Setup) (world : World) (role : Role) (m : Message) (choice : Choice) → IsRun (reliable base) (By role (Takes m choice) ∷ world) → Given (reliable base) role (state_of (reliable base) role world) (flight_to (reliable base) role world) m
+pub reliable-at : (base : ModelSetup) (world : World) (role : Role) (m : Message) (choice : Choice) → IsRun (reliable base) (By role (Takes m choice) ∷ world) → Given (reliable base) role (state_of (reliable base) role world) (flight_to (reliable base) role world) m
 reliable-at base world role m choice h =
     reliable-given base role (state_of (reliable base) role world) (state_of (reliable base) (other role) world) (flight_to (reliable base) role world) (flight_to (reliable base) (other role) world) (shared_at (reliable base) world) m choice
     (at-role (reliable base) (ReliableRelation base) (reliable-keeps base) role world (reached (reliable base) (ReliableRelation base) (reliable-keeps base) world h.1)) h.0 (was-sent (reliable base) world role m h.1 h.0.comes)
 
-reliable-no_abort : (base : Setup) → NoAbortOfItself (reliable base)
+reliable-no_abort : (base : ModelSetup) → NoAbortOfItself (reliable base)
 reliable-no_abort base world role m choice h = (reliable-at base world role m choice h).may
 
-reliable-as_sent : (base : Setup) → TakenAsSent (reliable base)
+reliable-as_sent : (base : ModelSetup) → TakenAsSent (reliable base)
 reliable-as_sent base = taken-as_sent (reliable base) (λ world role m choice h. (reliable-at base world role m choice h).pair)
 
-both-lead : (setup : Setup) (x y : State) (down up : List Message) (shared : Shared) → Flowing setup Initiator x y down up shared → x.turn ≡ true → y.turn ≡ true → ⊥
+both-lead : (setup : ModelSetup) (x y : State) (down up : List Message) (shared : Shared) → Flowing setup Initiator x y down up shared → x.turn ≡ true → y.turn ≡ true → ⊥
 both-lead setup x y down up shared (Leads o p n) h k = true≢false (sym k ∙ p.turn)
 both-lead setup x y down up shared (Follows o p n) h k = true≢false (sym h ∙ o.turn)
 both-lead setup x y down up shared (Gives_away q) h k = true≢false (sym h ∙ q.giver.turn)
@@ -55,7 +55,7 @@ both-lead setup x y down up shared (Is_given q) h k = true≢false (sym h ∙ q.
 phase-of : (x z : State) (p : Phase) → x ≡ z → z.phase ≡ p → x.phase ≡ p
 phase-of x z p e h = ap (λ (q : State). q.phase) e ∙ h
 
-stage-holder : (base : Setup) (a b : State) (f g : List Sending) (shared : Shared) → Stage (reliable base) a b f g shared → HoldsTurn a → HoldsTurn b → ⊥
+stage-holder : (base : ModelSetup) (a b : State) (f g : List Sending) (shared : Shared) → Stage (reliable base) a b f g shared → HoldsTurn a → HoldsTurn b → ⊥
 stage-holder base a b f g shared (Stands j) h k =
     let i = is-seen Initiator a f g j.me j.up h.1 j.sees_me in
     let q = is-seen Responder b g f j.peer j.down k.1 j.sees_peer in
@@ -74,36 +74,36 @@ stage-holder base a b f g shared (LeftB p q v l) h k = let e = h.1 in cc
 stage-holder base a b f g shared (LeftA p w q n) h k = let e = k.1 in cc
 stage-holder base a b f g shared (Deaf p w q n) h k = let e = k.1 in cc
 
-reliable-holder : (base : Setup) → OneHolder (reliable base)
+reliable-holder : (base : ModelSetup) → OneHolder (reliable base)
 reliable-holder base world h =
     stage-holder base (state_of (reliable base) Initiator world) (state_of (reliable base) Responder world) (flight_to (reliable base) Initiator world) (flight_to (reliable base) Responder world) (shared_at (reliable base) world)
     (reached (reliable base) (ReliableRelation base) (reliable-keeps base) world h)
 
-pub all-no_abort : (setup : Setup) → NoAbortOfItself setup
+pub all-no_abort : (setup : ModelSetup) → NoAbortOfItself setup
 all-no_abort = by-mode NoAbortOfItself bare-no_abort direct-no_abort reliable-no_abort
 
-pub all-as_sent : (setup : Setup) → TakenAsSent setup
+pub all-as_sent : (setup : ModelSetup) → TakenAsSent setup
 all-as_sent = by-mode TakenAsSent bare-as_sent direct-as_sent reliable-as_sent
 
-pub all-holder : (setup : Setup) → OneHolder setup
+pub all-holder : (setup : ModelSetup) → OneHolder setup
 all-holder = by-mode OneHolder bare-holder direct-holder reliable-holder
 
 -- the initiator has the turn whenever it is up
 abbrev Leading : State → Type 0
 Leading x = x.phase ≡ Up → x.turn ≡ true
 
-hears-leading : (setup : Setup) (v : Option Value) (x : State) → Leading x → Leading (hears setup v x)
+hears-leading : (setup : ModelSetup) (v : Option Value) (x : State) → Leading x → Leading (hears setup v x)
 hears-leading setup None x h = h
 hears-leading setup (Some v) x h = h
 
-between-leading : (setup : Setup) (v : Option Value) (x : State) → Leading x → Leading (between (hears setup v x))
+between-leading : (setup : ModelSetup) (v : Option Value) (x : State) → Leading x → Leading (between (hears setup v x))
 between-leading setup None x h = h
 between-leading setup (Some v) x h = h
 
 not-up : (p : Phase) (A : Type 0) → (p ≡ Up → ⊥) → p ≡ Up → A
 not-up p A n e = absurd (n e)
 
-acts-leading : (setup : Setup) (x : State) (act : Act) → (act ≡ GivesTurn → ⊥) → Leading x → Leading (acted setup x act)
+acts-leading : (setup : ModelSetup) (x : State) (act : Act) → (act ≡ GivesTurn → ⊥) → Leading x → Leading (acted setup x act)
 acts-leading setup x Connects n h = λ e. absurd (cc)
 acts-leading setup x Recovers n h = λ e. absurd (cc)
 acts-leading setup x (SaysValue value) n h = h
@@ -135,25 +135,25 @@ refusing-up : (p : Phase) → refusing p ≡ Up → ⊥
 refusing-up Broken e = cc
 refusing-up p e = cc
 
-opened-leading : (setup : Setup) (x : State) (choice : Choice) → Leading x → Leading (taken setup Initiator x Connect choice)
+opened-leading : (setup : ModelSetup) (x : State) (choice : Choice) → Leading x → Leading (taken setup Initiator x Connect choice)
 opened-leading setup x (Accepting set) h = λ e. refl
 opened-leading setup x Refusing h = λ e. absurd (refusing-up x.phase e)
 opened-leading setup x Nothing h = h
 opened-leading setup x (Results results) h = h
 
-recovered-leading : (setup : Setup) (x : State) (choice : Choice) → Leading x → Leading (taken setup Initiator x Recover choice)
+recovered-leading : (setup : ModelSetup) (x : State) (choice : Choice) → Leading x → Leading (taken setup Initiator x Recover choice)
 recovered-leading setup x (Accepting set) h = λ e. refl
 recovered-leading setup x Refusing h = λ e. absurd (refusing-up x.phase e)
 recovered-leading setup x Nothing h = h
 recovered-leading setup x (Results results) h = h
 
-altered-leading : (setup : Setup) (x : State) (items : List Item) (choice : Choice) → Leading x → Leading (taken setup Initiator x (Alter items) choice)
+altered-leading : (setup : ModelSetup) (x : State) (items : List Item) (choice : Choice) → Leading x → Leading (taken setup Initiator x (Alter items) choice)
 altered-leading setup x items (Results results) h = h
 altered-leading setup x items (Accepting set) h = h
 altered-leading setup x items Refusing h = h
 altered-leading setup x items Nothing h = h
 
-takes-leading : (setup : Setup) (x : State) (m : Message) (choice : Choice) → Leading x → Leading (taken setup Initiator x m choice)
+takes-leading : (setup : ModelSetup) (x : State) (m : Message) (choice : Choice) → Leading x → Leading (taken setup Initiator x m choice)
 takes-leading setup x Connect choice h = opened-leading setup x choice h
 takes-leading setup x Recover choice h = recovered-leading setup x choice h
 takes-leading setup x (Accept set) choice h = λ e. refl
@@ -195,7 +195,7 @@ broken-up Bare p e = cc
 broken-up Direct p e = cc
 broken-up Reliable p e = cc
 
-pub initiator-leads : (setup : Setup) → InitiatorLeads setup
+pub initiator-leads : (setup : ModelSetup) → InitiatorLeads setup
 initiator-leads setup [] earlier set choice n = λ e. refl
 initiator-leads setup (Break ∷ later) earlier set choice n = λ e. absurd (broken-up setup.mode (state_of setup Initiator (later ++ (By Initiator (Takes (Accept set) choice) ∷ earlier))).phase e)
 initiator-leads setup (By Initiator (Acts GivesTurn) ∷ later) earlier set choice n = absurd n
@@ -206,14 +206,14 @@ initiator-leads setup (By Initiator (Takes m c) ∷ later) earlier set choice n 
 initiator-leads setup (By Initiator (Passes m) ∷ later) earlier set choice n = initiator-leads setup later earlier set choice n
 initiator-leads setup (By Responder step ∷ later) earlier set choice n = initiator-leads setup later earlier set choice n
 
-pub all-once : (setup : Setup) → ArriveOnce setup
+pub all-once : (setup : ModelSetup) → ArriveOnce setup
 all-once setup = arrive-once setup (all-no_abort setup)
 
-pub others-own : (setup : Setup) → TheOthersOwn setup
+pub others-own : (setup : ModelSetup) → TheOthersOwn setup
 others-own = all-own all-no_abort
 
-pub arrive-whole : (setup : Setup) → ArriveWhole setup
+pub arrive-whole : (setup : ModelSetup) → ArriveWhole setup
 arrive-whole = all-whole all-no_abort
 
-pub invoked-once : (setup : Setup) → InvokedOnce setup
+pub invoked-once : (setup : ModelSetup) → InvokedOnce setup
 invoked-once = all-invoked all-no_abort

@@ -2,7 +2,7 @@
 use Rattle.std.proofs.Common.{◌≡◌, List, [], ◌∷◌, ◌++◌, subst, true}
 use Rattle.agreement.specs.Sets.{Role, other, IsRising, AreKnown, IsKnownSet, ContextSet}
 use Rattle.agreement.specs.Sets.Role.{Initiator, Responder}
-use Rattle.agreement.specs.Messages.{Value, Mode, Setup, Message, Act, Choice}
+use Rattle.agreement.specs.Messages.{Value, Mode, ModelSetup, Message, Act, Choice}
 use Rattle.agreement.specs.Messages.Mode.{Bare, Direct, Reliable}
 use Rattle.agreement.specs.Messages.Act.{Connects, Recovers, SaysValue, Queues, Drops, Alters, Marks, GivesTurn, Pleads, Restarts, Starts, Encodes, Sends, EndsActivity, Interrupts, Discards, Resumes, Releases, Aborts, Withdraws, TransportFails}
 use Rattle.agreement.specs.Messages.Choice.{Nothing, Accepting, Refusing, Results}
@@ -31,10 +31,10 @@ sent-off P (Passes m) [] h = tt
 sent-off P (Passes m) (s ∷ flight) h = h.1
 
 -- each step of a run sends only what satisfies P, which may depend on the sender
-abbrev pub SendsOnly : Setup → (Role → Sending → Type 0) → Type 0
+abbrev pub SendsOnly : ModelSetup → (Role → Sending → Type 0) → Type 0
 SendsOnly setup P = (world : World) (role : Role) (step : Step) → IsRun setup (By role step ∷ world) → AllSent (P role) (sent_by_step setup role world step)
 
-pub carried : (setup : Setup) (P : Role → Sending → Type 0) → SendsOnly setup P → (world : World) → IsRun setup world → (role : Role) → AllSent (P (other role)) (flight_to setup role world)
+pub carried : (setup : ModelSetup) (P : Role → Sending → Type 0) → SendsOnly setup P → (world : World) → IsRun setup world → (role : Role) → AllSent (P (other role)) (flight_to setup role world)
 carried setup P f [] h role = tt
 carried setup P f (Break ∷ world) h role = tt
 carried setup P f (By Initiator step ∷ world) h Initiator = sent-off (P Responder) step (flight_to setup Initiator world) (carried setup P f world h.1 Initiator)
@@ -50,12 +50,12 @@ comes-as P m [] c h = absurd c
 comes-as P m (s ∷ flight) c h = subst P c h.0
 
 -- what the acceptance of contexts and the answer to an alteration were when they were sent
-abbrev pub WasSent : Setup → Message → Type 0
+abbrev pub WasSent : ModelSetup → Message → Type 0
 WasSent setup (Accept set) = IsRising set × IsKnownSet setup.knows set
 WasSent setup (AlterAnswer results) = AreKnown setup.knows results
 WasSent setup message = Unit {0}
 
-acts-sent : (setup : Setup) (x : State) (act : Act) (at : ContextSet) → AllSent (λ s. WasSent setup s.message) (sendings at (sent_by setup x act))
+acts-sent : (setup : ModelSetup) (x : State) (act : Act) (at : ContextSet) → AllSent (λ s. WasSent setup s.message) (sendings at (sent_by setup x act))
 acts-sent setup x Connects at = (tt, tt)
 acts-sent setup x Recovers at = (tt, tt)
 acts-sent setup x (SaysValue value) at = (tt, tt)
@@ -78,7 +78,7 @@ acts-sent setup x Aborts at = (tt, tt)
 acts-sent setup x Withdraws at = tt
 acts-sent setup x TransportFails at = tt
 
-answers-sent : (setup : Setup) (x : State) (m : Message) (choice : Choice) (at : ContextSet) → IsChoice setup x m choice → AllSent (λ s. WasSent setup s.message) (sendings at (answer_to setup x m choice))
+answers-sent : (setup : ModelSetup) (x : State) (m : Message) (choice : Choice) (at : ContextSet) → IsChoice setup x m choice → AllSent (λ s. WasSent setup s.message) (sendings at (answer_to setup x m choice))
 answers-sent setup x Connect (Accepting set) at c = ((c.is_set, c.is_known), tt)
 answers-sent setup x Connect Refusing at c = (tt, tt)
 answers-sent setup x Connect Nothing at c = tt
@@ -110,20 +110,20 @@ answers-sent setup x Give choice at c = go setup.mode
 answers-sent setup x Release choice at c = (tt, tt)
 answers-sent setup x m choice at c = tt
 
-step-sent : (setup : Setup) → SendsOnly setup (λ role s. WasSent setup s.message)
+step-sent : (setup : ModelSetup) → SendsOnly setup (λ role s. WasSent setup s.message)
 step-sent setup world role (Acts act) h = acts-sent setup (state_of setup role world) act (shared_at setup world).set
 step-sent setup world role (Takes m choice) h = answers-sent setup (state_of setup role world) m choice (shared_at setup world).set h.0.is_choice
 step-sent setup world role (Passes m) h = tt
 
-pub was-sent : (setup : Setup) (world : World) (role : Role) (m : Message) → IsRun setup world → ComesNext m (flight_to setup role world) → WasSent setup m
+pub was-sent : (setup : ModelSetup) (world : World) (role : Role) (m : Message) → IsRun setup world → ComesNext m (flight_to setup role world) → WasSent setup m
 was-sent setup world role m h c = comes-as (WasSent setup) m (flight_to setup role world) c (carried setup (λ role s. WasSent setup s.message) (step-sent setup) world h role)
 
 -- values are sent by saying them alone, so each that comes may be written
-abbrev pub IsWritten : Setup → Message → Type 0
+abbrev pub IsWritten : ModelSetup → Message → Type 0
 IsWritten setup (Data value) = setup.codec.may_write value ≡ true
 IsWritten setup message = Unit {0}
 
-acts-written : (setup : Setup) (role : Role) (x : State) (act : Act) (at : ContextSet) → MayAct setup role x act → AllSent (λ s. IsWritten setup s.message) (sendings at (sent_by setup x act))
+acts-written : (setup : ModelSetup) (role : Role) (x : State) (act : Act) (at : ContextSet) → MayAct setup role x act → AllSent (λ s. IsWritten setup s.message) (sendings at (sent_by setup x act))
 acts-written setup role x Connects at h = (tt, tt)
 acts-written setup role x Recovers at h = (tt, tt)
 acts-written setup role x (SaysValue value) at h = (h.is_writable, tt)
@@ -146,7 +146,7 @@ acts-written setup role x Aborts at h = (tt, tt)
 acts-written setup role x Withdraws at h = tt
 acts-written setup role x TransportFails at h = tt
 
-answers-written : (setup : Setup) (x : State) (m : Message) (choice : Choice) (at : ContextSet) → AllSent (λ s. IsWritten setup s.message) (sendings at (answer_to setup x m choice))
+answers-written : (setup : ModelSetup) (x : State) (m : Message) (choice : Choice) (at : ContextSet) → AllSent (λ s. IsWritten setup s.message) (sendings at (answer_to setup x m choice))
 answers-written setup x Connect (Accepting set) at = (tt, tt)
 answers-written setup x Connect Refusing at = (tt, tt)
 answers-written setup x Connect Nothing at = tt
@@ -178,11 +178,11 @@ answers-written setup x Give choice at = go setup.mode
 answers-written setup x Release choice at = (tt, tt)
 answers-written setup x m choice at = tt
 
-step-written : (setup : Setup) → SendsOnly setup (λ role s. IsWritten setup s.message)
+step-written : (setup : ModelSetup) → SendsOnly setup (λ role s. IsWritten setup s.message)
 step-written setup world role (Acts act) h = acts-written setup role (state_of setup role world) act (shared_at setup world).set h.0
 step-written setup world role (Takes m choice) h = answers-written setup (state_of setup role world) m choice (shared_at setup world).set
 step-written setup world role (Passes m) h = tt
 
-pub comes-written : (setup : Setup) (world : World) (role : Role) (value : Value) → IsRun setup world → ComesNext (Data value) (flight_to setup role world) → setup.codec.may_write value ≡ true
+pub comes-written : (setup : ModelSetup) (world : World) (role : Role) (value : Value) → IsRun setup world → ComesNext (Data value) (flight_to setup role world) → setup.codec.may_write value ≡ true
 comes-written setup world role value h c =
     comes-as (IsWritten setup) (Data value) (flight_to setup role world) c (carried setup (λ role s. IsWritten setup s.message) (step-written setup) world h role)

@@ -2,7 +2,7 @@
 use Rattle.std.proofs.Common.{◌≡◌, ℕ, true, false, List, [], ◌∷◌, ◌++◌, refl, sym, ap, ◌∙◌, true≢false, subst, inl, inr, ◌⊎◌}
 use Rattle.agreement.specs.Sets.{Role, other, ContextSet, Saved}
 use Rattle.agreement.specs.Sets.Role.{Initiator, Responder}
-use Rattle.agreement.specs.Messages.{Setup, Message, Act, Choice}
+use Rattle.agreement.specs.Messages.{ModelSetup, Message, Act, Choice}
 use Rattle.agreement.specs.Messages.Mode.{Direct}
 use Rattle.agreement.specs.Messages.Act.{Connects, Recovers, SaysValue, Queues, Drops, Alters, Marks, GivesTurn, Pleads, Restarts, Starts, Encodes, Sends, EndsActivity, Interrupts, Discards, Resumes, Releases, Aborts, Withdraws, TransportFails}
 use Rattle.agreement.specs.Messages.Choice.{Nothing, Accepting, Refusing, Results}
@@ -34,12 +34,12 @@ pub data Stage (most : ℕ) (a b : State) (f g : List Sending) (shared : Shared)
   Deaf : (a.phase ≡ Idle) ⊎ (a.phase ≡ Opening) → a.awaits ≡ NoAnswer → b.phase ≡ Over → f ≡ [] → Stage most a b f g shared
   Stands : Joined most Initiator a b f g shared.set shared.saved → Stage most a b f g shared
 
-abbrev pub DirectRelation : Setup → Relation
+abbrev pub DirectRelation : ModelSetup → Relation
 DirectRelation base Initiator x y f g shared = Stage base.most_marks x y f g shared
 DirectRelation base Responder x y f g shared = Stage base.most_marks y x g f shared
 
 -- an end that is over does nothing, and nothing is done in an opening but an abort
-pub over-still : (setup : Setup) (role : Role) (x : State) (act : Act) → MayAct setup role x act → x.phase ≡ Over → ⊥
+pub over-still : (setup : ModelSetup) (role : Role) (x : State) (act : Act) → MayAct setup role x act → x.phase ≡ Over → ⊥
 over-still setup role x Connects h e = let d = h.is_idle in cc
 over-still setup role x Recovers h e = let d = h.is_broken in cc
 over-still setup role x (SaysValue value) h e = let d = h.is_free.is_up in cc
@@ -71,7 +71,7 @@ pub data Acting (role : Role) (x : State) : Act → Type 0 where
   ByFailing : MayWithdrawIn role x.phase → Acting role x TransportFails
   WhileUp : {act : Act} → x.phase ≡ Up → Acting role x act
 
-pub acting : (setup : Setup) (role : Role) (x : State) (act : Act) → MayAct setup role x act → Acting role x act
+pub acting : (setup : ModelSetup) (role : Role) (x : State) (act : Act) → MayAct setup role x act → Acting role x act
 acting setup role x Connects h = ByConnecting h.initiates h.is_idle
 acting setup role x Recovers h = ByRecovering h.initiates h.is_broken
 acting setup role x (SaysValue value) h = WhileUp h.is_free.is_up
@@ -94,10 +94,10 @@ acting setup role x Aborts h = ByAborting h.in_phase
 acting setup role x Withdraws h = ByWithdrawing h.in_phase
 acting setup role x TransportFails h = ByFailing h.in_phase
 
-After : (base : Setup) (role : Role) (x y : State) (f g : List Sending) (shared : Shared) (act : Act) → Type 0
+After : (base : ModelSetup) (role : Role) (x y : State) (f g : List Sending) (shared : Shared) (act : Act) → Type 0
 After base role x y f g shared act = DirectRelation base role (acted (direct base) x act) y f (g ++ sendings shared.set (sent_by (direct base) x act)) (shared_all Direct role (sent_by (direct base) x act) shared)
 
-initiator-acts : (base : Setup) (a b : State) (f g : List Sending) (shared : Shared) (act : Act) → Stage base.most_marks a b f g shared → MayAct (direct base) Initiator a act → After base Initiator a b f g shared act
+initiator-acts : (base : ModelSetup) (a b : State) (f g : List Sending) (shared : Shared) (act : Act) → Stage base.most_marks a b f g shared → MayAct (direct base) Initiator a act → After base Initiator a b f g shared act
 unfolding After
 initiator-acts base a b f g shared act (Stands j) h = Stands (acts base Initiator a b f g shared act h j)
 initiator-acts base a b f g shared act (Fresh p q e d c k) h = go act (acting (direct base) Initiator a act h)
@@ -152,7 +152,7 @@ initiator-acts base a b f g shared act (Lost p q e) h = absurd (over-still (dire
 initiator-acts base a b f g shared act (Dead p q) h = absurd (over-still (direct base) Initiator a act h p)
 
 -- a responder that is idle can only go over
-pub idle-withdraws : (setup : Setup) (x : State) (act : Act) (P : Act → Type 0) → MayAct setup Responder x act → x.phase ≡ Idle → P Withdraws → P TransportFails → P act
+pub idle-withdraws : (setup : ModelSetup) (x : State) (act : Act) (P : Act → Type 0) → MayAct setup Responder x act → x.phase ≡ Idle → P Withdraws → P TransportFails → P act
 idle-withdraws setup x act P h e p q = go act (acting setup Responder x act h)
   where
     go : (act : Act) → Acting Responder x act → P act
@@ -163,7 +163,7 @@ idle-withdraws setup x act P h e p q = go act (acting setup Responder x act h)
     go TransportFails (ByFailing j) = q
     go act (WhileUp j) = absurd (cc)
 
-responder-acts : (base : Setup) (a b : State) (f g : List Sending) (shared : Shared) (act : Act) → Stage base.most_marks a b f g shared → MayAct (direct base) Responder b act → After base Responder b a g f shared act
+responder-acts : (base : ModelSetup) (a b : State) (f g : List Sending) (shared : Shared) (act : Act) → Stage base.most_marks a b f g shared → MayAct (direct base) Responder b act → After base Responder b a g f shared act
 unfolding After
 responder-acts base a b f g shared act (Stands j) h =
     Stands (swap_joined base.most_marks Responder _ _ _ _ _ _ (acts base Responder b a g f shared act h (swap_joined base.most_marks Initiator a b f g shared.set shared.saved j)))
@@ -180,12 +180,12 @@ responder-acts base a b f g shared act (Deaf p c q e) h = absurd (over-still (di
 responder-acts base a b f g shared act (Dead p q) h = absurd (over-still (direct base) Responder b act h q)
 
 -- what a taking gives
-pub record Took (base : Setup) (role : Role) (x y : State) (f g : List Sending) (shared : Shared) (s : Sending) (m : Message) (choice : Choice) : Type 0 where
+pub record Took (base : ModelSetup) (role : Role) (x y : State) (f g : List Sending) (shared : Shared) (s : Sending) (m : Message) (choice : Choice) : Type 0 where
   pub may : WasSent (direct base) m → MayTake (direct base) role x m
   pub pair : pair_under x.sets.held m ≡ pair_under s.shared m
   pub next : DirectRelation base role (taken (direct base) role x m choice) y f (g ++ sendings shared.set (answer_to (direct base) x m choice)) (shared_answered m choice shared)
 
-initiator-takes : (base : Setup) (a b : State) (s : Sending) (f g : List Sending) (shared : Shared) (m : Message) (choice : Choice) → Stage base.most_marks a b (s ∷ f) g shared → s.message ≡ m → (a.phase ≡ Over → ⊥) → is_purged Initiator a.awaits m ≡ false → IsChoice (direct base) a m choice → Took base Initiator a b f g shared s m choice
+initiator-takes : (base : ModelSetup) (a b : State) (s : Sending) (f g : List Sending) (shared : Shared) (m : Message) (choice : Choice) → Stage base.most_marks a b (s ∷ f) g shared → s.message ≡ m → (a.phase ≡ Over → ⊥) → is_purged Initiator a.awaits m ≡ false → IsChoice (direct base) a m choice → Took base Initiator a b f g shared s m choice
 initiator-takes base a b s f g shared m choice (Stands j) e alive kept c =
     let t = takes base Initiator a b s f g shared m choice e alive kept c j in
     record { may = t.may; pair = t.pair; next = Stands t.next }
@@ -205,7 +205,7 @@ abbrev acceptance_of : ContextSet → Shared → Sending
 acceptance_of set shared = record { message = Accept set; shared = shared.set }
 
 -- the responder accepts or refuses an opening
-opens : (base : Setup) (a b : State) (s : Sending) (f behind : List Sending) (shared : Shared) (choice : Choice) → (a.phase ≡ Opening) × (a.awaits ≡ NoAnswer) × (behind ≡ []) ⊎ (a.phase ≡ Over) → b.phase ≡ Idle → f ≡ [] → AllAre IsAbort behind → IsChoice (direct base) b Connect choice → Took base Responder b a behind f shared s Connect choice
+opens : (base : ModelSetup) (a b : State) (s : Sending) (f behind : List Sending) (shared : Shared) (choice : Choice) → (a.phase ≡ Opening) × (a.awaits ≡ NoAnswer) × (behind ≡ []) ⊎ (a.phase ≡ Over) → b.phase ≡ Idle → f ≡ [] → AllAre IsAbort behind → IsChoice (direct base) b Connect choice → Took base Responder b a behind f shared s Connect choice
 opens base a b s f behind shared (Accepting set) h q e l c =
     record {
       may = λ w. record { responds = refl; is_unjoined = subst IsUnjoined (sym q) tt };
@@ -255,7 +255,7 @@ opens base a b s f behind shared Refusing (inr h) q e l c =
 opens base a b s f behind shared Nothing h q e l c = absurd c
 opens base a b s f behind shared (Results results) h q e l c = absurd c
 
-responder-takes : (base : Setup) (a b : State) (s : Sending) (f g : List Sending) (shared : Shared) (m : Message) (choice : Choice) → Stage base.most_marks a b f (s ∷ g) shared → s.message ≡ m → (b.phase ≡ Over → ⊥) → is_purged Responder b.awaits m ≡ false → IsChoice (direct base) b m choice → Took base Responder b a g f shared s m choice
+responder-takes : (base : ModelSetup) (a b : State) (s : Sending) (f g : List Sending) (shared : Shared) (m : Message) (choice : Choice) → Stage base.most_marks a b f (s ∷ g) shared → s.message ≡ m → (b.phase ≡ Over → ⊥) → is_purged Responder b.awaits m ≡ false → IsChoice (direct base) b m choice → Took base Responder b a g f shared s m choice
 responder-takes base a b s f g shared m choice (Stands j) e alive kept c =
     let t = takes base Responder b a s g f shared m choice e alive kept c (swap_joined base.most_marks Initiator a b f (s ∷ g) shared.set shared.saved j) in
     record { may = t.may; pair = t.pair; next = Stands (swap_joined base.most_marks Responder _ _ _ _ _ _ t.next) }
@@ -277,7 +277,7 @@ responder-takes base a b s f g shared m choice (Lost p q n) e alive kept c = abs
 responder-takes base a b s f g shared m choice (Dead p q) e alive kept c = absurd (alive q)
 responder-takes base a b s f g shared m choice (Deaf p k q n) e alive kept c = absurd (alive q)
 
-initiator-passes : (base : Setup) (a b : State) (s : Sending) (f g : List Sending) (shared : Shared) (m : Message) → Stage base.most_marks a b (s ∷ f) g shared → s.message ≡ m → (a.phase ≡ Over) ⊎ (is_purged Initiator a.awaits m ≡ true) → Stage base.most_marks a b f g shared
+initiator-passes : (base : ModelSetup) (a b : State) (s : Sending) (f g : List Sending) (shared : Shared) (m : Message) → Stage base.most_marks a b (s ∷ f) g shared → s.message ≡ m → (a.phase ≡ Over) ⊎ (is_purged Initiator a.awaits m ≡ true) → Stage base.most_marks a b f g shared
 initiator-passes base a b s f g shared m (Stands j) e h = Stands (passes base Initiator a b s f g shared m e h j)
 initiator-passes base a b s f g shared m (Fresh p q n d i k) e h = absurd (cc)
 initiator-passes base a b s f g shared m (Asked t p k q i n d u) e h = absurd (cc)
@@ -288,7 +288,7 @@ initiator-passes base a b s f g shared m (Lost p q n) e h = Lost p q n
 initiator-passes base a b s f g shared m (Dead p q) e h = Dead p q
 initiator-passes base a b s f g shared m (Deaf p k q n) e h = absurd (cc)
 
-responder-passes : (base : Setup) (a b : State) (s : Sending) (f g : List Sending) (shared : Shared) (m : Message) → Stage base.most_marks a b f (s ∷ g) shared → s.message ≡ m → (b.phase ≡ Over) ⊎ (is_purged Responder b.awaits m ≡ true) → Stage base.most_marks a b f g shared
+responder-passes : (base : ModelSetup) (a b : State) (s : Sending) (f g : List Sending) (shared : Shared) (m : Message) → Stage base.most_marks a b f (s ∷ g) shared → s.message ≡ m → (b.phase ≡ Over) ⊎ (is_purged Responder b.awaits m ≡ true) → Stage base.most_marks a b f g shared
 responder-passes base a b s f g shared m (Stands j) e h =
     Stands (swap_joined base.most_marks Responder _ _ _ _ _ _ (passes base Responder b a s g f shared m e h (swap_joined base.most_marks Initiator a b f (s ∷ g) shared.set shared.saved j)))
 responder-passes base a b s f g shared m (Fresh p q n d i k) e h = absurd (cc)
@@ -313,7 +313,7 @@ over-after most role x y f g s v j = go j.view_me
     go (Leaving r p a l) = ap (broken_phase Direct) p
     go (Gone p) = ap (broken_phase Direct) p
 
-breaks : (base : Setup) (a b : State) (f g : List Sending) (shared : Shared) → Stage base.most_marks a b f g shared → Stage base.most_marks (broken (direct base) a) (broken (direct base) b) [] [] shared
+breaks : (base : ModelSetup) (a b : State) (f g : List Sending) (shared : Shared) → Stage base.most_marks a b f g shared → Stage base.most_marks (broken (direct base) a) (broken (direct base) b) [] [] shared
 breaks base a b f g shared (Stands j) =
     Dead (over-after base.most_marks Initiator a b f g shared.set shared.saved j)
     (over-after base.most_marks Responder b a g f shared.set shared.saved (swap_joined base.most_marks Initiator a b f g shared.set shared.saved j))
@@ -326,27 +326,27 @@ breaks base a b f g shared (Dead p q) = Dead (ap (broken_phase Direct) p) (ap (b
 breaks base a b f g shared (Deaf (inl p) k q n) = Deaf (inl (ap (broken_phase Direct) p)) refl (ap (broken_phase Direct) q) refl
 breaks base a b f g shared (Deaf (inr p) k q n) = Dead (ap (broken_phase Direct) p) (ap (broken_phase Direct) q)
 
-pub direct-takes : (base : Setup) (role : Role) (x y : State) (s : Sending) (f g : List Sending) (shared : Shared) (m : Message) (choice : Choice) → DirectRelation base role x y (s ∷ f) g shared → s.message ≡ m → (x.phase ≡ Over → ⊥) → is_purged role x.awaits m ≡ false → IsChoice (direct base) x m choice → Took base role x y f g shared s m choice
+pub direct-takes : (base : ModelSetup) (role : Role) (x y : State) (s : Sending) (f g : List Sending) (shared : Shared) (m : Message) (choice : Choice) → DirectRelation base role x y (s ∷ f) g shared → s.message ≡ m → (x.phase ≡ Over → ⊥) → is_purged role x.awaits m ≡ false → IsChoice (direct base) x m choice → Took base role x y f g shared s m choice
 direct-takes base Initiator x y s f g shared m choice h e alive kept c = initiator-takes base x y s f g shared m choice h e alive kept c
 direct-takes base Responder x y s f g shared m choice h e alive kept c = responder-takes base y x s g f shared m choice h e alive kept c
 
-direct-acts : (base : Setup) (role : Role) (x y : State) (f g : List Sending) (shared : Shared) (act : Act) → DirectRelation base role x y f g shared → MayAct (direct base) role x act → After base role x y f g shared act
+direct-acts : (base : ModelSetup) (role : Role) (x y : State) (f g : List Sending) (shared : Shared) (act : Act) → DirectRelation base role x y f g shared → MayAct (direct base) role x act → After base role x y f g shared act
 direct-acts base Initiator x y f g shared act h may = initiator-acts base x y f g shared act h may
 direct-acts base Responder x y f g shared act h may = responder-acts base y x g f shared act h may
 
-direct-passes : (base : Setup) (role : Role) (x y : State) (s : Sending) (f g : List Sending) (shared : Shared) (m : Message) → DirectRelation base role x y (s ∷ f) g shared → s.message ≡ m → (x.phase ≡ Over) ⊎ (is_purged role x.awaits m ≡ true) → DirectRelation base role x y f g shared
+direct-passes : (base : ModelSetup) (role : Role) (x y : State) (s : Sending) (f g : List Sending) (shared : Shared) (m : Message) → DirectRelation base role x y (s ∷ f) g shared → s.message ≡ m → (x.phase ≡ Over) ⊎ (is_purged role x.awaits m ≡ true) → DirectRelation base role x y f g shared
 direct-passes base Initiator x y s f g shared m h e p = initiator-passes base x y s f g shared m h e p
 direct-passes base Responder x y s f g shared m h e p = responder-passes base y x s g f shared m h e p
 
-direct-swaps : (base : Setup) (role : Role) (x y : State) (f g : List Sending) (shared : Shared) → DirectRelation base role x y f g shared → DirectRelation base (other role) y x g f shared
+direct-swaps : (base : ModelSetup) (role : Role) (x y : State) (f g : List Sending) (shared : Shared) → DirectRelation base role x y f g shared → DirectRelation base (other role) y x g f shared
 direct-swaps base Initiator x y f g shared h = h
 direct-swaps base Responder x y f g shared h = h
 
-direct-breaks : (base : Setup) (role : Role) (x y : State) (f g : List Sending) (shared : Shared) → DirectRelation base role x y f g shared → DirectRelation base role (broken (direct base) x) (broken (direct base) y) [] [] shared
+direct-breaks : (base : ModelSetup) (role : Role) (x y : State) (f g : List Sending) (shared : Shared) → DirectRelation base role x y f g shared → DirectRelation base role (broken (direct base) x) (broken (direct base) y) [] [] shared
 direct-breaks base Initiator x y f g shared h = breaks base x y f g shared h
 direct-breaks base Responder x y f g shared h = breaks base y x g f shared h
 
-pub direct-keeps : (base : Setup) → Keeps (direct base) (DirectRelation base)
+pub direct-keeps : (base : ModelSetup) → Keeps (direct base) (DirectRelation base)
 unfolding After
 direct-keeps base =
     record {

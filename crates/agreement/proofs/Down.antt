@@ -2,7 +2,7 @@
 use Rattle.std.proofs.Common.{◌≡◌, suc, ◌≤◌, length, Bool, true, false, List, [], ◌∷◌, ◌++◌, refl, sym, ap, true≢false, subst, append_assoc}
 use Rattle.agreement.specs.Sets.{Role, ContextSet, Result, Fits, altered, AreDistinct, identifiers}
 use Rattle.agreement.specs.Sets.Role.{Initiator}
-use Rattle.agreement.specs.Messages.{Setup, Message}
+use Rattle.agreement.specs.Messages.{ModelSetup, Message}
 use Rattle.agreement.specs.Messages.Message.{Alter, AlterAnswer, Mark, MarkAnswer, Start, Resume, Chunk, End, EndAnswer, Interrupt, InterruptAnswer, Discard, DiscardAnswer, GiveAnswer, Please, Release, UserAbort}
 use Rattle.agreement.specs.State.{Incoming, highest, joined}
 use Rattle.agreement.specs.State.Piece.{Octets, Marked}
@@ -19,7 +19,7 @@ pub record Follower : Type 0 where
 
 -- what is aimed at: how the octets of a transfer that ends are to be spelled, and what holds at rest
 pub record Goal : Type 1 where
-  pub spells : Setup → ContextSet → Incoming → Type 0
+  pub spells : ModelSetup → ContextSet → Incoming → Type 0
   pub rests : List Message → Follower → Type 0
 
 -- messages that ask nothing and answer nothing
@@ -34,7 +34,7 @@ AllQuiet (message ∷ messages) = IsQuiet message × AllQuiet messages
 
 -- Whatever the follower decides: it may take each message, and when all is taken, R holds of what
 -- then goes up and of the follower.
-abbrev pub Down : Setup → Role → Goal → List Message → Follower → List Message → Type 0
+abbrev pub Down : ModelSetup → Role → Goal → List Message → Follower → List Message → Type 0
 Down setup from R [] y up = R.rests up y
 Down setup from R (Alter items ∷ down) y up =
     AreSound from y.held items × AreDistinct (identifiers items) ×
@@ -81,7 +81,7 @@ AllFlat [] = Unit {0}
 AllFlat (message ∷ messages) = IsFlat message × AllFlat messages
 
 -- the leader took the first of what came up
-pub down-taken : (setup : Setup) (from : Role) (R Q : Goal) (u : Message) (down : List Message) (y : Follower) (up : List Message) → ((held : ContextSet) (i : Incoming) → R.spells setup held i → Q.spells setup held i) → ((us : List Message) (z : Follower) → R.rests (u ∷ us) z → Q.rests us z) → Down setup from R down y (u ∷ up) → Down setup from Q down y up
+pub down-taken : (setup : ModelSetup) (from : Role) (R Q : Goal) (u : Message) (down : List Message) (y : Follower) (up : List Message) → ((held : ContextSet) (i : Incoming) → R.spells setup held i → Q.spells setup held i) → ((us : List Message) (z : Follower) → R.rests (u ∷ us) z → Q.rests us z) → Down setup from R down y (u ∷ up) → Down setup from Q down y up
 down-taken setup from R Q u [] y up g f h = f up y h
 down-taken setup from R Q u (Alter items ∷ d) y up g f h = (h.0, h.1, λ results fits. down-taken setup from R Q u d (record y { held = altered items results y.held }) (up ++ (AlterAnswer results ∷ [])) g f (h.2 results fits))
 down-taken setup from R Q u (Mark n ∷ d) y up g f h = (h.0, h.1, down-taken setup from R Q u d (record y { incoming = record y.incoming { pieces = Marked n y.held ∷ y.incoming.pieces } }) (up ++ (MarkAnswer n ∷ [])) g f h.2)
@@ -98,7 +98,7 @@ down-taken setup from R Q u (UserAbort ∷ d) y up g f h = down-taken setup from
 down-taken setup from R Q u (m ∷ d) y up g f h = absurd h
 
 -- the follower sends a plea or an abort of itself
-pub down-up : (setup : Setup) (from : Role) (R : Goal) (u : Message) (down : List Message) (y : Follower) (up rest : List Message) → IsQuiet u → ((us vs : List Message) (z : Follower) → R.rests (us ++ vs) z → R.rests (us ++ (u ∷ vs)) z) → Down setup from R down y (up ++ rest) → Down setup from R down y (up ++ (u ∷ rest))
+pub down-up : (setup : ModelSetup) (from : Role) (R : Goal) (u : Message) (down : List Message) (y : Follower) (up rest : List Message) → IsQuiet u → ((us vs : List Message) (z : Follower) → R.rests (us ++ vs) z → R.rests (us ++ (u ∷ vs)) z) → Down setup from R down y (up ++ rest) → Down setup from R down y (up ++ (u ∷ rest))
 down-up setup from R u [] y up rest q f h = f up rest y h
 down-up setup from R u (Alter items ∷ d) y up rest q f h = (
   h.0,
@@ -156,13 +156,13 @@ down-up setup from R u (UserAbort ∷ d) y up rest q f h = down-up setup from R 
 down-up setup from R u (m ∷ d) y up rest q f h = absurd h
 
 -- behind what ends an activity all is quiet, and the follower is at rest
-pub down-quiet : (setup : Setup) (from : Role) (R : Goal) (down : List Message) (y : Follower) (up : List Message) → AllQuiet down → Down setup from R down y up → R.rests up y
+pub down-quiet : (setup : ModelSetup) (from : Role) (R : Goal) (down : List Message) (y : Follower) (up : List Message) → AllQuiet down → Down setup from R down y up → R.rests up y
 down-quiet setup from R [] y up q h = h
 down-quiet setup from R (Please p ∷ d) y up q h = down-quiet setup from R d y up q.1 h
 down-quiet setup from R (UserAbort ∷ d) y up q h = down-quiet setup from R d y up q.1 h
 down-quiet setup from R (m ∷ d) y up q h = absurd q.0
 
-pub quiet-down : (setup : Setup) (from : Role) (R : Goal) (down : List Message) (y : Follower) (up : List Message) → AllQuiet down → R.rests up y → Down setup from R down y up
+pub quiet-down : (setup : ModelSetup) (from : Role) (R : Goal) (down : List Message) (y : Follower) (up : List Message) → AllQuiet down → R.rests up y → Down setup from R down y up
 quiet-down setup from R [] y up q h = h
 quiet-down setup from R (Please p ∷ d) y up q h = quiet-down setup from R d y up q.1 h
 quiet-down setup from R (UserAbort ∷ d) y up q h = quiet-down setup from R d y up q.1 h
@@ -173,7 +173,7 @@ quiet-append [] ys a b = b
 quiet-append (x ∷ xs) ys a b = (a.0, quiet-append xs ys a.1 b)
 
 -- a quiet message joins what goes down
-pub push-quiet : (setup : Setup) (from : Role) (R : Goal) (m : Message) (down : List Message) (y : Follower) (up : List Message) → IsQuiet m → Down setup from R down y up → Down setup from R (down ++ (m ∷ [])) y up
+pub push-quiet : (setup : ModelSetup) (from : Role) (R : Goal) (m : Message) (down : List Message) (y : Follower) (up : List Message) → IsQuiet m → Down setup from R down y up → Down setup from R (down ++ (m ∷ [])) y up
 push-quiet setup from R m [] y up q h = quiet-down setup from R (m ∷ []) y up (q, tt) h
 push-quiet setup from R m (Alter items ∷ d) y up q h = (h.0, h.1, λ results fits. push-quiet setup from R m d (record y { held = altered items results y.held }) (up ++ (AlterAnswer results ∷ [])) q (h.2 results fits))
 push-quiet setup from R m (Mark n ∷ d) y up q h = (h.0, h.1, push-quiet setup from R m d (record y { incoming = record y.incoming { pieces = Marked n y.held ∷ y.incoming.pieces } }) (up ++ (MarkAnswer n ∷ [])) q h.2)
@@ -190,7 +190,7 @@ push-quiet setup from R m (UserAbort ∷ d) y up q h = push-quiet setup from R m
 push-quiet setup from R m (x ∷ d) y up q h = absurd h
 
 -- between activities any message joins what goes down
-pub push-flat : (setup : Setup) (from : Role) (R Q : Goal) (m : Message) (down : List Message) (y : Follower) (up : List Message) → AllFlat down → ((us : List Message) (z : Follower) → R.rests us z → Down setup from Q (m ∷ []) z us) → Down setup from R down y up → Down setup from Q (down ++ (m ∷ [])) y up
+pub push-flat : (setup : ModelSetup) (from : Role) (R Q : Goal) (m : Message) (down : List Message) (y : Follower) (up : List Message) → AllFlat down → ((us : List Message) (z : Follower) → R.rests us z → Down setup from Q (m ∷ []) z us) → Down setup from R down y up → Down setup from Q (down ++ (m ∷ [])) y up
 push-flat setup from R Q m [] y up a f h = f up y h
 push-flat setup from R Q m (Alter items ∷ d) y up a f h = (h.0, h.1, λ results fits. push-flat setup from R Q m d (record y { held = altered items results y.held }) (up ++ (AlterAnswer results ∷ [])) a.1 f (h.2 results fits))
 push-flat setup from R Q m (GiveAnswer ∷ d) y up a f h = (h.0, push-flat setup from R Q m d (record y { gave = false }) up a.1 f h.1)
@@ -200,7 +200,7 @@ push-flat setup from R Q m (UserAbort ∷ d) y up a f h = push-flat setup from R
 push-flat setup from R Q m (x ∷ d) y up a f h = absurd a.0
 
 -- while the activity runs any message joins what goes down
-pub push-in : (setup : Setup) (from : Role) (R Q : Goal) (m : Message) (down : List Message) (y : Follower) (up : List Message) → ((us : List Message) (z : Follower) → R.rests us z → z.incoming.active ≡ true) → ((us : List Message) (z : Follower) → R.rests us z → Down setup from Q (m ∷ []) z us) → Down setup from R down y up → Down setup from Q (down ++ (m ∷ [])) y up
+pub push-in : (setup : ModelSetup) (from : Role) (R Q : Goal) (m : Message) (down : List Message) (y : Follower) (up : List Message) → ((us : List Message) (z : Follower) → R.rests us z → z.incoming.active ≡ true) → ((us : List Message) (z : Follower) → R.rests us z → Down setup from Q (m ∷ []) z us) → Down setup from R down y up → Down setup from Q (down ++ (m ∷ [])) y up
 push-in setup from R Q m [] y up g f h = f up y h
 push-in setup from R Q m (Alter items ∷ d) y up g f h = (h.0, h.1, λ results fits. push-in setup from R Q m d (record y { held = altered items results y.held }) (up ++ (AlterAnswer results ∷ [])) g f (h.2 results fits))
 push-in setup from R Q m (Mark n ∷ d) y up g f h = (h.0, h.1, push-in setup from R Q m d (record y { incoming = record y.incoming { pieces = Marked n y.held ∷ y.incoming.pieces } }) (up ++ (MarkAnswer n ∷ [])) g f h.2)
@@ -217,7 +217,7 @@ push-in setup from R Q m (UserAbort ∷ d) y up g f h = push-in setup from R Q m
 push-in setup from R Q m (x ∷ d) y up g f h = absurd h
 
 -- while the activity runs another goal may be aimed at
-pub down-in : (setup : Setup) (from : Role) (R Q : Goal) (down : List Message) (y : Follower) (up : List Message) → ((us : List Message) (z : Follower) → R.rests us z → z.incoming.active ≡ true) → ((us : List Message) (z : Follower) → R.rests us z → Q.rests us z) → Down setup from R down y up → Down setup from Q down y up
+pub down-in : (setup : ModelSetup) (from : Role) (R Q : Goal) (down : List Message) (y : Follower) (up : List Message) → ((us : List Message) (z : Follower) → R.rests us z → z.incoming.active ≡ true) → ((us : List Message) (z : Follower) → R.rests us z → Q.rests us z) → Down setup from R down y up → Down setup from Q down y up
 down-in setup from R Q [] y up g f h = f up y h
 down-in setup from R Q (Alter items ∷ d) y up g f h = (h.0, h.1, λ results fits. down-in setup from R Q d (record y { held = altered items results y.held }) (up ++ (AlterAnswer results ∷ [])) g f (h.2 results fits))
 down-in setup from R Q (Mark n ∷ d) y up g f h = (h.0, h.1, down-in setup from R Q d (record y { incoming = record y.incoming { pieces = Marked n y.held ∷ y.incoming.pieces } }) (up ++ (MarkAnswer n ∷ [])) g f h.2)
@@ -246,7 +246,7 @@ nil-append_of : (xs : List Message) → xs ++ [] ≡ xs
 nil-append_of [] = refl
 nil-append_of (x ∷ xs) = ap (λ ys. x ∷ ys) (nil-append_of xs)
 
-pub at-rest : (setup : Setup) (from : Role) (R : Goal) (down : List Message) (y : Follower) (up : List Message) → Down setup from R down y up → AtRest R up
+pub at-rest : (setup : ModelSetup) (from : Role) (R : Goal) (down : List Message) (y : Follower) (up : List Message) → Down setup from R down y up → AtRest R up
 at-rest setup from R [] y up h = record { more = []; last = y; rests = subst (λ us. R.rests us y) (sym (nil-append_of up)) h }
 at-rest setup from R (Alter items ∷ d) y up h = further R up (AlterAnswer (rejections items) ∷ []) (at-rest setup from R d (record y { held = altered items (rejections items) y.held }) (up ++ (AlterAnswer (rejections items) ∷ [])) (h.2 (rejections items) (rejections-fit items)))
 at-rest setup from R (Mark n ∷ d) y up h = further R up (MarkAnswer n ∷ []) (at-rest setup from R d (record y { incoming = record y.incoming { pieces = Marked n y.held ∷ y.incoming.pieces } }) (up ++ (MarkAnswer n ∷ [])) h.2)

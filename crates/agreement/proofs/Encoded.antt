@@ -3,7 +3,7 @@ use Rattle.std.proofs.Common.{◌≡◌, ℕ, zero, suc, Bool, true, false, if�
 use Rattle.std.specs.Prelude.{Option, Some, None}
 use Rattle.agreement.specs.Sets.{Role, other, Pair, ContextSet, lookup, Item}
 use Rattle.agreement.specs.Sets.Role.{Initiator, Responder}
-use Rattle.agreement.specs.Messages.{Apdu, Value, Mode, Setup, Message, Act, Choice}
+use Rattle.agreement.specs.Messages.{Apdu, Value, Mode, ModelSetup, Message, Act, Choice}
 use Rattle.agreement.specs.Messages.Mode.{Bare, Direct, Reliable}
 use Rattle.agreement.specs.Messages.Act.{Connects, Recovers, SaysValue, Queues, Drops, Alters, Marks, GivesTurn, Pleads, Restarts, Starts, Encodes, Sends, EndsActivity, Interrupts, Discards, Resumes, Releases, Aborts, Withdraws, TransportFails}
 use Rattle.agreement.specs.Messages.Choice.{Nothing, Accepting, Refusing, Results}
@@ -34,7 +34,7 @@ phase-of : (x z : State) (p : Phase) → x ≡ z → z.phase ≡ p → x.phase �
 phase-of x z p e h = ap (λ (q : State). q.phase) e ∙ h
 
 -- an end of reliable mode that is up stands on a connection
-pub up-stands : (base : Setup) (role : Role) (x y : State) (f g : List Sending) (shared : Shared) → ReliableRelation base role x y f g shared → x.phase ≡ Up → Standing (reliable base) role x y f g shared
+pub up-stands : (base : ModelSetup) (role : Role) (x y : State) (f g : List Sending) (shared : Shared) → ReliableRelation base role x y f g shared → x.phase ≡ Up → Standing (reliable base) role x y f g shared
 up-stands base Initiator x y f g shared (Stands j) u = j
 up-stands base Initiator x y f g shared (Fresh p q n d) u = absurd (let e = phase-of x (new_end (reliable base) Initiator) Idle p refl in cc)
 up-stands base Initiator x y f g shared (Asked s p q n d w) u = absurd (let e = phase-of x (record (new_end (reliable base) Initiator) { phase = Opening }) Opening p refl in cc)
@@ -73,7 +73,7 @@ up-stands base Responder x y f g shared (LeftA p w q n) u = absurd (cc)
 up-stands base Responder x y f g shared (Deaf p w q n) u = absurd (cc)
 
 -- at its encoding an item's context has the pair that the shared set gives it
-encodes-shared : (base : Setup) (role : Role) (x y : State) (f g : List Sending) (shared : Shared) (context : ℕ) → ReliableRelation base role x y f g shared → MayAct (reliable base) role x (Encodes context) → shared.set ≡ x.sets.held
+encodes-shared : (base : ModelSetup) (role : Role) (x y : State) (f g : List Sending) (shared : Shared) (context : ℕ) → ReliableRelation base role x y f g shared → MayAct (reliable base) role x (Encodes context) → shared.set ≡ x.sets.held
 encodes-shared base role x y f g shared context r h =
     let j = up-stands base role x y f g shared r h.leads.is_free.is_up in
     let i = is-seen role x f g j.me j.up h.leads.is_free.is_up j.sees_me in
@@ -142,11 +142,11 @@ rest-last (RestartOf k) t l us n z h = absurd h
 rest-last ReleaseOf t l us n z h = absurd h
 
 -- what ends on its way to an end is the other end's current transfer, spelled whole
-pub record Source (base : Setup) (x y : State) : Type 0 where
+pub record Source (base : ModelSetup) (x y : State) : Type 0 where
   pub spelled : SpellsIn (value_in y.outgoing.transfer) (reliable base) x.sets.held x.incoming
   pub current : x.incoming.last ≡ y.outgoing.started
 
-end-source : (base : Setup) (role : Role) (x y : State) (s : Sending) (f g : List Sending) (shared : Shared) (number : ℕ) → ReliableRelation base role x y (s ∷ f) g shared → s.message ≡ End number → MayTake (reliable base) role x (End number) → Source base x y
+end-source : (base : ModelSetup) (role : Role) (x y : State) (s : Sending) (f g : List Sending) (shared : Shared) (number : ℕ) → ReliableRelation base role x y (s ∷ f) g shared → s.message ≡ End number → MayTake (reliable base) role x (End number) → Source base x y
 end-source base role x y s f g shared number r e h =
     let j = up-stands base role x y (s ∷ f) g shared r h.is_up in
     let i = is-seen role x (s ∷ f) g j.me j.up h.is_up j.sees_me in
@@ -185,7 +185,7 @@ resumed-encoded : (value : Option Value) (a : Apdu) (n : ℕ) (c : ℕ) (es : Li
 resumed-encoded value a zero c es h = tt
 resumed-encoded value a (suc n) c es h = h
 
-acts-encoded : (setup : Setup) (x : State) (shared : ContextSet) (t : Option Transfer) (act : Act) (es : List Encoding) → ((context : ℕ) → act ≡ Encodes context → shared ≡ x.sets.held) → Encoded t x.outgoing.started es → Encoded (acted setup (with_transfer x t) act).outgoing.transfer (acted setup (with_transfer x t) act).outgoing.started (encoded_by (with_transfer x t) shared (Acts act) ++ es)
+acts-encoded : (setup : ModelSetup) (x : State) (shared : ContextSet) (t : Option Transfer) (act : Act) (es : List Encoding) → ((context : ℕ) → act ≡ Encodes context → shared ≡ x.sets.held) → Encoded t x.outgoing.started es → Encoded (acted setup (with_transfer x t) act).outgoing.transfer (acted setup (with_transfer x t) act).outgoing.started (encoded_by (with_transfer x t) shared (Acts act) ++ es)
 acts-encoded setup x shared t Connects es k h = h
 acts-encoded setup x shared t Recovers es k h = h
 acts-encoded setup x shared t (SaysValue value) es k h = h
@@ -233,29 +233,29 @@ acts-encoded setup x shared t Aborts es k h = h
 acts-encoded setup x shared t Withdraws es k h = h
 acts-encoded setup x shared t TransportFails es k h = h
 
-hears-encoded : (setup : Setup) (v : Option Value) (x : State) (es : List Encoding) → Encoded x.outgoing.transfer x.outgoing.started es → Encoded (hears setup v x).outgoing.transfer (hears setup v x).outgoing.started es
+hears-encoded : (setup : ModelSetup) (v : Option Value) (x : State) (es : List Encoding) → Encoded x.outgoing.transfer x.outgoing.started es → Encoded (hears setup v x).outgoing.transfer (hears setup v x).outgoing.started es
 hears-encoded setup None x es h = h
 hears-encoded setup (Some v) x es h = h
 
-opens-encoded : (setup : Setup) (role : Role) (x : State) (choice : Choice) (es : List Encoding) → Encoded x.outgoing.transfer x.outgoing.started es → Encoded (taken setup role x Connect choice).outgoing.transfer (taken setup role x Connect choice).outgoing.started es
+opens-encoded : (setup : ModelSetup) (role : Role) (x : State) (choice : Choice) (es : List Encoding) → Encoded x.outgoing.transfer x.outgoing.started es → Encoded (taken setup role x Connect choice).outgoing.transfer (taken setup role x Connect choice).outgoing.started es
 opens-encoded setup role x (Accepting set) es h = tt
 opens-encoded setup role x Refusing es h = h
 opens-encoded setup role x Nothing es h = h
 opens-encoded setup role x (Results results) es h = h
 
-recovers-encoded : (setup : Setup) (role : Role) (x : State) (choice : Choice) (es : List Encoding) → Encoded x.outgoing.transfer x.outgoing.started es → Encoded (taken setup role x Recover choice).outgoing.transfer (taken setup role x Recover choice).outgoing.started es
+recovers-encoded : (setup : ModelSetup) (role : Role) (x : State) (choice : Choice) (es : List Encoding) → Encoded x.outgoing.transfer x.outgoing.started es → Encoded (taken setup role x Recover choice).outgoing.transfer (taken setup role x Recover choice).outgoing.started es
 recovers-encoded setup role x (Accepting set) es h = h
 recovers-encoded setup role x Refusing es h = h
 recovers-encoded setup role x Nothing es h = h
 recovers-encoded setup role x (Results results) es h = h
 
-alters-encoded : (setup : Setup) (role : Role) (x : State) (items : List Item) (choice : Choice) (es : List Encoding) → Encoded x.outgoing.transfer x.outgoing.started es → Encoded (taken setup role x (Alter items) choice).outgoing.transfer (taken setup role x (Alter items) choice).outgoing.started es
+alters-encoded : (setup : ModelSetup) (role : Role) (x : State) (items : List Item) (choice : Choice) (es : List Encoding) → Encoded x.outgoing.transfer x.outgoing.started es → Encoded (taken setup role x (Alter items) choice).outgoing.transfer (taken setup role x (Alter items) choice).outgoing.started es
 alters-encoded setup role x items (Results results) es h = h
 alters-encoded setup role x items (Accepting set) es h = h
 alters-encoded setup role x items Refusing es h = h
 alters-encoded setup role x items Nothing es h = h
 
-takes-encoded : (setup : Setup) (role : Role) (x : State) (t : Option Transfer) (m : Message) (choice : Choice) (es : List Encoding) → Encoded t x.outgoing.started es → Encoded (taken setup role (with_transfer x t) m choice).outgoing.transfer (taken setup role (with_transfer x t) m choice).outgoing.started es
+takes-encoded : (setup : ModelSetup) (role : Role) (x : State) (t : Option Transfer) (m : Message) (choice : Choice) (es : List Encoding) → Encoded t x.outgoing.started es → Encoded (taken setup role (with_transfer x t) m choice).outgoing.transfer (taken setup role (with_transfer x t) m choice).outgoing.started es
 takes-encoded setup role x t Connect choice es h = opens-encoded setup role (with_transfer x t) choice es h
 takes-encoded setup role x t Recover choice es h = recovers-encoded setup role (with_transfer x t) choice es h
 takes-encoded setup role x t (Accept set) choice es h = h
@@ -291,11 +291,11 @@ takes-encoded setup role x t Release choice es h = h
 takes-encoded setup role x t ReleaseAnswer choice es h = h
 takes-encoded setup role x t UserAbort choice es h = h
 
-broken-encoded : (setup : Setup) (x : State) (t : Option Transfer) (es : List Encoding) → Encoded t x.outgoing.started es → Encoded (broken setup (with_transfer x t)).outgoing.transfer x.outgoing.started es
+broken-encoded : (setup : ModelSetup) (x : State) (t : Option Transfer) (es : List Encoding) → Encoded t x.outgoing.started es → Encoded (broken setup (with_transfer x t)).outgoing.transfer x.outgoing.started es
 broken-encoded setup x None es h = tt
 broken-encoded setup x (Some t) es h = h
 
-step-encoded : (base : Setup) (role : Role) (world : World) (step : Step) → IsRun (reliable base) (By role step ∷ world) → Encoded (state_of (reliable base) role world).outgoing.transfer (state_of (reliable base) role world).outgoing.started (encodings (reliable base) role world) → Encoded (after (reliable base) role (state_of (reliable base) role world) step).outgoing.transfer (after (reliable base) role (state_of (reliable base) role world) step).outgoing.started (encoded_by (state_of (reliable base) role world) (shared_at (reliable base) world).set step ++ encodings (reliable base) role world)
+step-encoded : (base : ModelSetup) (role : Role) (world : World) (step : Step) → IsRun (reliable base) (By role step ∷ world) → Encoded (state_of (reliable base) role world).outgoing.transfer (state_of (reliable base) role world).outgoing.started (encodings (reliable base) role world) → Encoded (after (reliable base) role (state_of (reliable base) role world) step).outgoing.transfer (after (reliable base) role (state_of (reliable base) role world) step).outgoing.started (encoded_by (state_of (reliable base) role world) (shared_at (reliable base) world).set step ++ encodings (reliable base) role world)
 step-encoded base role world (Acts act) h e =
     acts-encoded (reliable base) (state_of (reliable base) role world) (shared_at (reliable base) world).set (state_of (reliable base) role world).outgoing.transfer act (encodings (reliable base) role world)
     (λ context k.
@@ -305,7 +305,7 @@ step-encoded base role world (Acts act) h e =
 step-encoded base role world (Takes m choice) h e = takes-encoded (reliable base) role (state_of (reliable base) role world) (state_of (reliable base) role world).outgoing.transfer m choice (encodings (reliable base) role world) e
 step-encoded base role world (Passes m) h e = e
 
-pub encoded-kept : (base : Setup) (world : World) → IsRun (reliable base) world → (role : Role) → Encoded (state_of (reliable base) role world).outgoing.transfer (state_of (reliable base) role world).outgoing.started (encodings (reliable base) role world)
+pub encoded-kept : (base : ModelSetup) (world : World) → IsRun (reliable base) world → (role : Role) → Encoded (state_of (reliable base) role world).outgoing.transfer (state_of (reliable base) role world).outgoing.started (encodings (reliable base) role world)
 encoded-kept base [] h role = tt
 encoded-kept base (Break ∷ world) h role = broken-encoded (reliable base) (state_of (reliable base) role world) (state_of (reliable base) role world).outgoing.transfer (encodings (reliable base) role world) (encoded-kept base world h.1 role)
 encoded-kept base (By Initiator step ∷ world) h Initiator = step-encoded base Initiator world step h (encoded-kept base world h.1 Initiator)
@@ -314,7 +314,7 @@ encoded-kept base (By Initiator step ∷ world) h Responder = encoded-kept base 
 encoded-kept base (By Responder step ∷ world) h Initiator = encoded-kept base world h.1 Initiator
 
 -- the source of a transfer that ends, in a world
-pub source-at : (base : Setup) (world : World) (role : Role) (number : ℕ) (choice : Choice) → IsRun (reliable base) (By role (Takes (End number) choice) ∷ world) → Source base (state_of (reliable base) role world) (state_of (reliable base) (other role) world)
+pub source-at : (base : ModelSetup) (world : World) (role : Role) (number : ℕ) (choice : Choice) → IsRun (reliable base) (By role (Takes (End number) choice) ∷ world) → Source base (state_of (reliable base) role world) (state_of (reliable base) (other role) world)
 source-at base world role number choice h =
     go (flight_to (reliable base) role world) h.0
     (at-role (reliable base) (ReliableRelation base) (reliable-keeps base) role world (reached (reliable base) (ReliableRelation base) (reliable-keeps base) world h.1))
@@ -326,14 +326,14 @@ source-at base world role number choice h =
         ((reliable-takes base role (state_of (reliable base) role world) (state_of (reliable base) (other role) world) s flight (flight_to (reliable base) (other role) world) (shared_at (reliable base) world) (End number) choice r k.comes k.is_alive k.is_kept k.is_choice).may tt)
 
 -- what is handed up is what was spelled
-pub handed-spelled : (base : Setup) (x : State) (w value : Value) → SpellsIn (Some w) (reliable base) x.sets.held x.incoming → handed_up (reliable base) x.sets.held x.incoming ≡ Some value → w ≡ value
+pub handed-spelled : (base : ModelSetup) (x : State) (w value : Value) → SpellsIn (Some w) (reliable base) x.sets.held x.incoming → handed_up (reliable base) x.sets.held x.incoming ≡ Some value → w ≡ value
 handed-spelled base x w value s e = go x.incoming.was_handed e
   where
     go : (b : Bool) → (if b then None else value_read (reliable base) x.sets.held x.incoming) ≡ Some value → w ≡ value
     go true e = absurd (cc)
     go false e = let r = spells-value base w x.sets.held x.incoming s in cc
 
-whole-of : (base : Setup) (x y : State) (es : List Encoding) (value : Value) (t : Option Transfer) → SpellsIn (value_in t) (reliable base) x.sets.held x.incoming → Encoded t y.outgoing.started es → x.incoming.last ≡ y.outgoing.started → handed_up (reliable base) x.sets.held x.incoming ≡ Some value → IsNewest (record { activity = x.incoming.last; apdu = value.apdu; identifier = value.identifier; pair = Some value.pair }) es
+whole-of : (base : ModelSetup) (x y : State) (es : List Encoding) (value : Value) (t : Option Transfer) → SpellsIn (value_in t) (reliable base) x.sets.held x.incoming → Encoded t y.outgoing.started es → x.incoming.last ≡ y.outgoing.started → handed_up (reliable base) x.sets.held x.incoming ≡ Some value → IsNewest (record { activity = x.incoming.last; apdu = value.apdu; identifier = value.identifier; pair = Some value.pair }) es
 whole-of base x y es value None s e l h = absurd s
 whole-of base x y es value (Some t) s e l h = go t.value s e
   where
@@ -342,7 +342,7 @@ whole-of base x y es value (Some t) s e l h = go t.value s e
     go (Some w) s e =
         subst₂ (λ c (v : Value). IsNewest (record { activity = c; apdu = v.apdu; identifier = v.identifier; pair = Some v.pair }) es) (sym l) (handed-spelled base x w value s h) e.0
 
-pub reliable-whole : (base : Setup) → ArriveWhole (reliable base)
+pub reliable-whole : (base : ModelSetup) → ArriveWhole (reliable base)
 reliable-whole base world role number choice value h e =
     let s = source-at base world role number choice h in
     whole-of base (state_of (reliable base) role world) (state_of (reliable base) (other role) world) (encodings (reliable base) (other role) world) value (state_of (reliable base) (other role) world).outgoing.transfer

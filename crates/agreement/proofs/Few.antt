@@ -4,7 +4,7 @@ use Rattle.std.specs.Prelude.{Option, Some, None}
 use Rattle.osi_base.specs.Limits.{most_alterations}
 use Rattle.agreement.specs.Sets.{Role, Item, AreDistinct, named}
 use Rattle.agreement.specs.Sets.Role.{Initiator, Responder}
-use Rattle.agreement.specs.Messages.{Value, Mode, Setup, Message, Act, Choice}
+use Rattle.agreement.specs.Messages.{Value, Mode, ModelSetup, Message, Act, Choice}
 use Rattle.agreement.specs.Messages.Mode.{Bare, Direct, Reliable}
 use Rattle.agreement.specs.Messages.Act.{Connects, Recovers, SaysValue, Queues, Drops, Alters, Marks, GivesTurn, Pleads, Restarts, Starts, Encodes, Sends, EndsActivity, Interrupts, Discards, Resumes, Releases, Aborts, Withdraws, TransportFails}
 use Rattle.agreement.specs.Messages.Choice.{Nothing, Accepting, Refusing, Results}
@@ -44,7 +44,7 @@ few-later (items ∷ own) f = (fewer, later-distinct (items ∷ own) f.1)
     fewer : length own ≤ most_alterations
     fewer = let h : suc (length own) ≤ most_alterations = f.0 in omega arith
 
-acts-few : (setup : Setup) (role : Role) (x : State) (act : Act) → MayAct setup role x act → FewOf x → FewOf (acted setup x act)
+acts-few : (setup : ModelSetup) (role : Role) (x : State) (act : Act) → MayAct setup role x act → FewOf x → FewOf (acted setup x act)
 acts-few setup role x (Alters items) h f = few-more x.sets.own items h.has_place h.once
 acts-few setup role x Marks h f = go setup.mode
   where
@@ -77,29 +77,29 @@ acts-few setup role x Aborts h f = f
 acts-few setup role x Withdraws h f = f
 acts-few setup role x TransportFails h f = f
 
-hears-few : (setup : Setup) (v : Option Value) (x : State) → FewOf x → FewOf (hears setup v x)
+hears-few : (setup : ModelSetup) (v : Option Value) (x : State) → FewOf x → FewOf (hears setup v x)
 hears-few setup None x f = f
 hears-few setup (Some v) x f = f
 
-opens-few : (setup : Setup) (role : Role) (x : State) (choice : Choice) → FewOf x → FewOf (taken setup role x Connect choice)
+opens-few : (setup : ModelSetup) (role : Role) (x : State) (choice : Choice) → FewOf x → FewOf (taken setup role x Connect choice)
 opens-few setup role x (Accepting set) f = none-few
 opens-few setup role x Refusing f = f
 opens-few setup role x Nothing f = f
 opens-few setup role x (Results results) f = f
 
-recovers-few : (setup : Setup) (role : Role) (x : State) (choice : Choice) → FewOf x → FewOf (taken setup role x Recover choice)
+recovers-few : (setup : ModelSetup) (role : Role) (x : State) (choice : Choice) → FewOf x → FewOf (taken setup role x Recover choice)
 recovers-few setup role x (Accepting set) f = none-few
 recovers-few setup role x Refusing f = f
 recovers-few setup role x Nothing f = f
 recovers-few setup role x (Results results) f = f
 
-alters-few : (setup : Setup) (role : Role) (x : State) (items : List Item) (choice : Choice) → FewOf x → FewOf (taken setup role x (Alter items) choice)
+alters-few : (setup : ModelSetup) (role : Role) (x : State) (items : List Item) (choice : Choice) → FewOf x → FewOf (taken setup role x (Alter items) choice)
 alters-few setup role x items (Results results) f = f
 alters-few setup role x items (Accepting set) f = f
 alters-few setup role x items Refusing f = f
 alters-few setup role x items Nothing f = f
 
-takes-few : (setup : Setup) (role : Role) (x : State) (m : Message) (choice : Choice) → FewOf x → FewOf (taken setup role x m choice)
+takes-few : (setup : ModelSetup) (role : Role) (x : State) (m : Message) (choice : Choice) → FewOf x → FewOf (taken setup role x m choice)
 takes-few setup role x Connect choice f = opens-few setup role x choice f
 takes-few setup role x Recover choice f = recovers-few setup role x choice f
 takes-few setup role x (Accept set) choice f = none-few
@@ -133,12 +133,12 @@ takes-few setup role x Release choice f = f
 takes-few setup role x ReleaseAnswer choice f = f
 takes-few setup role x UserAbort choice f = f
 
-step-few : (setup : Setup) (role : Role) (x : State) (flight : List Sending) (step : Step) → IsStep setup role x flight step → FewOf x → FewOf (after setup role x step)
+step-few : (setup : ModelSetup) (role : Role) (x : State) (flight : List Sending) (step : Step) → IsStep setup role x flight step → FewOf x → FewOf (after setup role x step)
 step-few setup role x flight (Acts act) h f = acts-few setup role x act h f
 step-few setup role x flight (Takes m choice) h f = takes-few setup role x m choice f
 step-few setup role x flight (Passes m) h f = f
 
-pub alterations-few : (setup : Setup) → AlterationsAreFew setup
+pub alterations-few : (setup : ModelSetup) → AlterationsAreFew setup
 alterations-few setup [] h role = none-few
 alterations-few setup (Break ∷ world) h role = alterations-few setup world h.1 role
 alterations-few setup (By Initiator step ∷ world) h Initiator = step-few setup Initiator (state_of setup Initiator world) _ step h.0 (alterations-few setup world h.1 Initiator)

@@ -2,7 +2,7 @@
 use Rattle.std.proofs.Common.{◌≡◌, ℕ, suc, ◌≤◌, Bool, true, false, List, [], ◌∷◌, ◌++◌, refl, ap, true≢false, ◌⊎◌}
 use Rattle.std.specs.Prelude.{Option, Some, None}
 use Rattle.agreement.specs.Sets.{Role, ContextSet, Item, Fits, lookup, Saved}
-use Rattle.agreement.specs.Messages.{Value, Setup, Message}
+use Rattle.agreement.specs.Messages.{Value, ModelSetup, Message}
 use Rattle.agreement.specs.Messages.Message.{Alter, AlterAnswer, MarkAnswer, Start, Resume, EndAnswer, Interrupt, InterruptAnswer, Discard, DiscardAnswer, Please, UserAbort}
 use Rattle.agreement.specs.State.{Awaited, Piece, Progress, Transfer, Incoming, Sets, highest, joined}
 use Rattle.agreement.specs.State.Awaited.{NoAnswer, RestartOf, InterruptOf, DiscardOf, ReleaseOf}
@@ -94,7 +94,7 @@ abbrev pub RestOf : Leader → List Message → Follower → Type 0
 RestOf l up y = RestBy l.awaits l.transfer l up y × (y.inter ≡ l.sets.inter) × (y.gave ≡ false)
 
 -- the octets that came are those of the value as it was encoded, whose context has its pair
-abbrev pub SpellsIn : Option Value → Setup → ContextSet → Incoming → Type 0
+abbrev pub SpellsIn : Option Value → ModelSetup → ContextSet → Incoming → Type 0
 SpellsIn None setup held incoming = ⊥
 SpellsIn (Some value) setup held incoming = (lookup held value.identifier ≡ Some value.pair) × (joined incoming.pieces ≡ setup.codec.written value) × (setup.codec.may_write value ≡ true)
 
@@ -165,12 +165,12 @@ SharedBy NoAnswer sets up set = set ≡ held_after sets.own sets.held sets.inter
 SharedBy awaited sets up set = has_final up ≡ true → set ≡ sets.inter
 
 -- a value may be written, and carries through the marks; what isn't encoded has no piece
-abbrev pub CarriesIn : Setup → Option Value → List Piece → Type 0
+abbrev pub CarriesIn : ModelSetup → Option Value → List Piece → Type 0
 CarriesIn setup None pieces = pieces ≡ []
 CarriesIn setup (Some value) pieces = (setup.codec.may_write value ≡ true) × Carries value pieces
 
 -- a transfer against what the shared set saved of it
-abbrev pub SavedIn : Setup → Option Transfer → List Saved → Type 0
+abbrev pub SavedIn : ModelSetup → Option Transfer → List Saved → Type 0
 SavedIn setup None marks = Unit {0}
 SavedIn setup (Some t) marks = Numbered t.pieces × (marks ≡ saved_in t.pieces) × (t.confirmed ≤ highest t.pieces) × CarriesIn setup t.value t.pieces
 
@@ -186,7 +186,7 @@ abbrev pub RunsValue : Awaited → Option Transfer → Sets → Type 0
 RunsValue NoAnswer (Some t) sets = ValueIn t.progress t.value sets
 RunsValue awaited transfer sets = Unit {0}
 
-pub record Flow (setup : Setup) (from : Role) (l : Leader) (lin : Incoming) (y : Follower) (yc : ℕ) (yt : Option Transfer) (down up : List Message) (set inter : ContextSet) (mine theirs : List Saved) : Type 0 where
+pub record Flow (setup : ModelSetup) (from : Role) (l : Leader) (lin : Incoming) (y : Follower) (yc : ℕ) (yt : Option Transfer) (down up : List Message) (set inter : ContextSet) (mine theirs : List Saved) : Type 0 where
   pub runs : Down setup from (Rest l) down y up
   pub asks : l.awaits ≡ NoAnswer → alters_in down ≡ unanswered_in up l.sets.own
   pub begins : Begins l.started (confirmed_of l.transfer) down
@@ -239,7 +239,7 @@ rest-no_final InterruptOf t l up y o r = absurd o
 rest-no_final DiscardOf t l up y o r = absurd o
 rest-no_final ReleaseOf t l up y o r = absurd o
 
-pub open-no_final : (setup : Setup) (from : Role) (l : Leader) (down : List Message) (y : Follower) (up : List Message) → IsOpen l.awaits l.transfer → Down setup from (Rest l) down y up → has_final up ≡ false
+pub open-no_final : (setup : ModelSetup) (from : Role) (l : Leader) (down : List Message) (y : Follower) (up : List Message) → IsOpen l.awaits l.transfer → Down setup from (Rest l) down y up → has_final up ≡ false
 open-no_final setup from l down y up o d =
     let a = at-rest setup from (Rest l) down y up d in
     final-append up a.more (rest-no_final l.awaits l.transfer l (up ++ a.more) a.last o a.rests.0)

@@ -2,7 +2,7 @@
 use Rattle.std.proofs.Common.{◌≡◌, ℕ, suc, ◌≤◌, Bool, true, false, List, [], ◌∷◌, ◌++◌, refl, sym, ap, ◌∙◌, arith, true≢false, subst, inl, inr, ◌⊎◌}
 use Rattle.std.specs.Prelude.{Option, Some, None}
 use Rattle.agreement.specs.Sets.{Role, ContextSet, Item, Result, Fits, altered, Saved}
-use Rattle.agreement.specs.Messages.{Setup, Message}
+use Rattle.agreement.specs.Messages.{ModelSetup, Message}
 use Rattle.agreement.specs.Messages.Message.{Alter, AlterAnswer, Mark, MarkAnswer, Start, Resume, Chunk, End, EndAnswer, Interrupt, InterruptAnswer, Discard, DiscardAnswer, GiveAnswer, Please, UserAbort}
 use Rattle.agreement.specs.State.{Awaited, Progress, Transfer, Incoming, Sets, up_to, highest}
 use Rattle.agreement.specs.State.Awaited.{NoAnswer, RestartOf, InterruptOf, DiscardOf, ReleaseOf}
@@ -17,12 +17,12 @@ use Rattle.agreement.proofs.Flow.Doing.{Resting, Going, Closing}
 use Rattle.agreement.proofs.Leads.{resumed-same, resumed-next}
 use Rattle.agreement.proofs.Follows.{final-more, after-more, shared-more, after-answer, after-mark, after-end, unanswered-mark, unanswered-end, IsPart, active-part, more-octets, more-mark, acks-more_octets, acks-more_mark, acks-flags, paired-map}
 
-numbered-of : (setup : Setup) (t : Option Transfer) (marks : List Saved) → SavedIn setup t marks → Numbered (pieces_of_transfer t)
+numbered-of : (setup : ModelSetup) (t : Option Transfer) (marks : List Saved) → SavedIn setup t marks → Numbered (pieces_of_transfer t)
 numbered-of setup None marks s = tt
 numbered-of setup (Some t) marks s = s.0
 
 -- an alteration
-pub follows_alter : (setup : Setup) (from : Role) (l : Leader) (lin : Incoming) (y : Follower) (yc : ℕ) (yt : Option Transfer) (items : List Item) (results : List Result) (down up : List Message) (set mid : ContextSet) (mine theirs : List Saved) → Fits items results → Flow setup from l lin y yc yt (Alter items ∷ down) up set mid mine theirs → Flow setup from l lin (record y { held = altered items results y.held }) yc yt down (up ++ (AlterAnswer results ∷ [])) (altered items results set) mid mine theirs
+pub follows_alter : (setup : ModelSetup) (from : Role) (l : Leader) (lin : Incoming) (y : Follower) (yc : ℕ) (yt : Option Transfer) (items : List Item) (results : List Result) (down up : List Message) (set mid : ContextSet) (mine theirs : List Saved) → Fits items results → Flow setup from l lin y yc yt (Alter items ∷ down) up set mid mine theirs → Flow setup from l lin (record y { held = altered items results y.held }) yc yt down (up ++ (AlterAnswer results ∷ [])) (altered items results set) mid mine theirs
 follows_alter setup from l lin y yc yt items results down up set mid mine theirs f n =
     record {
       runs = n.runs.2 results f;
@@ -46,7 +46,7 @@ follows_alter setup from l lin y yc yt items results down up set mid mine theirs
     }
 
 -- a mark
-pub follows_mark : (setup : Setup) (from : Role) (l : Leader) (lin : Incoming) (y : Follower) (yc : ℕ) (yt : Option Transfer) (number : ℕ) (down up : List Message) (set mid : ContextSet) (mine theirs : List Saved) → Flow setup from l lin y yc yt (Mark number ∷ down) up set mid mine theirs → Flow setup from l lin (record y { incoming = record y.incoming { pieces = Marked number y.held ∷ y.incoming.pieces } }) yc yt down (up ++ (MarkAnswer number ∷ [])) set mid mine theirs
+pub follows_mark : (setup : ModelSetup) (from : Role) (l : Leader) (lin : Incoming) (y : Follower) (yc : ℕ) (yt : Option Transfer) (number : ℕ) (down up : List Message) (set mid : ContextSet) (mine theirs : List Saved) → Flow setup from l lin y yc yt (Mark number ∷ down) up set mid mine theirs → Flow setup from l lin (record y { incoming = record y.incoming { pieces = Marked number y.held ∷ y.incoming.pieces } }) yc yt down (up ++ (MarkAnswer number ∷ [])) set mid mine theirs
 follows_mark setup from l lin y yc yt number down up set mid mine theirs n =
     let z : Follower = record y { incoming = record y.incoming { pieces = Marked number y.held ∷ y.incoming.pieces } } in
     record {
@@ -79,7 +79,7 @@ follows_mark setup from l lin y yc yt number down up set mid mine theirs n =
     new z i b = (i.last, agrees-part number i.rest z.incoming.pieces (pieces_of_transfer l.transfer) i.same (numbered-of setup l.transfer mine n.saved) b, tt)
 
 -- the start of an activity
-pub follows_start : (setup : Setup) (from : Role) (l : Leader) (lin : Incoming) (y : Follower) (yc : ℕ) (yt : Option Transfer) (k : ℕ) (down up : List Message) (set mid : ContextSet) (mine theirs : List Saved) → Flow setup from l lin y yc yt (Start k ∷ down) up set mid mine theirs → Flow setup from l lin (record y { incoming = record { last = k; pieces = []; was_handed = false; active = true }; inter = y.held }) yc yt down up set mid mine theirs
+pub follows_start : (setup : ModelSetup) (from : Role) (l : Leader) (lin : Incoming) (y : Follower) (yc : ℕ) (yt : Option Transfer) (k : ℕ) (down up : List Message) (set mid : ContextSet) (mine theirs : List Saved) → Flow setup from l lin y yc yt (Start k ∷ down) up set mid mine theirs → Flow setup from l lin (record y { incoming = record { last = k; pieces = []; was_handed = false; active = true }; inter = y.held }) yc yt down up set mid mine theirs
 follows_start setup from l lin y yc yt k down up set mid mine theirs n =
     record {
       runs = n.runs.3;
@@ -108,7 +108,7 @@ follows_start setup from l lin y yc yt k down up set mid mine theirs n =
     pair (Some t) (inr h) = inl (n.begins.0, subst (λ i. Agrees i t.pieces []) (sym h.1) (agrees-zero t.pieces []))
 
 -- its resumption
-pub follows_resume : (setup : Setup) (from : Role) (l : Leader) (lin : Incoming) (y : Follower) (yc : ℕ) (yt : Option Transfer) (k j : ℕ) (down up : List Message) (set mid : ContextSet) (mine theirs : List Saved) → Flow setup from l lin y yc yt (Resume k j ∷ down) up set mid mine theirs → Flow setup from l lin (record y { incoming = resumed_in k j y.incoming; inter = y.held; held = resumed_set j y.incoming.pieces y.held }) yc yt down up set mid mine theirs
+pub follows_resume : (setup : ModelSetup) (from : Role) (l : Leader) (lin : Incoming) (y : Follower) (yc : ℕ) (yt : Option Transfer) (k j : ℕ) (down up : List Message) (set mid : ContextSet) (mine theirs : List Saved) → Flow setup from l lin y yc yt (Resume k j ∷ down) up set mid mine theirs → Flow setup from l lin (record y { incoming = resumed_in k j y.incoming; inter = y.held; held = resumed_set j y.incoming.pieces y.held }) yc yt down up set mid mine theirs
 follows_resume setup from l lin y yc yt k j down up set mid mine theirs n =
     record {
       runs = n.runs.3;
@@ -166,7 +166,7 @@ follows_resume setup from l lin y yc yt k j down up set mid mine theirs n =
         subst (λ x. PairedIn (Some t) c x) (sym is) (inl (refl, subst (λ x. Agrees x t.pieces []) (sym h.1) (agrees-zero t.pieces [])))
 
 -- a part of it
-pub follows_chunk : (setup : Setup) (from : Role) (l : Leader) (lin : Incoming) (y : Follower) (yc : ℕ) (yt : Option Transfer) (o : List ℕ) (down up : List Message) (set mid : ContextSet) (mine theirs : List Saved) → Flow setup from l lin y yc yt (Chunk o ∷ down) up set mid mine theirs → Flow setup from l lin (record y { incoming = record y.incoming { pieces = Octets o ∷ y.incoming.pieces } }) yc yt down up set mid mine theirs
+pub follows_chunk : (setup : ModelSetup) (from : Role) (l : Leader) (lin : Incoming) (y : Follower) (yc : ℕ) (yt : Option Transfer) (o : List ℕ) (down up : List Message) (set mid : ContextSet) (mine theirs : List Saved) → Flow setup from l lin y yc yt (Chunk o ∷ down) up set mid mine theirs → Flow setup from l lin (record y { incoming = record y.incoming { pieces = Octets o ∷ y.incoming.pieces } }) yc yt down up set mid mine theirs
 follows_chunk setup from l lin y yc yt o down up set mid mine theirs n =
     record {
       runs = n.runs.1;
@@ -194,7 +194,7 @@ final-shared InterruptOf sets up number mid e = λ f. e
 final-shared DiscardOf sets up number mid e = λ f. e
 final-shared ReleaseOf sets up number mid e = λ f. e
 
-pub follows_end : (setup : Setup) (from : Role) (l : Leader) (lin : Incoming) (y : Follower) (yc : ℕ) (yt : Option Transfer) (number : ℕ) (down up : List Message) (set mid : ContextSet) (mine theirs : List Saved) → Flow setup from l lin y yc yt (End number ∷ down) up set mid mine theirs → Flow setup from l lin (record y { incoming = record y.incoming { was_handed = true; active = false }; held = y.inter }) yc yt down (up ++ (EndAnswer number ∷ [])) mid mid mine theirs
+pub follows_end : (setup : ModelSetup) (from : Role) (l : Leader) (lin : Incoming) (y : Follower) (yc : ℕ) (yt : Option Transfer) (number : ℕ) (down up : List Message) (set mid : ContextSet) (mine theirs : List Saved) → Flow setup from l lin y yc yt (End number ∷ down) up set mid mine theirs → Flow setup from l lin (record y { incoming = record y.incoming { was_handed = true; active = false }; held = y.inter }) yc yt down (up ++ (EndAnswer number ∷ [])) mid mid mine theirs
 follows_end setup from l lin y yc yt number down up set mid mine theirs n =
     let z : Incoming = record y.incoming { was_handed = true; active = false } in
     record {
@@ -216,7 +216,7 @@ follows_end setup from l lin y yc yt number down up set mid mine theirs n =
     }
 
 -- an interrupt, a discard
-pub follows_interrupt : (setup : Setup) (from : Role) (l : Leader) (lin : Incoming) (y : Follower) (yc : ℕ) (yt : Option Transfer) (down up : List Message) (set mid : ContextSet) (mine theirs : List Saved) → Flow setup from l lin y yc yt (Interrupt ∷ down) up set mid mine theirs → Flow setup from l lin (record y { incoming = record y.incoming { active = false }; held = y.inter }) yc yt down (up ++ (InterruptAnswer ∷ [])) mid mid mine theirs
+pub follows_interrupt : (setup : ModelSetup) (from : Role) (l : Leader) (lin : Incoming) (y : Follower) (yc : ℕ) (yt : Option Transfer) (down up : List Message) (set mid : ContextSet) (mine theirs : List Saved) → Flow setup from l lin y yc yt (Interrupt ∷ down) up set mid mine theirs → Flow setup from l lin (record y { incoming = record y.incoming { active = false }; held = y.inter }) yc yt down (up ++ (InterruptAnswer ∷ [])) mid mid mine theirs
 follows_interrupt setup from l lin y yc yt down up set mid mine theirs n =
     record {
       runs = n.runs.2;
@@ -236,7 +236,7 @@ follows_interrupt setup from l lin y yc yt down up set mid mine theirs n =
       sets = subst (λ w. SharedBy w l.sets (up ++ (InterruptAnswer ∷ [])) mid) (sym n.waits.0) (λ e. n.inters);
     }
 
-pub follows_discard : (setup : Setup) (from : Role) (l : Leader) (lin : Incoming) (y : Follower) (yc : ℕ) (yt : Option Transfer) (down up : List Message) (set mid : ContextSet) (mine theirs : List Saved) → Flow setup from l lin y yc yt (Discard ∷ down) up set mid mine theirs → Flow setup from l lin (record y { incoming = record y.incoming { pieces = []; active = false }; held = y.inter }) yc yt down (up ++ (DiscardAnswer ∷ [])) mid mid mine theirs
+pub follows_discard : (setup : ModelSetup) (from : Role) (l : Leader) (lin : Incoming) (y : Follower) (yc : ℕ) (yt : Option Transfer) (down up : List Message) (set mid : ContextSet) (mine theirs : List Saved) → Flow setup from l lin y yc yt (Discard ∷ down) up set mid mine theirs → Flow setup from l lin (record y { incoming = record y.incoming { pieces = []; active = false }; held = y.inter }) yc yt down (up ++ (DiscardAnswer ∷ [])) mid mid mine theirs
 follows_discard setup from l lin y yc yt down up set mid mine theirs n =
     record {
       runs = n.runs.2;
@@ -262,7 +262,7 @@ follows_discard setup from l lin y yc yt down up set mid mine theirs n =
     pair (Some t) e (inr h) = inr h
 
 -- a confirmed giving, a plea
-pub follows_give_answer : (setup : Setup) (from : Role) (l : Leader) (lin : Incoming) (y : Follower) (yc : ℕ) (yt : Option Transfer) (down up : List Message) (set mid : ContextSet) (mine theirs : List Saved) → Flow setup from l lin y yc yt (GiveAnswer ∷ down) up set mid mine theirs → Flow setup from l lin (record y { gave = false }) yc yt down up set mid mine theirs
+pub follows_give_answer : (setup : ModelSetup) (from : Role) (l : Leader) (lin : Incoming) (y : Follower) (yc : ℕ) (yt : Option Transfer) (down up : List Message) (set mid : ContextSet) (mine theirs : List Saved) → Flow setup from l lin y yc yt (GiveAnswer ∷ down) up set mid mine theirs → Flow setup from l lin (record y { gave = false }) yc yt down up set mid mine theirs
 follows_give_answer setup from l lin y yc yt down up set mid mine theirs n =
     record {
       runs = n.runs.1;
@@ -282,7 +282,7 @@ follows_give_answer setup from l lin y yc yt down up set mid mine theirs n =
       sets = n.sets;
     }
 
-pub follows_please : (setup : Setup) (from : Role) (l : Leader) (lin : Incoming) (y : Follower) (yc : ℕ) (yt : Option Transfer) (p : ℕ) (down up : List Message) (set mid : ContextSet) (mine theirs : List Saved) → Flow setup from l lin y yc yt (Please p ∷ down) up set mid mine theirs → Flow setup from l lin y yc yt down up set mid mine theirs
+pub follows_please : (setup : ModelSetup) (from : Role) (l : Leader) (lin : Incoming) (y : Follower) (yc : ℕ) (yt : Option Transfer) (p : ℕ) (down up : List Message) (set mid : ContextSet) (mine theirs : List Saved) → Flow setup from l lin y yc yt (Please p ∷ down) up set mid mine theirs → Flow setup from l lin y yc yt down up set mid mine theirs
 follows_please setup from l lin y yc yt p down up set mid mine theirs n =
     record {
       runs = n.runs;
@@ -385,7 +385,7 @@ shared-quiet ReleaseOf sets u up set q s = λ e. s (was (final-more up (u ∷ []
     was (inl k) = k
     was (inr k) = absurd (true≢false (sym k ∙ quiet-final u q))
 
-pub follower_sends : (setup : Setup) (from : Role) (l : Leader) (lin : Incoming) (y : Follower) (yc : ℕ) (yt : Option Transfer) (u : Message) (down up : List Message) (set mid : ContextSet) (mine theirs : List Saved) → IsQuiet u → Flow setup from l lin y yc yt down up set mid mine theirs → Flow setup from l lin y yc yt down (up ++ (u ∷ [])) set mid mine theirs
+pub follower_sends : (setup : ModelSetup) (from : Role) (l : Leader) (lin : Incoming) (y : Follower) (yc : ℕ) (yt : Option Transfer) (u : Message) (down up : List Message) (set mid : ContextSet) (mine theirs : List Saved) → IsQuiet u → Flow setup from l lin y yc yt down up set mid mine theirs → Flow setup from l lin y yc yt down (up ++ (u ∷ [])) set mid mine theirs
 follower_sends setup from l lin y yc yt u down up set mid mine theirs q n =
     record {
       runs = down-up setup from (Rest l) u down y up [] q (λ us vs z r. rest-insert l u us vs z q r) (subst (λ us. Down setup from (Rest l) down y us) (sym (nil up)) n.runs);

@@ -2,7 +2,7 @@
 use Rattle.std.proofs.Common.{◌≡◌, ℕ, suc, ◌≤◌, true, false, List, [], ◌∷◌, ◌++◌, refl, sym, ap, ◌∙◌, arith, true≢false, subst, inl, inr, ◌⊎◌, append_assoc}
 use Rattle.std.specs.Prelude.{Option, Some, None}
 use Rattle.agreement.specs.Sets.{Role, ContextSet, Item, Result, altered}
-use Rattle.agreement.specs.Messages.{Setup, Message}
+use Rattle.agreement.specs.Messages.{ModelSetup, Message}
 use Rattle.agreement.specs.Messages.Message.{Alter, AlterAnswer, Mark, MarkAnswer, Start, Resume, Chunk, End, EndAnswer, Interrupt, InterruptAnswer, Discard, DiscardAnswer, GiveAnswer, Please, Release, UserAbort}
 use Rattle.agreement.specs.State.{Awaited, Piece, Progress, Transfer, Incoming, Sets, highest}
 use Rattle.agreement.specs.State.Awaited.{NoAnswer, RestartOf, InterruptOf, DiscardOf, ReleaseOf}
@@ -129,7 +129,7 @@ end-part l up n y e a r = by_await l.awaits e l.transfer refl r
 part-before : (l : Leader) (y : Follower) (p : Piece) (q : List Piece) → y.incoming.pieces ≡ p ∷ q → IsPart l y → (r : List Piece) × (pieces_of_transfer l.transfer ≡ r ++ q)
 part-before l y p q e i = (i.rest ++ (p ∷ []), i.same ∙ ap (λ x. i.rest ++ x) e ∙ sym (append_assoc i.rest (p ∷ []) q))
 
-pub active-part : (setup : Setup) (from : Role) (l : Leader) (k : ℕ) (down : List Message) (y : Follower) (up : List Message) → l.awaits ≡ NoAnswer → Waits l.awaits k down → y.incoming.active ≡ true → Down setup from (Rest l) down y up → IsPart l y
+pub active-part : (setup : ModelSetup) (from : Role) (l : Leader) (k : ℕ) (down : List Message) (y : Follower) (up : List Message) → l.awaits ≡ NoAnswer → Waits l.awaits k down → y.incoming.active ≡ true → Down setup from (Rest l) down y up → IsPart l y
 active-part setup from l k [] y up e w a h = rest-part l up y e a h.0
 active-part setup from l k (Alter items ∷ d) y up e w a h =
     let i = active-part setup from l k d (record y { held = altered items (rejections items) y.held }) (up ++ (AlterAnswer (rejections items) ∷ [])) e w a (h.2 (rejections items) (rejections-fit items)) in

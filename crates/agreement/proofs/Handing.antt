@@ -3,7 +3,7 @@ use Rattle.std.proofs.Common.{◌≡◌, ℕ, Bool, true, false, if◌then◌els
 use Rattle.std.specs.Prelude.{Option, Some, None}
 use Rattle.agreement.specs.Sets.{Role, other, Item, ContextSet}
 use Rattle.agreement.specs.Sets.Role.{Initiator, Responder}
-use Rattle.agreement.specs.Messages.{Apdu, Value, Mode, Setup, Message, Act, Choice, Calls}
+use Rattle.agreement.specs.Messages.{Apdu, Value, Mode, ModelSetup, Message, Act, Choice, Calls}
 use Rattle.agreement.specs.Messages.Mode.{Bare, Direct, Reliable}
 use Rattle.agreement.specs.Messages.Apdu.{Invoke, Outcome, Reject}
 use Rattle.agreement.specs.Messages.Act.{Connects, Recovers, SaysValue, Queues, Drops, Alters, Marks, GivesTurn, Pleads, Restarts, Starts, Encodes, Sends, EndsActivity, Interrupts, Discards, Resumes, Releases, Aborts, Withdraws, TransportFails}
@@ -70,7 +70,7 @@ all-append_items : (hs : List Apdu) (xs ys : List Handed) → AllItems hs xs →
 all-append_items hs [] ys h k = k
 all-append_items hs (x ∷ xs) ys h k = (h.0, all-append_items hs xs ys h.1 k)
 
-rejects-items : (hs : List Apdu) (setup : Setup) (calls : Calls) (context : ℕ) (a : Apdu) → AllItems hs (rejects_of setup calls context a)
+rejects-items : (hs : List Apdu) (setup : ModelSetup) (calls : Calls) (context : ℕ) (a : Apdu) → AllItems hs (rejects_of setup calls context a)
 rejects-items hs setup calls context a = go (is_accepted setup calls a)
   where
     made : (a : Apdu) → AllItems hs (reject_of setup calls context a)
@@ -98,7 +98,7 @@ due-items hs (Invoke number operation link argument) due h = h
 due-items hs (Outcome number content) due h = h
 due-items hs (Reject number problem) due h = after-items hs due h
 
-acts-items : (setup : Setup) (x : State) (t : Option Transfer) (act : Act) (hs : List Apdu) → Items hs (record x.outgoing { transfer = t }) → Items (handed_by (Acts act) ++ hs) (acted setup (with_transfer x t) act).outgoing
+acts-items : (setup : ModelSetup) (x : State) (t : Option Transfer) (act : Act) (hs : List Apdu) → Items hs (record x.outgoing { transfer = t }) → Items (handed_by (Acts act) ++ hs) (acted setup (with_transfer x t) act).outgoing
 acts-items setup x t Connects hs i = i
 acts-items setup x t Recovers hs i = i
 acts-items setup x t (SaysValue value) hs i =
@@ -141,30 +141,30 @@ acts-items setup x t Aborts hs i = i
 acts-items setup x t Withdraws hs i = i
 acts-items setup x t TransportFails hs i = i
 
-hears-items : (setup : Setup) (v : Option Value) (x : State) (hs : List Apdu) → Items hs x.outgoing → Items hs (hears setup v x).outgoing
+hears-items : (setup : ModelSetup) (v : Option Value) (x : State) (hs : List Apdu) → Items hs x.outgoing → Items hs (hears setup v x).outgoing
 hears-items setup None x hs i = i
 hears-items setup (Some v) x hs i =
     record { queued = all-append_items hs x.outgoing.queue (rejects_of setup x.calls v.identifier v.apdu) i.queued (rejects-items hs setup x.calls v.identifier v.apdu); current = i.current }
 
-opens-items : (setup : Setup) (role : Role) (x : State) (choice : Choice) (hs : List Apdu) → Items hs x.outgoing → Items hs (taken setup role x Connect choice).outgoing
+opens-items : (setup : ModelSetup) (role : Role) (x : State) (choice : Choice) (hs : List Apdu) → Items hs x.outgoing → Items hs (taken setup role x Connect choice).outgoing
 opens-items setup role x (Accepting set) hs i = record { queued = tt; current = tt }
 opens-items setup role x Refusing hs i = i
 opens-items setup role x Nothing hs i = i
 opens-items setup role x (Results results) hs i = i
 
-recovers-items : (setup : Setup) (role : Role) (x : State) (choice : Choice) (hs : List Apdu) → Items hs x.outgoing → Items hs (taken setup role x Recover choice).outgoing
+recovers-items : (setup : ModelSetup) (role : Role) (x : State) (choice : Choice) (hs : List Apdu) → Items hs x.outgoing → Items hs (taken setup role x Recover choice).outgoing
 recovers-items setup role x (Accepting set) hs i = i
 recovers-items setup role x Refusing hs i = i
 recovers-items setup role x Nothing hs i = i
 recovers-items setup role x (Results results) hs i = i
 
-alters-items : (setup : Setup) (role : Role) (x : State) (items : List Item) (choice : Choice) (hs : List Apdu) → Items hs x.outgoing → Items hs (taken setup role x (Alter items) choice).outgoing
+alters-items : (setup : ModelSetup) (role : Role) (x : State) (items : List Item) (choice : Choice) (hs : List Apdu) → Items hs x.outgoing → Items hs (taken setup role x (Alter items) choice).outgoing
 alters-items setup role x items (Results results) hs i = i
 alters-items setup role x items (Accepting set) hs i = i
 alters-items setup role x items Refusing hs i = i
 alters-items setup role x items Nothing hs i = i
 
-takes-items : (setup : Setup) (role : Role) (x : State) (t : Option Transfer) (m : Message) (choice : Choice) (hs : List Apdu) → Items hs (record x.outgoing { transfer = t }) → Items hs (taken setup role (with_transfer x t) m choice).outgoing
+takes-items : (setup : ModelSetup) (role : Role) (x : State) (t : Option Transfer) (m : Message) (choice : Choice) (hs : List Apdu) → Items hs (record x.outgoing { transfer = t }) → Items hs (taken setup role (with_transfer x t) m choice).outgoing
 takes-items setup role x t Connect choice hs i = opens-items setup role (with_transfer x t) choice hs i
 takes-items setup role x t Recover choice hs i = recovers-items setup role (with_transfer x t) choice hs i
 takes-items setup role x t (Accept set) choice hs i = i
@@ -200,16 +200,16 @@ takes-items setup role x t Release choice hs i = i
 takes-items setup role x t ReleaseAnswer choice hs i = i
 takes-items setup role x t UserAbort choice hs i = i
 
-broken-items : (setup : Setup) (x : State) (t : Option Transfer) (hs : List Apdu) → Items hs (record x.outgoing { transfer = t }) → Items hs (broken setup (with_transfer x t)).outgoing
+broken-items : (setup : ModelSetup) (x : State) (t : Option Transfer) (hs : List Apdu) → Items hs (record x.outgoing { transfer = t }) → Items hs (broken setup (with_transfer x t)).outgoing
 broken-items setup x None hs i = record { queued = i.queued; current = tt }
 broken-items setup x (Some t) hs i = record { queued = i.queued; current = i.current }
 
-step-items : (setup : Setup) (role : Role) (x : State) (step : Step) (hs : List Apdu) → Items hs x.outgoing → Items (handed_by step ++ hs) (after setup role x step).outgoing
+step-items : (setup : ModelSetup) (role : Role) (x : State) (step : Step) (hs : List Apdu) → Items hs x.outgoing → Items (handed_by step ++ hs) (after setup role x step).outgoing
 step-items setup role x (Acts act) hs i = acts-items setup x x.outgoing.transfer act hs i
 step-items setup role x (Takes m choice) hs i = takes-items setup role x x.outgoing.transfer m choice hs i
 step-items setup role x (Passes m) hs i = i
 
-items-kept : (setup : Setup) (role : Role) (world : World) → Items (all_handed role world) (state_of setup role world).outgoing
+items-kept : (setup : ModelSetup) (role : Role) (world : World) → Items (all_handed role world) (state_of setup role world).outgoing
 items-kept setup role [] = record { queued = tt; current = tt }
 items-kept setup role (Break ∷ world) = broken-items setup (state_of setup role world) (state_of setup role world).outgoing.transfer (all_handed role world) (items-kept setup role world)
 items-kept setup Initiator (By Initiator step ∷ world) = step-items setup Initiator (state_of setup Initiator world) step (all_handed Initiator world) (items-kept setup Initiator world)
@@ -230,7 +230,7 @@ all-said : (hs new : List Apdu) (flight : List Sending) → AllAre (SaidIn hs) f
 all-said hs new [] h = tt
 all-said hs new (s ∷ flight) h = (said-more hs new s.message h.0, all-said hs new flight h.1)
 
-acts-said : (setup : Setup) (x : State) (act : Act) (hs : List Apdu) (at : ContextSet) → AllAre (SaidIn (handed_by (Acts act) ++ hs)) (sendings at (sent_by setup x act))
+acts-said : (setup : ModelSetup) (x : State) (act : Act) (hs : List Apdu) (at : ContextSet) → AllAre (SaidIn (handed_by (Acts act) ++ hs)) (sendings at (sent_by setup x act))
 acts-said setup x Connects hs at = (tt, tt)
 acts-said setup x Recovers hs at = (tt, tt)
 acts-said setup x (SaysValue value) hs at = (just-handed hs value.apdu, tt)
@@ -253,7 +253,7 @@ acts-said setup x Aborts hs at = (tt, tt)
 acts-said setup x Withdraws hs at = tt
 acts-said setup x TransportFails hs at = tt
 
-answer-said : (setup : Setup) (x : State) (m : Message) (choice : Choice) (hs : List Apdu) (at : ContextSet) → AllAre (SaidIn hs) (sendings at (answer_to setup x m choice))
+answer-said : (setup : ModelSetup) (x : State) (m : Message) (choice : Choice) (hs : List Apdu) (at : ContextSet) → AllAre (SaidIn hs) (sendings at (answer_to setup x m choice))
 answer-said setup x Connect (Accepting set) hs at = (tt, tt)
 answer-said setup x Connect Refusing hs at = (tt, tt)
 answer-said setup x Connect Nothing hs at = tt
@@ -285,7 +285,7 @@ answer-said setup x Give choice hs at = go setup.mode
 answer-said setup x Release choice hs at = (tt, tt)
 answer-said setup x m choice hs at = tt
 
-step-said : (setup : Setup) (x : State) (step : Step) (hs : List Apdu) (at : ContextSet) → AllAre (SaidIn (handed_by step ++ hs)) (sendings at (sent_in setup x step))
+step-said : (setup : ModelSetup) (x : State) (step : Step) (hs : List Apdu) (at : ContextSet) → AllAre (SaidIn (handed_by step ++ hs)) (sendings at (sent_in setup x step))
 step-said setup x (Acts act) hs at = acts-said setup x act hs at
 step-said setup x (Takes m choice) hs at = answer-said setup x m choice hs at
 step-said setup x (Passes m) hs at = tt
@@ -297,7 +297,7 @@ off-said hs (Takes m choice) (s ∷ flight) h = h.1
 off-said hs (Passes m) [] h = tt
 off-said hs (Passes m) (s ∷ flight) h = h.1
 
-said-kept : (setup : Setup) (role : Role) (world : World) → AllAre (SaidIn (all_handed (other role) world)) (flight_to setup role world)
+said-kept : (setup : ModelSetup) (role : Role) (world : World) → AllAre (SaidIn (all_handed (other role) world)) (flight_to setup role world)
 said-kept setup role [] = tt
 said-kept setup role (Break ∷ world) = tt
 said-kept setup Initiator (By Initiator step ∷ world) = off-said (all_handed Responder world) step (flight_to setup Initiator world) (said-kept setup Initiator world)
@@ -315,7 +315,7 @@ data-said : (hs : List Apdu) (flight : List Sending) (value : Value) → ComesNe
 data-said hs [] value c h = absurd c
 data-said hs (s ∷ flight) value c h = subst (SaidIn hs) c h.0
 
-end-own : (base : Setup) (x y : State) (hs : List Apdu) (value : Value) (t : Option Transfer) (c : ℕ) (es : List Encoding) → SpellsIn (value_in t) (reliable base) x.sets.held x.incoming → Encoded t c es → OnItem hs t → handed_up (reliable base) x.sets.held x.incoming ≡ Some value → IsHandedIn hs value.apdu
+end-own : (base : ModelSetup) (x y : State) (hs : List Apdu) (value : Value) (t : Option Transfer) (c : ℕ) (es : List Encoding) → SpellsIn (value_in t) (reliable base) x.sets.held x.incoming → Encoded t c es → OnItem hs t → handed_up (reliable base) x.sets.held x.incoming ≡ Some value → IsHandedIn hs value.apdu
 end-own base x y hs value None c es s e i h = absurd s
 end-own base x y hs value (Some t) c es s e i h = go t.value s e
   where
@@ -323,7 +323,7 @@ end-own base x y hs value (Some t) c es s e i h = go t.value s e
     go None s e = absurd s
     go (Some w) s e = subst (λ (v : Value). IsHandedIn hs v.apdu) (handed-spelled base x w value s h) (subst (IsHandedIn hs) (sym e.1) i)
 
-own-of : (setup : Setup) → ((world : World) (role : Role) (number : ℕ) (choice : Choice) (value : Value) → IsRun setup (By role (Takes (End number) choice) ∷ world) → handed_up setup (state_of setup role world).sets.held (state_of setup role world).incoming ≡ Some value → IsHandedIn (all_handed (other role) world) value.apdu) → TheOthersOwn setup
+own-of : (setup : ModelSetup) → ((world : World) (role : Role) (number : ℕ) (choice : Choice) (value : Value) → IsRun setup (By role (Takes (End number) choice) ∷ world) → handed_up setup (state_of setup role world).sets.held (state_of setup role world).incoming ≡ Some value → IsHandedIn (all_handed (other role) world) value.apdu) → TheOthersOwn setup
 own-of setup f world role (Data value) choice w h e =
     subst (λ (v : Value). IsHandedIn (all_handed (other role) world) v.apdu) same (data-said (all_handed (other role) world) (flight_to setup role world) value h.0.comes (said-kept setup role world))
   where
@@ -332,21 +332,21 @@ own-of setup f world role (Data value) choice w h e =
 own-of setup f world role (End number) choice w h e = f world role number choice w h e
 own-of setup f world role m choice w h e = absurd (cc)
 
-reliable-own : (base : Setup) → TheOthersOwn (reliable base)
+reliable-own : (base : ModelSetup) → TheOthersOwn (reliable base)
 reliable-own base =
     own-of (reliable base) (λ world role number choice value h e.
     let s = source-at base world role number choice h in
     end-own base (state_of (reliable base) role world) (state_of (reliable base) (other role) world) (all_handed (other role) world) value (state_of (reliable base) (other role) world).outgoing.transfer _ _
     s.spelled (encoded-kept base world h.1 (other role)) (items-kept (reliable base) (other role) world).current e)
 
-pub all-own : ((setup : Setup) → NoAbortOfItself setup) → (setup : Setup) → TheOthersOwn setup
+pub all-own : ((setup : ModelSetup) → NoAbortOfItself setup) → (setup : ModelSetup) → TheOthersOwn setup
 all-own n =
     by-mode TheOthersOwn
     (λ base. own-of (bare base) (λ world role number choice value h e. absurd (let m = (n (bare base) world role (End number) choice h).by_transfers in cc)))
     (λ base. own-of (direct base) (λ world role number choice value h e. absurd (let m = (n (direct base) world role (End number) choice h).by_transfers in cc)))
     reliable-own
 
-pub all-whole : ((setup : Setup) → NoAbortOfItself setup) → (setup : Setup) → ArriveWhole setup
+pub all-whole : ((setup : ModelSetup) → NoAbortOfItself setup) → (setup : ModelSetup) → ArriveWhole setup
 all-whole n =
     by-mode ArriveWhole
     (λ base world role number choice value h e. absurd (let m = (n (bare base) world role (End number) choice h).by_transfers in cc))

@@ -4,7 +4,7 @@ use Rattle.std.specs.Prelude.{Option, Some, None}
 use Rattle.std.proofs.lemmas.Bool.Decides.{nat_tests}
 use Rattle.agreement.specs.Sets.{Role, ContextSet, Item}
 use Rattle.agreement.specs.Sets.Role.{Initiator, Responder}
-use Rattle.agreement.specs.Messages.{Apdu, Value, Mode, Setup, Message, Act, Choice}
+use Rattle.agreement.specs.Messages.{Apdu, Value, Mode, ModelSetup, Message, Act, Choice}
 use Rattle.agreement.specs.Messages.Mode.{Bare, Direct, Reliable}
 use Rattle.agreement.specs.Messages.Act.{Connects, Recovers, SaysValue, Queues, Drops, Alters, Marks, GivesTurn, Pleads, Restarts, Starts, Encodes, Sends, EndsActivity, Interrupts, Discards, Resumes, Releases, Aborts, Withdraws, TransportFails}
 use Rattle.agreement.specs.Messages.Choice.{Nothing, Accepting, Refusing, Results}
@@ -25,7 +25,7 @@ use Rattle.agreement.proofs.OnceByTransfers.{opens-in}
 use Rattle.agreement.proofs.Operations.{OpensUnmade}
 
 -- an opening is accepted by a new end alone
-pub opens-unmade : ((setup : Setup) → NoAbortOfItself setup) → (setup : Setup) → OpensUnmade setup
+pub opens-unmade : ((setup : ModelSetup) → NoAbortOfItself setup) → (setup : ModelSetup) → OpensUnmade setup
 opens-unmade n =
     by-mode OpensUnmade
     (λ base world role choice h. unmade-kept (bare base) (n (bare base)) (λ e. cc) world h.1 role (n (bare base) world role Connect choice h).is_unjoined)
@@ -123,7 +123,7 @@ none-kept es items c t k = record { count = k.count; current = tt; newest = k.ne
 some-kept : (es : List Encoding) (items : List Handed) (c : ℕ) (t u : Transfer) → u.item ≡ t.item → ItemsKept es items c (Some t) → ItemsKept es items c (Some u)
 some-kept es items c t u e k = record { count = k.count; current = k.current ∙ ap (λ (i : Handed). Some i) (sym e); newest = k.newest; fresh = k.fresh }
 
-acts-kept : (setup : Setup) (role : Role) (x : State) (shared : ContextSet) (t : Option Transfer) (act : Act) (es : List Encoding) (items : List Handed) → MayAct setup role (with_transfer x t) act → ItemsKept es items x.outgoing.started t → KeptOf (encoded_by (with_transfer x t) shared (Acts act) ++ es) (started_after (with_transfer x t) (Acts act) items) (acted setup (with_transfer x t) act)
+acts-kept : (setup : ModelSetup) (role : Role) (x : State) (shared : ContextSet) (t : Option Transfer) (act : Act) (es : List Encoding) (items : List Handed) → MayAct setup role (with_transfer x t) act → ItemsKept es items x.outgoing.started t → KeptOf (encoded_by (with_transfer x t) shared (Acts act) ++ es) (started_after (with_transfer x t) (Acts act) items) (acted setup (with_transfer x t) act)
 acts-kept setup role x shared t Connects es items h k = k
 acts-kept setup role x shared t Recovers es items h k = k
 acts-kept setup role x shared t (SaysValue value) es items h k = k
@@ -163,30 +163,30 @@ acts-kept setup role x shared t Aborts es items h k = k
 acts-kept setup role x shared t Withdraws es items h k = k
 acts-kept setup role x shared t TransportFails es items h k = k
 
-hears-kept : (setup : Setup) (v : Option Value) (x : State) (es : List Encoding) (items : List Handed) → KeptOf es items x → KeptOf es items (hears setup v x)
+hears-kept : (setup : ModelSetup) (v : Option Value) (x : State) (es : List Encoding) (items : List Handed) → KeptOf es items x → KeptOf es items (hears setup v x)
 hears-kept setup None x es items k = k
 hears-kept setup (Some v) x es items k = k
 
-opens-kept : (setup : Setup) (role : Role) (x : State) (choice : Choice) (es : List Encoding) (items : List Handed) → x.outgoing.started ≡ 0 → KeptOf es items x → KeptOf es (started_after x (Takes Connect choice) items) (taken setup role x Connect choice)
+opens-kept : (setup : ModelSetup) (role : Role) (x : State) (choice : Choice) (es : List Encoding) (items : List Handed) → x.outgoing.started ≡ 0 → KeptOf es items x → KeptOf es (started_after x (Takes Connect choice) items) (taken setup role x Connect choice)
 opens-kept setup role x (Accepting set) es items z k =
     record { count = refl; current = tt; newest = subst (λ ys. NewestIs ys []) (sym (k.fresh z)) tt; fresh = λ e. k.fresh z }
 opens-kept setup role x Refusing es items z k = k
 opens-kept setup role x Nothing es items z k = k
 opens-kept setup role x (Results results) es items z k = k
 
-recovers-kept : (setup : Setup) (role : Role) (x : State) (choice : Choice) (es : List Encoding) (items : List Handed) → KeptOf es items x → KeptOf es items (taken setup role x Recover choice)
+recovers-kept : (setup : ModelSetup) (role : Role) (x : State) (choice : Choice) (es : List Encoding) (items : List Handed) → KeptOf es items x → KeptOf es items (taken setup role x Recover choice)
 recovers-kept setup role x (Accepting set) es items k = k
 recovers-kept setup role x Refusing es items k = k
 recovers-kept setup role x Nothing es items k = k
 recovers-kept setup role x (Results results) es items k = k
 
-alters-kept : (setup : Setup) (role : Role) (x : State) (alterations : List Item) (choice : Choice) (es : List Encoding) (items : List Handed) → KeptOf es items x → KeptOf es items (taken setup role x (Alter alterations) choice)
+alters-kept : (setup : ModelSetup) (role : Role) (x : State) (alterations : List Item) (choice : Choice) (es : List Encoding) (items : List Handed) → KeptOf es items x → KeptOf es items (taken setup role x (Alter alterations) choice)
 alters-kept setup role x alterations (Results results) es items k = k
 alters-kept setup role x alterations (Accepting set) es items k = k
 alters-kept setup role x alterations Refusing es items k = k
 alters-kept setup role x alterations Nothing es items k = k
 
-takes-kept : (setup : Setup) (role : Role) (x : State) (t : Option Transfer) (m : Message) (choice : Choice) (es : List Encoding) (items : List Handed) → (m ≡ Connect → x.outgoing.started ≡ 0) → ItemsKept es items x.outgoing.started t → KeptOf es (started_after (with_transfer x t) (Takes m choice) items) (taken setup role (with_transfer x t) m choice)
+takes-kept : (setup : ModelSetup) (role : Role) (x : State) (t : Option Transfer) (m : Message) (choice : Choice) (es : List Encoding) (items : List Handed) → (m ≡ Connect → x.outgoing.started ≡ 0) → ItemsKept es items x.outgoing.started t → KeptOf es (started_after (with_transfer x t) (Takes m choice) items) (taken setup role (with_transfer x t) m choice)
 takes-kept setup role x t Connect choice es items z k = opens-kept setup role (with_transfer x t) choice es items (z refl) k
 takes-kept setup role x t Recover choice es items z k = recovers-kept setup role (with_transfer x t) choice es items k
 takes-kept setup role x t (Accept set) choice es items z k = k
@@ -222,15 +222,15 @@ takes-kept setup role x t Release choice es items z k = k
 takes-kept setup role x t ReleaseAnswer choice es items z k = k
 takes-kept setup role x t UserAbort choice es items z k = k
 
-breaks-kept : (setup : Setup) (x : State) (t : Option Transfer) (es : List Encoding) (items : List Handed) → ItemsKept es items x.outgoing.started t → KeptOf es items (broken setup (with_transfer x t))
+breaks-kept : (setup : ModelSetup) (x : State) (t : Option Transfer) (es : List Encoding) (items : List Handed) → ItemsKept es items x.outgoing.started t → KeptOf es items (broken setup (with_transfer x t))
 breaks-kept setup x None es items k = k
 breaks-kept setup x (Some t) es items k = some-kept es items x.outgoing.started t _ refl k
 
 -- in a run in which an opening is accepted by a new end alone
-OpensUnstarted : Setup → Type 0
+OpensUnstarted : ModelSetup → Type 0
 OpensUnstarted setup = (world : World) (role : Role) (choice : Choice) → IsRun setup (By role (Takes Connect choice) ∷ world) → (state_of setup role world).outgoing.started ≡ 0
 
-step-kept : (setup : Setup) → OpensUnstarted setup → (role : Role) (world : World) (step : Step) → IsRun setup (By role step ∷ world) → KeptOf (encodings setup role world) (items_started setup role world) (state_of setup role world) → KeptOf (encoded_by (state_of setup role world) (shared_at setup world).set step ++ encodings setup role world) (started_after (state_of setup role world) step (items_started setup role world)) (after setup role (state_of setup role world) step)
+step-kept : (setup : ModelSetup) → OpensUnstarted setup → (role : Role) (world : World) (step : Step) → IsRun setup (By role step ∷ world) → KeptOf (encodings setup role world) (items_started setup role world) (state_of setup role world) → KeptOf (encoded_by (state_of setup role world) (shared_at setup world).set step ++ encodings setup role world) (started_after (state_of setup role world) step (items_started setup role world)) (after setup role (state_of setup role world) step)
 unfolding OpensUnstarted
 step-kept setup opens role world (Acts act) h k =
     acts-kept setup role (state_of setup role world) (shared_at setup world).set (state_of setup role world).outgoing.transfer act (encodings setup role world) (items_started setup role world) h.0 k
@@ -239,7 +239,7 @@ step-kept setup opens role world (Takes m choice) h k =
     (λ e. opens world role choice (subst (λ q. IsRun setup (By role (Takes q choice) ∷ world)) e h)) k
 step-kept setup opens role world (Passes m) h k = k
 
-items-kept : (setup : Setup) → OpensUnstarted setup → (world : World) → IsRun setup world → (role : Role) → KeptOf (encodings setup role world) (items_started setup role world) (state_of setup role world)
+items-kept : (setup : ModelSetup) → OpensUnstarted setup → (world : World) → IsRun setup world → (role : Role) → KeptOf (encodings setup role world) (items_started setup role world) (state_of setup role world)
 items-kept setup opens [] h role = record { count = refl; current = tt; newest = tt; fresh = λ e. refl }
 items-kept setup opens (Break ∷ world) h role =
     breaks-kept setup (state_of setup role world) (state_of setup role world).outgoing.transfer (encodings setup role world) (items_started setup role world) (items-kept setup opens world h.1 role)
@@ -252,11 +252,11 @@ newest-of : (es : List Encoding) (items : List Handed) (e : Encoding) → IsNewe
 newest-of [] items e i h = absurd i
 newest-of (first ∷ es) items e i h = subst (λ (q : Encoding). IsOf q.apdu (item_of q.activity items)) i h
 
-items-of : (setup : Setup) → OpensUnstarted setup → ItemsOfActivities setup
+items-of : (setup : ModelSetup) → OpensUnstarted setup → ItemsOfActivities setup
 items-of setup opens world role e h i = newest-of (encodings setup role world) (items_started setup role world) e i (items-kept setup opens world h role).newest
 
 -- out of reliable mode nothing is encoded
-unencoded : (setup : Setup) → (setup.mode ≡ Reliable → ⊥) → (world : World) → IsRun setup world → (role : Role) → encodings setup role world ≡ []
+unencoded : (setup : ModelSetup) → (setup.mode ≡ Reliable → ⊥) → (world : World) → IsRun setup world → (role : Role) → encodings setup role world ≡ []
 unencoded setup a [] h role = refl
 unencoded setup a (Break ∷ world) h role = unencoded setup a world h.1 role
 unencoded setup a (By Initiator step ∷ world) h Responder = unencoded setup a world h.1 Responder
@@ -266,10 +266,10 @@ unencoded setup a (By Initiator step ∷ world) h Initiator = unencoded setup a 
 unencoded setup a (By Responder (Acts (Encodes context)) ∷ world) h Responder = absurd (a h.0.by_transfers)
 unencoded setup a (By Responder step ∷ world) h Responder = unencoded setup a world h.1 Responder
 
-no-items : (setup : Setup) → (setup.mode ≡ Reliable → ⊥) → ItemsOfActivities setup
+no-items : (setup : ModelSetup) → (setup.mode ≡ Reliable → ⊥) → ItemsOfActivities setup
 no-items setup a world role e h i = absurd (subst (IsNewest e) (unencoded setup a world h role) i)
 
-pub all-items : ((setup : Setup) → NoAbortOfItself setup) → (setup : Setup) → ItemsOfActivities setup
+pub all-items : ((setup : ModelSetup) → NoAbortOfItself setup) → (setup : ModelSetup) → ItemsOfActivities setup
 unfolding OpensUnstarted
 all-items n =
     by-mode ItemsOfActivities

@@ -5,7 +5,7 @@ use Rattle.agreement.specs.Sets.{Role, Pair, ContextSet, Item, Result, put, remo
 use Rattle.agreement.specs.Sets.Role.{Initiator, Responder}
 use Rattle.agreement.specs.Sets.Item.{Addition, Deletion}
 use Rattle.agreement.specs.Sets.Result.{Rejected, AcceptedAs, Accepted, Kept}
-use Rattle.agreement.specs.Messages.{Value, Mode, Setup, Message, Act, Choice}
+use Rattle.agreement.specs.Messages.{Value, Mode, ModelSetup, Message, Act, Choice}
 use Rattle.agreement.specs.Messages.Mode.{Bare, Direct, Reliable}
 use Rattle.agreement.specs.Messages.Act.{Connects, Recovers, SaysValue, Queues, Drops, Alters, Marks, GivesTurn, Pleads, Restarts, Starts, Encodes, Sends, EndsActivity, Interrupts, Discards, Resumes, Releases, Aborts, Withdraws, TransportFails}
 use Rattle.agreement.specs.Messages.Choice.{Nothing, Accepting, Refusing, Results}
@@ -107,7 +107,7 @@ started-known knows o = go o.queue
     go [] = tt
     go (item ∷ queue) = tt
 
-acts-known : (setup : Setup) (x : State) (act : Act) → AllKnown setup.knows x → AllKnown setup.knows (acted setup x act)
+acts-known : (setup : ModelSetup) (x : State) (act : Act) → AllKnown setup.knows x → AllKnown setup.knows (acted setup x act)
 acts-known setup x Marks k = go setup.mode
   where
     go : (m : Mode) → AllKnown setup.knows (marked_in m x)
@@ -157,41 +157,41 @@ saved-known knows Bare set saved h k = k
 saved-known knows Direct set saved h k = (h, tt)
 saved-known knows Reliable set saved h k = k
 
-joins-known : (setup : Setup) (role : Role) (set : ContextSet) (x : State) → IsKnownSet setup.knows set → AllKnown setup.knows x → AllKnown setup.knows (joined_with setup.mode role set x)
+joins-known : (setup : ModelSetup) (role : Role) (set : ContextSet) (x : State) → IsKnownSet setup.knows set → AllKnown setup.knows x → AllKnown setup.knows (joined_with setup.mode role set x)
 joins-known setup role set x h k =
     record { held = h; inter = inter-known setup.knows setup.mode set x.sets.inter h k.inter; saved = saved-known setup.knows setup.mode set x.saved h k.saved; sent = k.sent; came = k.came }
 
 refuses-known : (knows : List ℕ → Bool) (x : State) → AllKnown knows x → AllKnown knows (record x { phase = refusing x.phase })
 refuses-known knows x k = record { held = k.held; inter = k.inter; saved = k.saved; sent = k.sent; came = k.came }
 
-opens-known : (setup : Setup) (role : Role) (x : State) (choice : Choice) → IsChoice setup x Connect choice → AllKnown setup.knows x → AllKnown setup.knows (taken setup role x Connect choice)
+opens-known : (setup : ModelSetup) (role : Role) (x : State) (choice : Choice) → IsChoice setup x Connect choice → AllKnown setup.knows x → AllKnown setup.knows (taken setup role x Connect choice)
 opens-known setup role x (Accepting set) c k =
     record { held = c.is_known; inter = inter-known setup.knows setup.mode set [] c.is_known tt; saved = saved-known setup.knows setup.mode set [] c.is_known tt; sent = tt; came = tt }
 opens-known setup role x Refusing c k = refuses-known setup.knows x k
 opens-known setup role x Nothing c k = absurd c
 opens-known setup role x (Results results) c k = absurd c
 
-recovers-known : (setup : Setup) (role : Role) (x : State) (choice : Choice) → IsChoice setup x Recover choice → AllKnown setup.knows x → AllKnown setup.knows (taken setup role x Recover choice)
+recovers-known : (setup : ModelSetup) (role : Role) (x : State) (choice : Choice) → IsChoice setup x Recover choice → AllKnown setup.knows x → AllKnown setup.knows (taken setup role x Recover choice)
 recovers-known setup role x (Accepting set) c k = joins-known setup role set x c.is_known k
 recovers-known setup role x Refusing c k = refuses-known setup.knows x k
 recovers-known setup role x Nothing c k = absurd c
 recovers-known setup role x (Results results) c k = absurd c
 
-alters-known : (setup : Setup) (role : Role) (x : State) (items : List Item) (choice : Choice) → IsChoice setup x (Alter items) choice → AllKnown setup.knows x → AllKnown setup.knows (taken setup role x (Alter items) choice)
+alters-known : (setup : ModelSetup) (role : Role) (x : State) (items : List Item) (choice : Choice) → IsChoice setup x (Alter items) choice → AllKnown setup.knows x → AllKnown setup.knows (taken setup role x (Alter items) choice)
 alters-known setup role x items (Results results) c k =
     record { held = known-altered setup.knows items results x.sets.held c.is_known k.held; inter = k.inter; saved = k.saved; sent = k.sent; came = k.came }
 alters-known setup role x items (Accepting set) c k = absurd c
 alters-known setup role x items Refusing c k = absurd c
 alters-known setup role x items Nothing c k = absurd c
 
-hears-known : (setup : Setup) (v : Option Value) (x : State) → AllKnown setup.knows x → AllKnown setup.knows (hears setup v x)
+hears-known : (setup : ModelSetup) (v : Option Value) (x : State) → AllKnown setup.knows x → AllKnown setup.knows (hears setup v x)
 hears-known setup None x k = k
 hears-known setup (Some v) x k = record { held = k.held; inter = k.inter; saved = k.saved; sent = k.sent; came = k.came }
 
 between-known : (knows : List ℕ → Bool) (x : State) → AllKnown knows x → AllKnown knows (between x)
 between-known knows x k = record { held = k.inter; inter = k.inter; saved = k.saved; sent = k.sent; came = k.came }
 
-restores-known : (setup : Setup) (role : Role) (number : ℕ) (x : State) → AllKnown setup.knows x → AllKnown setup.knows (restored role number x)
+restores-known : (setup : ModelSetup) (role : Role) (number : ℕ) (x : State) → AllKnown setup.knows x → AllKnown setup.knows (restored role number x)
 restores-known setup role number x k =
     let s = saved-below setup.knows number x.saved k.saved in
     record { held = saved-newest setup.knows (below number x.saved) s; inter = k.inter; saved = s; sent = k.sent; came = k.came }
@@ -200,7 +200,7 @@ resumed-known : (knows : List ℕ → Bool) (activity mark : ℕ) (i : Incoming)
 resumed-known knows activity mark i h =
     by_test (λ (q : Incoming). AllPieces knows q.pieces) (nat_eq activity i.last) _ _ (λ t. pieces-up_to knows mark i.pieces h) (λ t. tt)
 
-takes-known : (setup : Setup) (role : Role) (x : State) (m : Message) (choice : Choice) → MayTake setup role x m → IsChoice setup x m choice → AllKnown setup.knows x → AllKnown setup.knows (taken setup role x m choice)
+takes-known : (setup : ModelSetup) (role : Role) (x : State) (m : Message) (choice : Choice) → MayTake setup role x m → IsChoice setup x m choice → AllKnown setup.knows x → AllKnown setup.knows (taken setup role x m choice)
 takes-known setup role x Connect choice h c k = opens-known setup role x choice c k
 takes-known setup role x Recover choice h c k = recovers-known setup role x choice c k
 takes-known setup role x (Accept set) choice h c k = joins-known setup role set x h.is_known k
@@ -286,7 +286,7 @@ all-sent_known knows mode role (m ∷ ms) s k = all-sent_known knows mode role m
 inter-shared : (knows : List ℕ → Bool) (s : Shared) → SharedKnown knows s → SharedKnown knows (record s { set = s.inter })
 inter-shared knows s k = record { set = k.inter; inter = k.inter; saved = k.saved; of_initiator = k.of_initiator; of_responder = k.of_responder }
 
-answered-known : (setup : Setup) (x : State) (m : Message) (choice : Choice) (s : Shared) → IsChoice setup x m choice → SharedKnown setup.knows s → SharedKnown setup.knows (shared_answered m choice s)
+answered-known : (setup : ModelSetup) (x : State) (m : Message) (choice : Choice) (s : Shared) → IsChoice setup x m choice → SharedKnown setup.knows s → SharedKnown setup.knows (shared_answered m choice s)
 answered-known setup x Connect (Accepting set) s c k = record { set = c.is_known; inter = c.is_known; saved = (c.is_known, tt); of_initiator = tt; of_responder = tt }
 answered-known setup x Connect Refusing s c k = k
 answered-known setup x Connect Nothing s c k = k
@@ -308,20 +308,20 @@ answered-known setup x Interrupt choice s c k = inter-shared setup.knows s k
 answered-known setup x Discard choice s c k = inter-shared setup.knows s k
 answered-known setup x m choice s c k = k
 
-step-known : (setup : Setup) → NoAbortOfItself setup → (role : Role) (world : World) (step : Step) → IsRun setup (By role step ∷ world) → AllKnown setup.knows (state_of setup role world) → AllKnown setup.knows (after setup role (state_of setup role world) step)
+step-known : (setup : ModelSetup) → NoAbortOfItself setup → (role : Role) (world : World) (step : Step) → IsRun setup (By role step ∷ world) → AllKnown setup.knows (state_of setup role world) → AllKnown setup.knows (after setup role (state_of setup role world) step)
 step-known setup n role world (Acts act) h k = acts-known setup (state_of setup role world) act k
 step-known setup n role world (Takes m choice) h k = takes-known setup role (state_of setup role world) m choice (n world role m choice h) h.0.is_choice k
 step-known setup n role world (Passes m) h k = k
 
-first-known : (setup : Setup) (mode : Mode) → IsNotBare mode → IsKnownSet setup.knows (first_set setup mode)
+first-known : (setup : ModelSetup) (mode : Mode) → IsNotBare mode → IsKnownSet setup.knows (first_set setup mode)
 first-known setup Bare b = absurd b
 first-known setup Direct b = tt
 first-known setup Reliable b = tt
 
-breaks-known : (setup : Setup) (x : State) → AllKnown setup.knows x → AllKnown setup.knows (broken setup x)
+breaks-known : (setup : ModelSetup) (x : State) → AllKnown setup.knows x → AllKnown setup.knows (broken setup x)
 breaks-known setup x k = record { held = k.held; inter = k.inter; saved = k.saved; sent = on-known setup.knows _ x.outgoing (λ t h. h) k.sent; came = k.came }
 
-ends-known : (setup : Setup) → NoAbortOfItself setup → IsNotBare setup.mode → (world : World) → IsRun setup world → (role : Role) → AllKnown setup.knows (state_of setup role world)
+ends-known : (setup : ModelSetup) → NoAbortOfItself setup → IsNotBare setup.mode → (world : World) → IsRun setup world → (role : Role) → AllKnown setup.knows (state_of setup role world)
 ends-known setup n b [] h role = record { held = first-known setup setup.mode b; inter = tt; saved = tt; sent = tt; came = tt }
 ends-known setup n b (Break ∷ world) h role = breaks-known setup (state_of setup role world) (ends-known setup n b world h.1 role)
 ends-known setup n b (By Initiator step ∷ world) h Initiator = step-known setup n Initiator world step h (ends-known setup n b world h.1 Initiator)
@@ -329,16 +329,16 @@ ends-known setup n b (By Responder step ∷ world) h Responder = step-known setu
 ends-known setup n b (By Initiator step ∷ world) h Responder = ends-known setup n b world h.1 Responder
 ends-known setup n b (By Responder step ∷ world) h Initiator = ends-known setup n b world h.1 Initiator
 
-shared-known_step : (setup : Setup) (role : Role) (world : World) (step : Step) → IsRun setup (By role step ∷ world) → SharedKnown setup.knows (shared_at setup world) → SharedKnown setup.knows (shared_after setup role (state_of setup role world) step (shared_at setup world))
+shared-known_step : (setup : ModelSetup) (role : Role) (world : World) (step : Step) → IsRun setup (By role step ∷ world) → SharedKnown setup.knows (shared_at setup world) → SharedKnown setup.knows (shared_after setup role (state_of setup role world) step (shared_at setup world))
 shared-known_step setup role world (Acts act) h k = all-sent_known setup.knows setup.mode role (sent_by setup (state_of setup role world) act) (shared_at setup world) k
 shared-known_step setup role world (Takes m choice) h k = answered-known setup (state_of setup role world) m choice (shared_at setup world) h.0.is_choice k
 shared-known_step setup role world (Passes m) h k = k
 
-shared-known : (setup : Setup) → IsNotBare setup.mode → (world : World) → IsRun setup world → SharedKnown setup.knows (shared_at setup world)
+shared-known : (setup : ModelSetup) → IsNotBare setup.mode → (world : World) → IsRun setup world → SharedKnown setup.knows (shared_at setup world)
 shared-known setup b [] h = record { set = first-known setup setup.mode b; inter = tt; saved = tt; of_initiator = tt; of_responder = tt }
 shared-known setup b (Break ∷ world) h = shared-known setup b world h.1
 shared-known setup b (By role step ∷ world) h = shared-known_step setup role world step h (shared-known setup b world h.1)
 
-pub contexts-known : (setup : Setup) → NoAbortOfItself setup → ContextsAreKnown setup
+pub contexts-known : (setup : ModelSetup) → NoAbortOfItself setup → ContextsAreKnown setup
 contexts-known setup n b world h =
     record { initiator = (ends-known setup n b world h Initiator).held; responder = (ends-known setup n b world h Responder).held; shared = (shared-known setup b world h).set }

@@ -2,7 +2,7 @@
 use Rattle.std.proofs.Common.{◌≡◌, ℕ, suc, ◌≤◌, Bool, true, false, List, [], ◌∷◌, ◌++◌, refl, sym, ap, ◌∙◌, true≢false, subst, inl, inr, ◌⊎◌}
 use Rattle.std.specs.Prelude.{Option, Some, None}
 use Rattle.agreement.specs.Sets.{Role, ContextSet, Item, Result, Fits, altered, lookup, Saved}
-use Rattle.agreement.specs.Messages.{Value, Setup, Message}
+use Rattle.agreement.specs.Messages.{Value, ModelSetup, Message}
 use Rattle.agreement.specs.Messages.Message.{Alter, AlterAnswer, Mark, MarkAnswer, Start, Resume, Chunk, End, EndAnswer, Interrupt, InterruptAnswer, Discard, DiscardAnswer, GiveAnswer, Please, Release, UserAbort}
 use Rattle.agreement.specs.State.{Awaited, Progress, Transfer, Incoming, Sets, up_to, highest}
 use Rattle.agreement.specs.State.Awaited.{NoAnswer, RestartOf, InterruptOf, DiscardOf, ReleaseOf}
@@ -47,7 +47,7 @@ value-answered (Some t) sets results v = go t.progress t.value v
     go Ending value v = tt
     go Suspended value v = tt
 
-pub takes_answer : (setup : Setup) (from : Role) (sets : Sets) (c : ℕ) (t : Option Transfer) (results : List Result) (lin : Incoming) (y : Follower) (yc : ℕ) (yt : Option Transfer) (down up : List Message) (set mid : ContextSet) (mine theirs : List Saved) → Flow setup from (calm sets c t) lin y yc yt down (AlterAnswer results ∷ up) set mid mine theirs → OnFirst (λ items. Fits items results) sets.own × Flow setup from (calm (answered sets results) c t) lin y yc yt down up set mid mine theirs
+pub takes_answer : (setup : ModelSetup) (from : Role) (sets : Sets) (c : ℕ) (t : Option Transfer) (results : List Result) (lin : Incoming) (y : Follower) (yc : ℕ) (yt : Option Transfer) (down up : List Message) (set mid : ContextSet) (mine theirs : List Saved) → Flow setup from (calm sets c t) lin y yc yt down (AlterAnswer results ∷ up) set mid mine theirs → OnFirst (λ items. Fits items results) sets.own × Flow setup from (calm (answered sets results) c t) lin y yc yt down up set mid mine theirs
 takes_answer setup from sets c t results lin y yc yt down up set mid mine theirs n =
     let a = at-rest setup from (Rest (calm sets c t)) down y (AlterAnswer results ∷ up) n.runs in (
       (answer-rest sets c t results (up ++ a.more) a.last a.rests).0,
@@ -71,7 +71,7 @@ takes_answer setup from sets c t results lin y yc yt down up set mid mine theirs
     )
 
 -- while something is on its way up, no activity begins on its way down
-no-begins : (setup : Setup) (from : Role) (R : Goal) (c k : ℕ) (down : List Message) (y : Follower) (up : List Message) → (AllQuiet up → ⊥) → Down setup from R down y up → Begins c k down
+no-begins : (setup : ModelSetup) (from : Role) (R : Goal) (c k : ℕ) (down : List Message) (y : Follower) (up : List Message) → (AllQuiet up → ⊥) → Down setup from R down y up → Begins c k down
 no-begins setup from R c k [] y up q h = tt
 no-begins setup from R c k (Alter items ∷ d) y up q h = no-begins setup from R c k d (record y { held = altered items (rejections items) y.held }) (up ++ (AlterAnswer (rejections items) ∷ [])) (λ p. q (quiet-part up (AlterAnswer (rejections items) ∷ []) p)) (h.2 (rejections items) (rejections-fit items))
 no-begins setup from R c k (Mark n ∷ d) y up q h = no-begins setup from R c k d (record y { incoming = record y.incoming { pieces = Marked n y.held ∷ y.incoming.pieces } }) (up ++ (MarkAnswer n ∷ [])) (λ p. q (quiet-part up (MarkAnswer n ∷ []) p)) h.2
@@ -111,7 +111,7 @@ mark-rest_by : (sets : Sets) (c : ℕ) (t : Option Transfer) (n : ℕ) (us : Lis
 mark-rest_by sets c None n us z r e = r.0.0.0
 mark-rest_by sets c (Some t) n us z r e = cc
 
-pub takes_mark : (setup : Setup) (from : Role) (sets : Sets) (c : ℕ) (t : Transfer) (n : ℕ) (lin : Incoming) (y : Follower) (yc : ℕ) (yt : Option Transfer) (down up : List Message) (set mid : ContextSet) (mine theirs : List Saved) → Flow setup from (calm sets c (Some t)) lin y yc yt down (MarkAnswer n ∷ up) set mid mine theirs → Confirms t n × Flow setup from (calm sets c (Some (record t { confirmed = n }))) lin y yc yt down up set mid mine theirs
+pub takes_mark : (setup : ModelSetup) (from : Role) (sets : Sets) (c : ℕ) (t : Transfer) (n : ℕ) (lin : Incoming) (y : Follower) (yc : ℕ) (yt : Option Transfer) (down up : List Message) (set mid : ContextSet) (mine theirs : List Saved) → Flow setup from (calm sets c (Some t)) lin y yc yt down (MarkAnswer n ∷ up) set mid mine theirs → Confirms t n × Flow setup from (calm sets c (Some (record t { confirmed = n }))) lin y yc yt down up set mid mine theirs
 takes_mark setup from sets c t m lin y yc yt down up set mid mine theirs n =
     let a = at-rest setup from (Rest (calm sets c (Some t))) down y (MarkAnswer m ∷ up) n.runs in
     let ack = n.acks refl in (
@@ -144,7 +144,7 @@ end-rest sets c t n us z r = go t.progress refl r.0
     go Running e h = absurd h.0.0
     go Ending e h = (e, h.0.1, h.0.2, h.0.3, h.1, h.2, r.1, r.2)
 
-pub takes_end : (setup : Setup) (from : Role) (sets : Sets) (c : ℕ) (t : Transfer) (n : ℕ) (lin : Incoming) (y : Follower) (yc : ℕ) (yt : Option Transfer) (down up : List Message) (set mid : ContextSet) (mine theirs : List Saved) → Flow setup from (calm sets c (Some t)) lin y yc yt down (EndAnswer n ∷ up) set mid mine theirs → ((t.progress ≡ Ending) × (n ≡ suc (highest t.pieces))) × Flow setup from (calm (record sets { held = sets.inter }) c None) lin y yc yt down up set mid mine theirs
+pub takes_end : (setup : ModelSetup) (from : Role) (sets : Sets) (c : ℕ) (t : Transfer) (n : ℕ) (lin : Incoming) (y : Follower) (yc : ℕ) (yt : Option Transfer) (down up : List Message) (set mid : ContextSet) (mine theirs : List Saved) → Flow setup from (calm sets c (Some t)) lin y yc yt down (EndAnswer n ∷ up) set mid mine theirs → ((t.progress ≡ Ending) × (n ≡ suc (highest t.pieces))) × Flow setup from (calm (record sets { held = sets.inter }) c None) lin y yc yt down up set mid mine theirs
 takes_end setup from sets c t m lin y yc yt down up set mid mine theirs n =
     let l : Leader = calm sets c (Some t) in
     let quiet = n.after refl in
@@ -173,7 +173,7 @@ takes_end setup from sets c t m lin y yc yt down up set mid mine theirs n =
     )
 
 -- an interrupt is answered
-pub takes_interrupt_answer : (setup : Setup) (from : Role) (sets : Sets) (c : ℕ) (t : Transfer) (lin : Incoming) (y : Follower) (yc : ℕ) (yt : Option Transfer) (down up : List Message) (set mid : ContextSet) (mine theirs : List Saved) → Flow setup from (record { awaits = InterruptOf; sets = sets; started = c; transfer = Some t }) lin y yc yt down (InterruptAnswer ∷ up) set mid mine theirs → Flow setup from (calm (record { held = sets.inter; inter = sets.inter; own = [] }) c (Some (record t { progress = Suspended }))) lin y yc yt down up set mid mine theirs
+pub takes_interrupt_answer : (setup : ModelSetup) (from : Role) (sets : Sets) (c : ℕ) (t : Transfer) (lin : Incoming) (y : Follower) (yc : ℕ) (yt : Option Transfer) (down up : List Message) (set mid : ContextSet) (mine theirs : List Saved) → Flow setup from (record { awaits = InterruptOf; sets = sets; started = c; transfer = Some t }) lin y yc yt down (InterruptAnswer ∷ up) set mid mine theirs → Flow setup from (calm (record { held = sets.inter; inter = sets.inter; own = [] }) c (Some (record t { progress = Suspended }))) lin y yc yt down up set mid mine theirs
 takes_interrupt_answer setup from sets c t lin y yc yt down up set mid mine theirs n =
     let l : Leader = record { awaits = InterruptOf; sets = sets; started = c; transfer = Some t } in
     let quiet = n.after refl in
@@ -216,7 +216,7 @@ takes_interrupt_answer setup from sets c t lin y yc yt down up set mid mine thei
     quiet-none (m ∷ xs) q = quiet-none xs q.1
 
 -- a discard is answered
-pub takes_discard_answer : (setup : Setup) (from : Role) (sets : Sets) (c : ℕ) (t : Transfer) (lin : Incoming) (y : Follower) (yc : ℕ) (yt : Option Transfer) (down up : List Message) (set mid : ContextSet) (mine theirs : List Saved) → Flow setup from (record { awaits = DiscardOf; sets = sets; started = c; transfer = Some t }) lin y yc yt down (DiscardAnswer ∷ up) set mid mine theirs → Flow setup from (calm (record { held = sets.inter; inter = sets.inter; own = [] }) c None) lin y yc yt down up set mid mine theirs
+pub takes_discard_answer : (setup : ModelSetup) (from : Role) (sets : Sets) (c : ℕ) (t : Transfer) (lin : Incoming) (y : Follower) (yc : ℕ) (yt : Option Transfer) (down up : List Message) (set mid : ContextSet) (mine theirs : List Saved) → Flow setup from (record { awaits = DiscardOf; sets = sets; started = c; transfer = Some t }) lin y yc yt down (DiscardAnswer ∷ up) set mid mine theirs → Flow setup from (calm (record { held = sets.inter; inter = sets.inter; own = [] }) c None) lin y yc yt down up set mid mine theirs
 takes_discard_answer setup from sets c t lin y yc yt down up set mid mine theirs n =
     let l : Leader = record { awaits = DiscardOf; sets = sets; started = c; transfer = Some t } in
     let quiet = n.after refl in
@@ -280,7 +280,7 @@ shared-please InterruptOf sets p up set h = h
 shared-please DiscardOf sets p up set h = h
 shared-please ReleaseOf sets p up set h = h
 
-pub takes_please : (setup : Setup) (from : Role) (l : Leader) (p : ℕ) (lin : Incoming) (y : Follower) (yc : ℕ) (yt : Option Transfer) (down up : List Message) (set mid : ContextSet) (mine theirs : List Saved) → Flow setup from l lin y yc yt down (Please p ∷ up) set mid mine theirs → Flow setup from l lin y yc yt down up set mid mine theirs
+pub takes_please : (setup : ModelSetup) (from : Role) (l : Leader) (p : ℕ) (lin : Incoming) (y : Follower) (yc : ℕ) (yt : Option Transfer) (down up : List Message) (set mid : ContextSet) (mine theirs : List Saved) → Flow setup from l lin y yc yt down (Please p ∷ up) set mid mine theirs → Flow setup from l lin y yc yt down up set mid mine theirs
 takes_please setup from l p lin y yc yt down up set mid mine theirs n =
     record {
       runs = down-taken setup from (Rest l) (Rest l) (Please p) down y up (λ held i q. q) (please-rest l p) n.runs;
@@ -331,7 +331,7 @@ passable role w d inter UserAbort us there (inl e) k h = absurd (true≢false (s
 passable role w d inter UserAbort us there (inr e) k h = absurd (true≢false (sym (subst (λ x. is_purged role x UserAbort ≡ true) e.0 k)))
 passable role w d inter u us there e k h = absurd h
 
-pub passes_interrupting : (setup : Setup) (from : Role) (sets : Sets) (c : ℕ) (t : Option Transfer) (u : Message) (lin : Incoming) (y : Follower) (yc : ℕ) (yt : Option Transfer) (down up : List Message) (set mid : ContextSet) (mine theirs : List Saved) → is_purged from InterruptOf u ≡ true → Flow setup from (record { awaits = InterruptOf; sets = sets; started = c; transfer = t }) lin y yc yt down (u ∷ up) set mid mine theirs → Flow setup from (record { awaits = InterruptOf; sets = sets; started = c; transfer = t }) lin y yc yt down up set mid mine theirs
+pub passes_interrupting : (setup : ModelSetup) (from : Role) (sets : Sets) (c : ℕ) (t : Option Transfer) (u : Message) (lin : Incoming) (y : Follower) (yc : ℕ) (yt : Option Transfer) (down up : List Message) (set mid : ContextSet) (mine theirs : List Saved) → is_purged from InterruptOf u ≡ true → Flow setup from (record { awaits = InterruptOf; sets = sets; started = c; transfer = t }) lin y yc yt down (u ∷ up) set mid mine theirs → Flow setup from (record { awaits = InterruptOf; sets = sets; started = c; transfer = t }) lin y yc yt down up set mid mine theirs
 passes_interrupting setup from sets c None u lin y yc yt down up set mid mine theirs k n =
     absurd (at-rest setup from (Rest (record { awaits = InterruptOf; sets = sets; started = c; transfer = None })) down y (u ∷ up) n.runs).rests.0
 passes_interrupting setup from sets c (Some t) u lin y yc yt down up set mid mine theirs k n =
@@ -357,7 +357,7 @@ passes_interrupting setup from sets c (Some t) u lin y yc yt down up set mid min
       sets = λ e. n.sets (f ∙ e);
     }
 
-pub passes_discarding : (setup : Setup) (from : Role) (sets : Sets) (c : ℕ) (t : Option Transfer) (u : Message) (lin : Incoming) (y : Follower) (yc : ℕ) (yt : Option Transfer) (down up : List Message) (set mid : ContextSet) (mine theirs : List Saved) → is_purged from DiscardOf u ≡ true → Flow setup from (record { awaits = DiscardOf; sets = sets; started = c; transfer = t }) lin y yc yt down (u ∷ up) set mid mine theirs → Flow setup from (record { awaits = DiscardOf; sets = sets; started = c; transfer = t }) lin y yc yt down up set mid mine theirs
+pub passes_discarding : (setup : ModelSetup) (from : Role) (sets : Sets) (c : ℕ) (t : Option Transfer) (u : Message) (lin : Incoming) (y : Follower) (yc : ℕ) (yt : Option Transfer) (down up : List Message) (set mid : ContextSet) (mine theirs : List Saved) → is_purged from DiscardOf u ≡ true → Flow setup from (record { awaits = DiscardOf; sets = sets; started = c; transfer = t }) lin y yc yt down (u ∷ up) set mid mine theirs → Flow setup from (record { awaits = DiscardOf; sets = sets; started = c; transfer = t }) lin y yc yt down up set mid mine theirs
 passes_discarding setup from sets c None u lin y yc yt down up set mid mine theirs k n =
     absurd (at-rest setup from (Rest (record { awaits = DiscardOf; sets = sets; started = c; transfer = None })) down y (u ∷ up) n.runs).rests.0
 passes_discarding setup from sets c (Some t) u lin y yc yt down up set mid mine theirs k n =

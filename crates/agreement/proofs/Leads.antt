@@ -4,7 +4,7 @@ use Rattle.std.specs.Prelude.{Option, Some, None}
 use Rattle.std.proofs.lemmas.Bool.Decides.{nat_tests}
 use Rattle.agreement.specs.Sets.{Role, ContextSet, Item, Result, Fits, altered, AreDistinct, identifier_of, identifiers, named, lookup, Saved}
 use Rattle.agreement.specs.Sets.Role.{Initiator}
-use Rattle.agreement.specs.Messages.{Value, Setup, Message}
+use Rattle.agreement.specs.Messages.{Value, ModelSetup, Message}
 use Rattle.agreement.specs.Messages.Message.{Alter, AlterAnswer, Mark, MarkAnswer, Start, Resume, Chunk, End, EndAnswer, Interrupt, InterruptAnswer, Discard, DiscardAnswer, Please, Release, UserAbort}
 use Rattle.agreement.specs.State.{Piece, Progress, Handed, Transfer, Incoming, Sets, up_to, highest, joined, newest_set}
 use Rattle.agreement.specs.State.Awaited.{NoAnswer, InterruptOf, DiscardOf}
@@ -143,10 +143,10 @@ acks-mark c m s p i (MarkAnswer n ∷ up) e a = (a.0, agrees-mark n m s p i.piec
 acks-mark c m s p i (x ∷ up) e a = acks-mark c m s p i up e a
 
 Parts : Type 1
-Parts = Setup → Role → Leader → Incoming → Follower → ℕ → Option Transfer → List Message → List Message → ContextSet → ContextSet → List Saved → List Saved → Type 0
+Parts = ModelSetup → Role → Leader → Incoming → Follower → ℕ → Option Transfer → List Message → List Message → ContextSet → ContextSet → List Saved → List Saved → Type 0
 
 -- the leader holds the shared set where it has no own alteration and runs or rests
-pub shared-held : (setup : Setup) (from : Role) (w : Option Transfer) (held inter : ContextSet) (c : ℕ) (lin : Incoming) (y : Follower) (yc : ℕ) (yt : Option Transfer) (down up : List Message) (set mid : ContextSet) (mine theirs : List Saved) → IsOpen NoAnswer w → Flow setup from (record { awaits = NoAnswer; sets = record { held = held; inter = inter; own = [] }; started = c; transfer = w }) lin y yc yt down up set mid mine theirs → set ≡ held
+pub shared-held : (setup : ModelSetup) (from : Role) (w : Option Transfer) (held inter : ContextSet) (c : ℕ) (lin : Incoming) (y : Follower) (yc : ℕ) (yt : Option Transfer) (down up : List Message) (set mid : ContextSet) (mine theirs : List Saved) → IsOpen NoAnswer w → Flow setup from (record { awaits = NoAnswer; sets = record { held = held; inter = inter; own = [] }; started = c; transfer = w }) lin y yc yt down up set mid mine theirs → set ≡ held
 shared-held setup from w held inter c lin y yc yt down up set mid mine theirs o n =
     n.sets ∙ after-part held inter up [] (open-no_final setup from (record { awaits = NoAnswer; sets = record { held = held; inter = inter; own = [] }; started = c; transfer = w }) down y up o n.runs) (unanswered-none up)
 
@@ -157,7 +157,7 @@ none-final : (b : Bool) (A : Type 0) → b ≡ false → b ≡ true → A
 none-final b A f t = absurd (true≢false (sym t ∙ f))
 
 -- a part of the transfer is sent
-pub sends_chunk : (setup : Setup) (from : Role) (sets : Sets) (c : ℕ) (t : Transfer) (v : Value) (o : List ℕ) (lin : Incoming) (y : Follower) (yc : ℕ) (yt : Option Transfer) (down up : List Message) (set mid : ContextSet) (mine theirs : List Saved) → length (joined t.pieces ++ o) ≤ setup.most_octets → Flow setup from (going sets c (record t { value = Some v })) lin y yc yt down up set mid mine theirs → Flow setup from (going sets c (record t { value = Some v; pieces = Octets o ∷ t.pieces })) lin y yc yt (down ++ (Chunk o ∷ [])) up set mid mine theirs
+pub sends_chunk : (setup : ModelSetup) (from : Role) (sets : Sets) (c : ℕ) (t : Transfer) (v : Value) (o : List ℕ) (lin : Incoming) (y : Follower) (yc : ℕ) (yt : Option Transfer) (down up : List Message) (set mid : ContextSet) (mine theirs : List Saved) → length (joined t.pieces ++ o) ≤ setup.most_octets → Flow setup from (going sets c (record t { value = Some v })) lin y yc yt down up set mid mine theirs → Flow setup from (going sets c (record t { value = Some v; pieces = Octets o ∷ t.pieces })) lin y yc yt (down ++ (Chunk o ∷ [])) up set mid mine theirs
 sends_chunk setup from sets c t v o lin y yc yt down up set mid mine theirs within n =
     record {
       runs =
@@ -184,7 +184,7 @@ sends_chunk setup from sets c t v o lin y yc yt down up set mid mine theirs with
     pair (inr h) = inr h
 
 -- a mark is sent
-pub sends_mark : (setup : Setup) (from : Role) (held inter : ContextSet) (c : ℕ) (t : Transfer) (v : Value) (lin : Incoming) (y : Follower) (yc : ℕ) (yt : Option Transfer) (down up : List Message) (set mid : ContextSet) (mine theirs : List Saved) → suc (highest t.pieces) ≤ setup.most_marks → Flow setup from (going (record { held = held; inter = inter; own = [] }) c (record t { value = Some v })) lin y yc yt down up set mid mine theirs → Flow setup from (going (record { held = held; inter = inter; own = [] }) c (record t { value = Some v; pieces = Marked (suc (highest t.pieces)) held ∷ t.pieces })) lin y yc yt (down ++ (Mark (suc (highest t.pieces)) ∷ [])) up set mid (record { number = suc (highest t.pieces); set = set } ∷ mine) theirs
+pub sends_mark : (setup : ModelSetup) (from : Role) (held inter : ContextSet) (c : ℕ) (t : Transfer) (v : Value) (lin : Incoming) (y : Follower) (yc : ℕ) (yt : Option Transfer) (down up : List Message) (set mid : ContextSet) (mine theirs : List Saved) → suc (highest t.pieces) ≤ setup.most_marks → Flow setup from (going (record { held = held; inter = inter; own = [] }) c (record t { value = Some v })) lin y yc yt down up set mid mine theirs → Flow setup from (going (record { held = held; inter = inter; own = [] }) c (record t { value = Some v; pieces = Marked (suc (highest t.pieces)) held ∷ t.pieces })) lin y yc yt (down ++ (Mark (suc (highest t.pieces)) ∷ [])) up set mid (record { number = suc (highest t.pieces); set = set } ∷ mine) theirs
 sends_mark setup from held inter c t v lin y yc yt down up set mid mine theirs within n =
     record {
       runs =
@@ -233,7 +233,7 @@ sends_mark setup from held inter c t v lin y yc yt down up set mid mine theirs w
     pair (inr h) = inr h
 
 -- the next item becomes the current transfer
-pub starts : (setup : Setup) (from : Role) (held inter : ContextSet) (c : ℕ) (item : Handed) (lin : Incoming) (y : Follower) (yc : ℕ) (yt : Option Transfer) (down up : List Message) (set mid : ContextSet) (mine theirs : List Saved) → Flow setup from (resting (record { held = held; inter = inter; own = [] }) c) lin y yc yt down up set mid mine theirs → Flow setup from (going (record { held = held; inter = held; own = [] }) (suc c) (record { item = item; value = None; pieces = []; confirmed = 0; progress = Running })) lin y yc yt (down ++ (Start (suc c) ∷ [])) up set set [] theirs
+pub starts : (setup : ModelSetup) (from : Role) (held inter : ContextSet) (c : ℕ) (item : Handed) (lin : Incoming) (y : Follower) (yc : ℕ) (yt : Option Transfer) (down up : List Message) (set mid : ContextSet) (mine theirs : List Saved) → Flow setup from (resting (record { held = held; inter = inter; own = [] }) c) lin y yc yt down up set mid mine theirs → Flow setup from (going (record { held = held; inter = held; own = [] }) (suc c) (record { item = item; value = None; pieces = []; confirmed = 0; progress = Running })) lin y yc yt (down ++ (Start (suc c) ∷ [])) up set set [] theirs
 starts setup from held inter c item lin y yc yt down up set mid mine theirs n =
     let l : Leader = resting (record { held = held; inter = inter; own = [] }) c in
     let k : Leader = going (record { held = held; inter = held; own = [] }) (suc c) (record { item = item; value = None; pieces = []; confirmed = 0; progress = Running }) in
@@ -267,7 +267,7 @@ starts setup from held inter c item lin y yc yt down up set mid mine theirs n =
     zero-least = omega arith
 
 -- the item is encoded
-pub encodes : (setup : Setup) (from : Role) (held inter : ContextSet) (c : ℕ) (t : Transfer) (v : Value) (lin : Incoming) (y : Follower) (yc : ℕ) (yt : Option Transfer) (down up : List Message) (set mid : ContextSet) (mine theirs : List Saved) → lookup held v.identifier ≡ Some v.pair → setup.codec.may_write v ≡ true → Flow setup from (going (record { held = held; inter = inter; own = [] }) c (record t { value = None })) lin y yc yt down up set mid mine theirs → Flow setup from (going (record { held = held; inter = inter; own = [] }) c (record t { value = Some v })) lin y yc yt down up set mid mine theirs
+pub encodes : (setup : ModelSetup) (from : Role) (held inter : ContextSet) (c : ℕ) (t : Transfer) (v : Value) (lin : Incoming) (y : Follower) (yc : ℕ) (yt : Option Transfer) (down up : List Message) (set mid : ContextSet) (mine theirs : List Saved) → lookup held v.identifier ≡ Some v.pair → setup.codec.may_write v ≡ true → Flow setup from (going (record { held = held; inter = inter; own = [] }) c (record t { value = None })) lin y yc yt down up set mid mine theirs → Flow setup from (going (record { held = held; inter = inter; own = [] }) c (record t { value = Some v })) lin y yc yt down up set mid mine theirs
 encodes setup from held inter c t v lin y yc yt down up set mid mine theirs h w n =
     record {
       runs =
@@ -294,7 +294,7 @@ encodes setup from held inter c t v lin y yc yt down up set mid mine theirs h w 
     pair (inr h) = inr h
 
 -- the whole transfer is sent
-pub sends_end : (setup : Setup) (from : Role) (held inter : ContextSet) (c : ℕ) (t : Transfer) (v : Value) (lin : Incoming) (y : Follower) (yc : ℕ) (yt : Option Transfer) (down up : List Message) (set mid : ContextSet) (mine theirs : List Saved) → joined t.pieces ≡ setup.codec.written v → Flow setup from (going (record { held = held; inter = inter; own = [] }) c (record t { value = Some v })) lin y yc yt down up set mid mine theirs → Flow setup from (record { awaits = NoAnswer; sets = record { held = held; inter = inter; own = [] }; started = c; transfer = Some (record t { value = Some v; progress = Ending }) }) lin y yc yt (down ++ (End (suc (highest t.pieces)) ∷ [])) up set mid mine theirs
+pub sends_end : (setup : ModelSetup) (from : Role) (held inter : ContextSet) (c : ℕ) (t : Transfer) (v : Value) (lin : Incoming) (y : Follower) (yc : ℕ) (yt : Option Transfer) (down up : List Message) (set mid : ContextSet) (mine theirs : List Saved) → joined t.pieces ≡ setup.codec.written v → Flow setup from (going (record { held = held; inter = inter; own = [] }) c (record t { value = Some v })) lin y yc yt down up set mid mine theirs → Flow setup from (record { awaits = NoAnswer; sets = record { held = held; inter = inter; own = [] }; started = c; transfer = Some (record t { value = Some v; progress = Ending }) }) lin y yc yt (down ++ (End (suc (highest t.pieces)) ∷ [])) up set mid mine theirs
 sends_end setup from held inter c t v lin y yc yt down up set mid mine theirs whole n =
     record {
       runs =
@@ -337,7 +337,7 @@ sends_end setup from held inter c t v lin y yc yt down up set mid mine theirs wh
     reads there incoming same p = (subst (λ s. lookup s v.identifier ≡ Some v.pair) same n.value.0, ap joined p ∙ whole, n.saved.3.0)
 
 -- an interrupt, a discard
-pub sends_interrupt : (setup : Setup) (from : Role) (sets : Sets) (c : ℕ) (t : Transfer) (lin : Incoming) (y : Follower) (yc : ℕ) (yt : Option Transfer) (down up : List Message) (set mid : ContextSet) (mine theirs : List Saved) → Flow setup from (going sets c t) lin y yc yt down up set mid mine theirs → Flow setup from (record { awaits = InterruptOf; sets = sets; started = c; transfer = Some (record t { progress = Running }) }) lin y yc yt (down ++ (Interrupt ∷ [])) up set mid mine theirs
+pub sends_interrupt : (setup : ModelSetup) (from : Role) (sets : Sets) (c : ℕ) (t : Transfer) (lin : Incoming) (y : Follower) (yc : ℕ) (yt : Option Transfer) (down up : List Message) (set mid : ContextSet) (mine theirs : List Saved) → Flow setup from (going sets c t) lin y yc yt down up set mid mine theirs → Flow setup from (record { awaits = InterruptOf; sets = sets; started = c; transfer = Some (record t { progress = Running }) }) lin y yc yt (down ++ (Interrupt ∷ [])) up set mid mine theirs
 sends_interrupt setup from sets c t lin y yc yt down up set mid mine theirs n =
     let none = open-no_final setup from (going sets c t) down y up not-ending n.runs in
     record {
@@ -366,7 +366,7 @@ begins-zero c k (Start j ∷ down) b = (b.0, begins-zero c k down b.1)
 begins-zero c k (Resume j n ∷ down) b = (b.0, inr refl, begins-zero c k down b.2)
 begins-zero c k (m ∷ down) b = begins-zero c k down b
 
-pub sends_discard : (setup : Setup) (from : Role) (sets : Sets) (c : ℕ) (t : Transfer) (lin : Incoming) (y : Follower) (yc : ℕ) (yt : Option Transfer) (down up : List Message) (set mid : ContextSet) (mine theirs : List Saved) → Flow setup from (going sets c t) lin y yc yt down up set mid mine theirs → Flow setup from (record { awaits = DiscardOf; sets = sets; started = c; transfer = Some (record t { confirmed = 0; progress = Running }) }) lin y yc yt (down ++ (Discard ∷ [])) up set mid mine theirs
+pub sends_discard : (setup : ModelSetup) (from : Role) (sets : Sets) (c : ℕ) (t : Transfer) (lin : Incoming) (y : Follower) (yc : ℕ) (yt : Option Transfer) (down up : List Message) (set mid : ContextSet) (mine theirs : List Saved) → Flow setup from (going sets c t) lin y yc yt down up set mid mine theirs → Flow setup from (record { awaits = DiscardOf; sets = sets; started = c; transfer = Some (record t { confirmed = 0; progress = Running }) }) lin y yc yt (down ++ (Discard ∷ [])) up set mid mine theirs
 sends_discard setup from sets c t lin y yc yt down up set mid mine theirs n =
     let none = open-no_final setup from (going sets c t) down y up not-ending n.runs in
     record {
@@ -404,7 +404,7 @@ pub resumed-next : (c : ℕ) (incoming : Incoming) → suc incoming.last ≡ c �
 resumed-next c incoming e = grind (arith, nat_tests)
 
 -- a suspended transfer is resumed from its confirmed mark
-pub resumes : (setup : Setup) (from : Role) (held inter : ContextSet) (c : ℕ) (t : Transfer) (lin : Incoming) (y : Follower) (yc : ℕ) (yt : Option Transfer) (down up : List Message) (set mid : ContextSet) (mine theirs : List Saved) → (n : ℕ) → t.confirmed ≡ n → (moved : ContextSet) → moved ≡ resumed_set n t.pieces set → (kept : List Saved) → kept ≡ saved_in (up_to n t.pieces) → Flow setup from (suspended (record { held = held; inter = inter; own = [] }) c t) lin y yc yt down up set mid mine theirs → Flow setup from (going (record { held = resumed_set n t.pieces held; inter = held; own = [] }) c (record t { value = resumed_value n t.value; pieces = up_to n t.pieces })) lin y yc yt (down ++ (Resume c n ∷ [])) up moved set kept theirs
+pub resumes : (setup : ModelSetup) (from : Role) (held inter : ContextSet) (c : ℕ) (t : Transfer) (lin : Incoming) (y : Follower) (yc : ℕ) (yt : Option Transfer) (down up : List Message) (set mid : ContextSet) (mine theirs : List Saved) → (n : ℕ) → t.confirmed ≡ n → (moved : ContextSet) → moved ≡ resumed_set n t.pieces set → (kept : List Saved) → kept ≡ saved_in (up_to n t.pieces) → Flow setup from (suspended (record { held = held; inter = inter; own = [] }) c t) lin y yc yt down up set mid mine theirs → Flow setup from (going (record { held = resumed_set n t.pieces held; inter = held; own = [] }) c (record t { value = resumed_value n t.value; pieces = up_to n t.pieces })) lin y yc yt (down ++ (Resume c n ∷ [])) up moved set kept theirs
 resumes setup from held inter c t lin y yc yt down up set mid mine theirs j e moved em kept ek n =
     let flat = n.idle refl in
     let a = at-rest setup from (Rest l) down y up n.runs in
@@ -552,7 +552,7 @@ alters-part (Some t) c held inter own items up more z o r = go t.progress o r.0
     go Running o h = more_part Going t.confirmed (highest t.pieces) own held inter up more z.held items (λ x. x) h.0
     go Ending o h = absurd (o refl)
 
-alters-push : (setup : Setup) (from : Role) (t : Option Transfer) (c : ℕ) (held inter : ContextSet) (own : List (List Item)) (items : List Item) (down : List Message) (y : Follower) (up : List Message) → IsOpen NoAnswer t → AreUntouched items own → AreSound from held items → AreDistinct (identifiers items) → (RestsNow NoAnswer t → AllFlat down) → Down setup from (Rest (asking t c held inter own)) down y up → Down setup from (Rest (asking t c held inter (own ++ (items ∷ [])))) (down ++ (Alter items ∷ [])) y up
+alters-push : (setup : ModelSetup) (from : Role) (t : Option Transfer) (c : ℕ) (held inter : ContextSet) (own : List (List Item)) (items : List Item) (down : List Message) (y : Follower) (up : List Message) → IsOpen NoAnswer t → AreUntouched items own → AreSound from held items → AreDistinct (identifiers items) → (RestsNow NoAnswer t → AllFlat down) → Down setup from (Rest (asking t c held inter own)) down y up → Down setup from (Rest (asking t c held inter (own ++ (items ∷ [])))) (down ++ (Alter items ∷ [])) y up
 alters-push setup from t c held inter own items down y up o u s d flat h = go t o flat h
   where
     enters : (t : Option Transfer) → IsOpen NoAnswer t → (us : List Message) (z : Follower) → RestOf (asking t c held inter own) us z → Down setup from (Rest (asking t c held inter (own ++ (items ∷ [])))) (Alter items ∷ []) z us
@@ -571,7 +571,7 @@ alters-push setup from t c held inter own items down y up o u s d flat h = go t 
         by_progress Running o flat h = push-in setup from (Rest (asking (Some (record t { progress = Running })) c held inter own)) (Rest (asking (Some (record t { progress = Running })) c held inter (own ++ (items ∷ [])))) (Alter items) down y up (λ us z r. r.0.1) (enters (Some (record t { progress = Running })) (λ x. cc)) h
         by_progress Ending o flat h = absurd (o refl)
 
-pub alters : (setup : Setup) (from : Role) (held inter : ContextSet) (own : List (List Item)) (c : ℕ) (t : Option Transfer) (items : List Item) (lin : Incoming) (y : Follower) (yc : ℕ) (yt : Option Transfer) (down up : List Message) (set mid : ContextSet) (mine theirs : List Saved) → IsOpen NoAnswer t → AreSound from held items → AreDistinct (named (own ++ (items ∷ []))) → RunsValue NoAnswer t (record { held = held; inter = inter; own = own ++ (items ∷ []) }) → Flow setup from (asking t c held inter own) lin y yc yt down up set mid mine theirs → Flow setup from (asking t c held inter (own ++ (items ∷ []))) lin y yc yt (down ++ (Alter items ∷ [])) up set mid mine theirs
+pub alters : (setup : ModelSetup) (from : Role) (held inter : ContextSet) (own : List (List Item)) (c : ℕ) (t : Option Transfer) (items : List Item) (lin : Incoming) (y : Follower) (yc : ℕ) (yt : Option Transfer) (down up : List Message) (set mid : ContextSet) (mine theirs : List Saved) → IsOpen NoAnswer t → AreSound from held items → AreDistinct (named (own ++ (items ∷ []))) → RunsValue NoAnswer t (record { held = held; inter = inter; own = own ++ (items ∷ []) }) → Flow setup from (asking t c held inter own) lin y yc yt down up set mid mine theirs → Flow setup from (asking t c held inter (own ++ (items ∷ []))) lin y yc yt (down ++ (Alter items ∷ [])) up set mid mine theirs
 alters setup from held inter own c t items lin y yc yt down up set mid mine theirs o s once v n =
     let none = open-no_final setup from (asking t c held inter own) down y up o n.runs in
     let a = at-rest setup from (Rest (asking t c held inter own)) down y up n.runs in
@@ -595,7 +595,7 @@ alters setup from held inter own c t items lin y yc yt down up set mid mine thei
     }
 
 -- an abort of the leader, or its release
-pub sends_abort : (setup : Setup) (from : Role) (l : Leader) (lin : Incoming) (y : Follower) (yc : ℕ) (yt : Option Transfer) (down up : List Message) (set mid : ContextSet) (mine theirs : List Saved) → Flow setup from l lin y yc yt down up set mid mine theirs → Flow setup from l lin y yc yt (down ++ (UserAbort ∷ [])) up set mid mine theirs
+pub sends_abort : (setup : ModelSetup) (from : Role) (l : Leader) (lin : Incoming) (y : Follower) (yc : ℕ) (yt : Option Transfer) (down up : List Message) (set mid : ContextSet) (mine theirs : List Saved) → Flow setup from l lin y yc yt down up set mid mine theirs → Flow setup from l lin y yc yt (down ++ (UserAbort ∷ [])) up set mid mine theirs
 sends_abort setup from l lin y yc yt down up set mid mine theirs n =
     record {
       runs = push-quiet setup from (Rest l) UserAbort down y up tt n.runs;
@@ -615,7 +615,7 @@ sends_abort setup from l lin y yc yt down up set mid mine theirs n =
       sets = n.sets;
     }
 
-pub sends_release : (setup : Setup) (from : Role) (held inter : ContextSet) (c : ℕ) (lin : Incoming) (y : Follower) (yc : ℕ) (yt : Option Transfer) (down up : List Message) (set mid : ContextSet) (mine theirs : List Saved) → from ≡ Initiator → Flow setup from (asking None c held inter []) lin y yc yt down up set mid mine theirs → Flow setup from (asking None c held inter []) lin y yc yt (down ++ (Release ∷ [])) up set mid mine theirs
+pub sends_release : (setup : ModelSetup) (from : Role) (held inter : ContextSet) (c : ℕ) (lin : Incoming) (y : Follower) (yc : ℕ) (yt : Option Transfer) (down up : List Message) (set mid : ContextSet) (mine theirs : List Saved) → from ≡ Initiator → Flow setup from (asking None c held inter []) lin y yc yt down up set mid mine theirs → Flow setup from (asking None c held inter []) lin y yc yt (down ++ (Release ∷ [])) up set mid mine theirs
 sends_release setup from held inter c lin y yc yt down up set mid mine theirs i n =
     record {
       runs = push-flat setup from (Rest (asking None c held inter [])) (Rest (asking None c held inter [])) Release down y up (n.idle tt) (λ us z r. (i, r.0.1, r)) n.runs;

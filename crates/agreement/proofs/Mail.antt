@@ -3,7 +3,7 @@ use Rattle.std.proofs.Common.{◌≡◌, List, [], ◌∷◌, ◌++◌, refl, sy
 use Rattle.std.specs.Prelude.{Option, Some, None}
 use Rattle.agreement.specs.Sets.{Role}
 use Rattle.agreement.specs.Sets.Role.{Initiator, Responder}
-use Rattle.agreement.specs.Messages.{Mode, Setup, Message, Choice}
+use Rattle.agreement.specs.Messages.{Mode, ModelSetup, Message, Choice}
 use Rattle.agreement.specs.Messages.Mode.{Bare, Direct, Reliable}
 use Rattle.agreement.specs.State.{State}
 use Rattle.agreement.specs.Worlds.{Step, World, state_of, Sending, flight_to, taken_off, sent_by_step, pair_under, IsStep, IsRun}
@@ -17,7 +17,7 @@ SamePair state [] message = ⊥
 SamePair state (s ∷ flight) message = pair_under state.sets.held message ≡ pair_under s.shared message
 
 -- every taking in this setup is of the pair of the sending
-abbrev pub TakesItsPair : Setup → Type 0
+abbrev pub TakesItsPair : ModelSetup → Type 0
 TakesItsPair setup = (world : World) (role : Role) (message : Message) (choice : Choice) → IsRun setup (By role (Takes message choice) ∷ world) → SamePair (state_of setup role world) (flight_to setup role world) message
 
 -- what was read, and what is still to come, is what was sent
@@ -65,11 +65,11 @@ nil-append_of : (xs : List (Option Mail)) → xs ++ [] ≡ xs
 nil-append_of [] = refl
 nil-append_of (x ∷ xs) = ap (λ ys. x ∷ ys) (nil-append_of xs)
 
-Tracks : Setup → Role → World → Type 0
+Tracks : ModelSetup → Role → World → Type 0
 Tracks setup role world = Follows (readings setup role world) (mail_to setup role world) (mails (flight_to setup role world))
 
 -- a step of the end itself, and one of its peer
-own-step : (setup : Setup) (role : Role) (step : Step) (x : State) (rs : List (Option Mail)) (all : List Mail) (flight : List Sending) → IsStep setup role x flight step → (IsTaking : (m : Message) (c : Choice) → step ≡ Takes m c → SamePair x flight m) → Follows rs all (mails flight) → Follows (rs ++ read_in x step) all (mails (taken_off step flight))
+own-step : (setup : ModelSetup) (role : Role) (step : Step) (x : State) (rs : List (Option Mail)) (all : List Mail) (flight : List Sending) → IsStep setup role x flight step → (IsTaking : (m : Message) (c : Choice) → step ≡ Takes m c → SamePair x flight m) → Follows rs all (mails flight) → Follows (rs ++ read_in x step) all (mails (taken_off step flight))
 unfolding Follows
 own-step setup role (Acts act) x rs all flight h t f = subst (λ qs. Follows qs all (mails flight)) (sym (nil-append_of rs)) f
 own-step setup role (Takes m c) x rs all [] h t f = absurd h.comes
@@ -83,7 +83,7 @@ own-step setup role (Passes m) x rs all (s ∷ flight) h t f =
 peer-step : (rs : List (Option Mail)) (all : List Mail) (flight new : List Sending) → Follows rs all (mails flight) → Follows rs (all ++ mails new) (mails (flight ++ new))
 peer-step rs all flight new f = subst (λ xs. Follows rs (all ++ mails new) xs) (sym (mails-append flight new)) (follows-sent rs all (mails flight) (mails new) f)
 
-tracks : (setup : Setup) → TakesItsPair setup → (world : World) → IsRun setup world → (role : Role) → Tracks setup role world
+tracks : (setup : ModelSetup) → TakesItsPair setup → (world : World) → IsRun setup world → (role : Role) → Tracks setup role world
 unfolding Tracks Follows
 tracks setup t [] h role = refl
 tracks setup t (Break ∷ world) h role = refl
@@ -98,12 +98,12 @@ tracks setup t (By Initiator step ∷ world) h Responder =
 tracks setup t (By Responder step ∷ world) h Initiator =
     peer-step (readings setup Initiator world) (mail_to setup Initiator world) (flight_to setup Initiator world) (sent_by_step setup Responder world step) (tracks setup t world h.1 Initiator)
 
-pub taken-as_sent : (setup : Setup) → TakesItsPair setup → TakenAsSent setup
+pub taken-as_sent : (setup : ModelSetup) → TakesItsPair setup → TakenAsSent setup
 unfolding Tracks
 taken-as_sent setup t world h role = as-sent (readings setup role world) (mail_to setup role world) (mails (flight_to setup role world)) (tracks setup t world h role)
 
 -- what holds in each mode holds
-pub by-mode : (P : Setup → Type 0) → ((setup : Setup) → P (record setup { mode = Bare })) → ((setup : Setup) → P (record setup { mode = Direct })) → ((setup : Setup) → P (record setup { mode = Reliable })) → (setup : Setup) → P setup
+pub by-mode : (P : ModelSetup → Type 0) → ((setup : ModelSetup) → P (record setup { mode = Bare })) → ((setup : ModelSetup) → P (record setup { mode = Direct })) → ((setup : ModelSetup) → P (record setup { mode = Reliable })) → (setup : ModelSetup) → P setup
 by-mode P b d r setup = go setup.mode refl
   where
     go : (m : Mode) → setup.mode ≡ m → P setup

@@ -3,7 +3,7 @@ use Rattle.std.proofs.Common.{◌≡◌, ℕ, ◌≤◌, true, false, List, [], 
 use Rattle.std.specs.Prelude.{Option, Some, None}
 use Rattle.agreement.specs.Sets.{Role, other, ContextSet, Item}
 use Rattle.agreement.specs.Sets.Role.{Initiator, Responder}
-use Rattle.agreement.specs.Messages.{Apdu, Value, Mode, Setup, Message, Act, Choice, Calls}
+use Rattle.agreement.specs.Messages.{Apdu, Value, Mode, ModelSetup, Message, Act, Choice, Calls}
 use Rattle.agreement.specs.Messages.Mode.{Bare, Direct, Reliable}
 use Rattle.agreement.specs.Messages.Apdu.{Invoke, Outcome, Reject}
 use Rattle.agreement.specs.Messages.Act.{Connects, Recovers, SaysValue, Queues, Drops, Alters, Marks, GivesTurn, Pleads, Restarts, Starts, Encodes, Sends, EndsActivity, Interrupts, Discards, Resumes, Releases, Aborts, Withdraws, TransportFails}
@@ -21,7 +21,7 @@ use Rattle.agreement.specs.Laws.{NoAbortOfItself, invocation_in, invoked_after, 
 use Rattle.agreement.proofs.Rising.{newest_of, rises-weaker, rises-top, Once, once-skip, once-heard, once-handed, made-heard, number_in, numbers_in, numbers-append}
 
 -- taking makes no invocation, but for an opening, where none was made before
-made-hears : (setup : Setup) (v : Option Value) (x : State) → (hears setup v x).calls.made ≡ x.calls.made
+made-hears : (setup : ModelSetup) (v : Option Value) (x : State) → (hears setup v x).calls.made ≡ x.calls.made
 made-hears setup None x = refl
 made-hears setup (Some v) x = made-heard setup x.calls v.identifier v.apdu
 
@@ -34,25 +34,25 @@ made-cut (Some t) calls = go t.item.apdu
     go (Outcome number content) = refl
     go (Reject number b) = refl
 
-made-opened : (setup : Setup) (role : Role) (x : State) (choice : Choice) → x.calls.made ≡ 0 → (taken setup role x Connect choice).calls.made ≡ x.calls.made
+made-opened : (setup : ModelSetup) (role : Role) (x : State) (choice : Choice) → x.calls.made ≡ 0 → (taken setup role x Connect choice).calls.made ≡ x.calls.made
 made-opened setup role x (Accepting set) z = sym z
 made-opened setup role x Refusing z = refl
 made-opened setup role x Nothing z = refl
 made-opened setup role x (Results results) z = refl
 
-made-recovered : (setup : Setup) (role : Role) (x : State) (choice : Choice) → (taken setup role x Recover choice).calls.made ≡ x.calls.made
+made-recovered : (setup : ModelSetup) (role : Role) (x : State) (choice : Choice) → (taken setup role x Recover choice).calls.made ≡ x.calls.made
 made-recovered setup role x (Accepting set) = refl
 made-recovered setup role x Refusing = refl
 made-recovered setup role x Nothing = refl
 made-recovered setup role x (Results results) = refl
 
-made-altered : (setup : Setup) (role : Role) (x : State) (items : List Item) (choice : Choice) → (taken setup role x (Alter items) choice).calls.made ≡ x.calls.made
+made-altered : (setup : ModelSetup) (role : Role) (x : State) (items : List Item) (choice : Choice) → (taken setup role x (Alter items) choice).calls.made ≡ x.calls.made
 made-altered setup role x items (Results results) = refl
 made-altered setup role x items (Accepting set) = refl
 made-altered setup role x items Refusing = refl
 made-altered setup role x items Nothing = refl
 
-pub made-taken : (setup : Setup) (role : Role) (x : State) (m : Message) (choice : Choice) → (m ≡ Connect → x.calls.made ≡ 0) → (taken setup role x m choice).calls.made ≡ x.calls.made
+pub made-taken : (setup : ModelSetup) (role : Role) (x : State) (m : Message) (choice : Choice) → (m ≡ Connect → x.calls.made ≡ 0) → (taken setup role x m choice).calls.made ≡ x.calls.made
 made-taken setup role x Connect choice z = made-opened setup role x choice (z refl)
 made-taken setup role x Recover choice z = made-recovered setup role x choice
 made-taken setup role x (Accept set) choice z = refl
@@ -87,7 +87,7 @@ made-taken setup role x ReleaseAnswer choice z = refl
 made-taken setup role x UserAbort choice z = refl
 
 -- answers hand nothing in
-pub answer-numbers : (setup : Setup) (x : State) (m : Message) (choice : Choice) (at : ContextSet) → numbers_in (sendings at (answer_to setup x m choice)) ≡ []
+pub answer-numbers : (setup : ModelSetup) (x : State) (m : Message) (choice : Choice) (at : ContextSet) → numbers_in (sendings at (answer_to setup x m choice)) ≡ []
 answer-numbers setup x Connect (Accepting set) at = refl
 answer-numbers setup x Connect Refusing at = refl
 answer-numbers setup x Connect Nothing at = refl
@@ -126,7 +126,7 @@ Unmade x = IsUnjoined x.phase → x.calls.made ≡ 0
 up-not : (x : State) (A : Type 0) → x.phase ≡ Up → IsUnjoined x.phase → A
 up-not x A u j = absurd (subst IsUnjoined u j)
 
-acts-unmade : (setup : Setup) (role : Role) (x : State) (act : Act) → MayAct setup role x act → Unmade x → Unmade (acted setup x act)
+acts-unmade : (setup : ModelSetup) (role : Role) (x : State) (act : Act) → MayAct setup role x act → Unmade x → Unmade (acted setup x act)
 acts-unmade setup role x Connects h u = λ j. absurd j
 acts-unmade setup role x Recovers h u = λ j. absurd j
 acts-unmade setup role x (SaysValue value) h u = up-not x _ h.is_free.is_up
@@ -163,25 +163,25 @@ refusing-unjoined : (p : Phase) → IsUnjoined (refusing p) → IsUnjoined p
 refusing-unjoined Broken j = tt
 refusing-unjoined p j = absurd j
 
-opened-unmade : (setup : Setup) (role : Role) (x : State) (choice : Choice) → Unmade x → Unmade (taken setup role x Connect choice)
+opened-unmade : (setup : ModelSetup) (role : Role) (x : State) (choice : Choice) → Unmade x → Unmade (taken setup role x Connect choice)
 opened-unmade setup role x (Accepting set) u = λ j. absurd j
 opened-unmade setup role x Refusing u = λ j. u (refusing-unjoined x.phase j)
 opened-unmade setup role x Nothing u = u
 opened-unmade setup role x (Results results) u = u
 
-recovered-unmade : (setup : Setup) (role : Role) (x : State) (choice : Choice) → Unmade x → Unmade (taken setup role x Recover choice)
+recovered-unmade : (setup : ModelSetup) (role : Role) (x : State) (choice : Choice) → Unmade x → Unmade (taken setup role x Recover choice)
 recovered-unmade setup role x (Accepting set) u = λ j. absurd j
 recovered-unmade setup role x Refusing u = λ j. u (refusing-unjoined x.phase j)
 recovered-unmade setup role x Nothing u = u
 recovered-unmade setup role x (Results results) u = u
 
-altered-unmade : (setup : Setup) (role : Role) (x : State) (items : List Item) (choice : Choice) → Unmade x → Unmade (taken setup role x (Alter items) choice)
+altered-unmade : (setup : ModelSetup) (role : Role) (x : State) (items : List Item) (choice : Choice) → Unmade x → Unmade (taken setup role x (Alter items) choice)
 altered-unmade setup role x items (Results results) u = u
 altered-unmade setup role x items (Accepting set) u = u
 altered-unmade setup role x items Refusing u = u
 altered-unmade setup role x items Nothing u = u
 
-takes-unmade : (setup : Setup) (role : Role) (x : State) (m : Message) (choice : Choice) → (setup.mode ≡ Reliable → ⊥) → MayTake setup role x m → Unmade x → Unmade (taken setup role x m choice)
+takes-unmade : (setup : ModelSetup) (role : Role) (x : State) (m : Message) (choice : Choice) → (setup.mode ≡ Reliable → ⊥) → MayTake setup role x m → Unmade x → Unmade (taken setup role x m choice)
 takes-unmade setup role x Connect choice a h u = opened-unmade setup role x choice u
 takes-unmade setup role x Recover choice a h u = recovered-unmade setup role x choice u
 takes-unmade setup role x (Accept set) choice a h u = λ j. absurd j
@@ -231,12 +231,12 @@ made-broken Reliable calls = refl
 first-unmade : (m : Mode) (x : State) → x.calls.made ≡ 0 → Unmade x
 first-unmade m x e = λ j. e
 
-step-unmade : (setup : Setup) → NoAbortOfItself setup → (setup.mode ≡ Reliable → ⊥) → (role : Role) (world : World) (step : Step) → IsRun setup (By role step ∷ world) → Unmade (state_of setup role world) → Unmade (after setup role (state_of setup role world) step)
+step-unmade : (setup : ModelSetup) → NoAbortOfItself setup → (setup.mode ≡ Reliable → ⊥) → (role : Role) (world : World) (step : Step) → IsRun setup (By role step ∷ world) → Unmade (state_of setup role world) → Unmade (after setup role (state_of setup role world) step)
 step-unmade setup n a role world (Acts act) h u = acts-unmade setup role (state_of setup role world) act h.0 u
 step-unmade setup n a role world (Takes m choice) h u = takes-unmade setup role (state_of setup role world) m choice a (n world role m choice h) u
 step-unmade setup n a role world (Passes m) h u = u
 
-pub unmade-kept : (setup : Setup) → NoAbortOfItself setup → (setup.mode ≡ Reliable → ⊥) → (world : World) → IsRun setup world → (role : Role) → Unmade (state_of setup role world)
+pub unmade-kept : (setup : ModelSetup) → NoAbortOfItself setup → (setup.mode ≡ Reliable → ⊥) → (world : World) → IsRun setup world → (role : Role) → Unmade (state_of setup role world)
 unmade-kept setup n a [] h role = λ j. refl
 unmade-kept setup n a (Break ∷ world) h role =
     λ j. made-broken setup.mode (state_of setup role world).calls ∙ unmade-kept setup n a world h.1 role (broken-unjoined setup.mode (state_of setup role world).phase a j)
@@ -250,7 +250,7 @@ nil-numbers [] = refl
 nil-numbers (x ∷ xs) = ap (λ ys. x ∷ ys) (nil-numbers xs)
 
 -- what is to come at the taker
-coming : (setup : Setup) (x : State) (m : Message) (choice : Choice) (ns pending : List ℕ) (made : ℕ) → MayTake setup Initiator x m ⊎ MayTake setup Responder x m → (setup.mode ≡ Reliable → ⊥) → Once ns (number_in m ++ pending) made → Once (invoked_after setup x (Takes m choice) ns) pending made
+coming : (setup : ModelSetup) (x : State) (m : Message) (choice : Choice) (ns pending : List ℕ) (made : ℕ) → MayTake setup Initiator x m ⊎ MayTake setup Responder x m → (setup.mode ≡ Reliable → ⊥) → Once ns (number_in m ++ pending) made → Once (invoked_after setup x (Takes m choice) ns) pending made
 coming setup x Connect (Accepting set) ns pending made h a o = record { falling = tt; rising = rises-weaker (newest_of ns) 0 made pending least o.rising }
   where
     least : 0 ≤ newest_of ns
@@ -261,7 +261,7 @@ coming setup x (End number) choice ns pending made (inr h) a o = absurd (a h.by_
 coming setup x Connect choice ns pending made h a o = o
 coming setup x m choice ns pending made h a o = o
 
-taker-step : (setup : Setup) (x : State) (flight : List Sending) (step : Step) (ns : List ℕ) (made : ℕ) (role : Role) → IsStep setup role x flight step → ((m : Message) (choice : Choice) → step ≡ Takes m choice → MayTake setup Initiator x m ⊎ MayTake setup Responder x m) → (setup.mode ≡ Reliable → ⊥) → Once ns (numbers_in flight) made → Once (invoked_after setup x step ns) (numbers_in (taken_off step flight)) made
+taker-step : (setup : ModelSetup) (x : State) (flight : List Sending) (step : Step) (ns : List ℕ) (made : ℕ) (role : Role) → IsStep setup role x flight step → ((m : Message) (choice : Choice) → step ≡ Takes m choice → MayTake setup Initiator x m ⊎ MayTake setup Responder x m) → (setup.mode ≡ Reliable → ⊥) → Once ns (numbers_in flight) made → Once (invoked_after setup x step ns) (numbers_in (taken_off step flight)) made
 taker-step setup x flight (Acts act) ns made role h t a o = o
 taker-step setup x [] (Takes m choice) ns made role h t a o = absurd h.comes
 taker-step setup x (s ∷ flight) (Takes m choice) ns made role h t a o =
@@ -277,7 +277,7 @@ same-adds : (ns : List ℕ) (flight new : List Sending) (made more : ℕ) → nu
 same-adds ns flight new made more e f o =
     adds ns flight new made more [] e (subst₂ (λ xs k. Once ns xs k) (sym (nil-numbers (numbers_in flight))) (sym f) o)
 
-act-adds : (setup : Setup) (role : Role) (x : State) (act : Act) (at : ContextSet) (flight : List Sending) (ns : List ℕ) → MayAct setup role x act → (setup.mode ≡ Reliable → ⊥) → Once ns (numbers_in flight) x.calls.made → Once ns (numbers_in (flight ++ sendings at (sent_by setup x act))) (acted setup x act).calls.made
+act-adds : (setup : ModelSetup) (role : Role) (x : State) (act : Act) (at : ContextSet) (flight : List Sending) (ns : List ℕ) → MayAct setup role x act → (setup.mode ≡ Reliable → ⊥) → Once ns (numbers_in flight) x.calls.made → Once ns (numbers_in (flight ++ sendings at (sent_by setup x act))) (acted setup x act).calls.made
 act-adds setup role x (SaysValue value) at flight ns h a o =
     adds ns flight (sendings at (Data value ∷ [])) x.calls.made (handed_in setup x.calls value.identifier value.apdu).made (invocation_in value.apdu) (nil-numbers (invocation_in value.apdu))
     (once-handed setup x.calls x.outgoing.queue value.identifier value.apdu ns (numbers_in flight) h.may_hand_in o)
@@ -296,20 +296,20 @@ act-adds setup role x GivesTurn at flight ns h a o = same-adds ns flight (sendin
     go Reliable = refl
 act-adds setup role x act at flight ns h a o = same-adds ns flight (sendings at (sent_by setup x act)) x.calls.made (acted setup x act).calls.made refl refl o
 
-sender-step : (setup : Setup) (role : Role) (x : State) (step : Step) (at : ContextSet) (mine flight : List Sending) (ns : List ℕ) → IsStep setup role x mine step → ((m : Message) (choice : Choice) → step ≡ Takes m choice → m ≡ Connect → x.calls.made ≡ 0) → (setup.mode ≡ Reliable → ⊥) → Once ns (numbers_in flight) x.calls.made → Once ns (numbers_in (flight ++ sendings at (sent_in setup x step))) (after setup role x step).calls.made
+sender-step : (setup : ModelSetup) (role : Role) (x : State) (step : Step) (at : ContextSet) (mine flight : List Sending) (ns : List ℕ) → IsStep setup role x mine step → ((m : Message) (choice : Choice) → step ≡ Takes m choice → m ≡ Connect → x.calls.made ≡ 0) → (setup.mode ≡ Reliable → ⊥) → Once ns (numbers_in flight) x.calls.made → Once ns (numbers_in (flight ++ sendings at (sent_in setup x step))) (after setup role x step).calls.made
 sender-step setup role x (Acts act) at mine flight ns h z a o = act-adds setup role x act at flight ns h a o
 sender-step setup role x (Takes m choice) at mine flight ns h z a o =
     same-adds ns flight (sendings at (answer_to setup x m choice)) x.calls.made (taken setup role x m choice).calls.made (answer-numbers setup x m choice at) (made-taken setup role x m choice (z m choice refl)) o
 sender-step setup role x (Passes m) at mine flight ns h z a o = same-adds ns flight [] x.calls.made x.calls.made refl refl o
 
-side : (setup : Setup) (role : Role) (x : State) (m : Message) → MayTake setup role x m → MayTake setup Initiator x m ⊎ MayTake setup Responder x m
+side : (setup : ModelSetup) (role : Role) (x : State) (m : Message) → MayTake setup role x m → MayTake setup Initiator x m ⊎ MayTake setup Responder x m
 side setup Initiator x m h = inl h
 side setup Responder x m h = inr h
 
-unjoined-of : (setup : Setup) (role : Role) (x : State) (m : Message) → m ≡ Connect → MayTake setup role x m → IsUnjoined x.phase
+unjoined-of : (setup : ModelSetup) (role : Role) (x : State) (m : Message) → m ≡ Connect → MayTake setup role x m → IsUnjoined x.phase
 unjoined-of setup role x m e h = (subst (λ q. MayTake setup role x q) e h).is_unjoined
 
-once-kept : (setup : Setup) → NoAbortOfItself setup → (setup.mode ≡ Reliable → ⊥) → (world : World) → IsRun setup world → (role : Role) → Once (invoked setup role world) (numbers_in (flight_to setup role world)) (state_of setup (other role) world).calls.made
+once-kept : (setup : ModelSetup) → NoAbortOfItself setup → (setup.mode ≡ Reliable → ⊥) → (world : World) → IsRun setup world → (role : Role) → Once (invoked setup role world) (numbers_in (flight_to setup role world)) (state_of setup (other role) world).calls.made
 once-kept setup n a [] h Initiator = record { falling = tt; rising = omega arith }
 once-kept setup n a [] h Responder = record { falling = tt; rising = omega arith }
 once-kept setup n a (Break ∷ world) h role =
@@ -329,5 +329,5 @@ once-kept setup n a (By Initiator step ∷ world) h Responder =
     sender-step setup Initiator (state_of setup Initiator world) step (shared_at setup world).set (flight_to setup Initiator world) (flight_to setup Responder world) (invoked setup Responder world) h.0
     (λ m c e k. unmade-kept setup n a world h.1 Initiator (unjoined-of setup Initiator (state_of setup Initiator world) m k (n world Initiator m c (subst (λ s. IsRun setup (By Initiator s ∷ world)) e h)))) a (once-kept setup n a world h.1 Responder)
 
-pub at-once_invoked : (setup : Setup) → NoAbortOfItself setup → (setup.mode ≡ Reliable → ⊥) → InvokedOnce setup
+pub at-once_invoked : (setup : ModelSetup) → NoAbortOfItself setup → (setup.mode ≡ Reliable → ⊥) → InvokedOnce setup
 at-once_invoked setup n a world h role = (once-kept setup n a world h role).falling

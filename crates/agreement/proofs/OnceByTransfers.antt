@@ -3,7 +3,7 @@ use Rattle.std.proofs.Common.{◌≡◌, ℕ, ◌<◌, ◌≤◌, Bool, true, fa
 use Rattle.std.specs.Prelude.{Option, Some, None}
 use Rattle.agreement.specs.Sets.{Role, other, Item}
 use Rattle.agreement.specs.Sets.Role.{Initiator, Responder}
-use Rattle.agreement.specs.Messages.{Apdu, Value, Setup, Message, Act, Choice, Calls}
+use Rattle.agreement.specs.Messages.{Apdu, Value, ModelSetup, Message, Act, Choice, Calls}
 use Rattle.agreement.specs.Messages.Act.{SaysValue, Queues, Drops, Marks, Starts, Encodes, Sends, EndsActivity, Discards, Resumes}
 use Rattle.agreement.specs.Messages.Choice.{Nothing, Accepting, Refusing, Results}
 use Rattle.agreement.specs.Messages.Message.{Connect, Recover, Data, Alter, MarkAnswer, Restart, RestartAnswer, End, EndAnswer, InterruptAnswer, DiscardAnswer}
@@ -69,7 +69,7 @@ on-number change same o = go o.transfer
     go None = refl
     go (Some t) = ap (λ (i : Handed). invocation_in i.apdu) (same t)
 
-queued : (ns came : List ℕ) (setup : Setup) (o : Outgoing) (calls : Calls) (context : ℕ) (apdu : Apdu) (made : ℕ) → ((pending : List ℕ) → Once ns pending calls.made → Once ns (pending ++ invocation_in apdu) made) → Turned ns came o calls.made → Turned ns came (record o { queue = o.queue ++ (record { context = context; apdu = apdu } ∷ []) }) made
+queued : (ns came : List ℕ) (setup : ModelSetup) (o : Outgoing) (calls : Calls) (context : ℕ) (apdu : Apdu) (made : ℕ) → ((pending : List ℕ) → Once ns pending calls.made → Once ns (pending ++ invocation_in apdu) made) → Turned ns came o calls.made → Turned ns came (record o { queue = o.queue ++ (record { context = context; apdu = apdu } ∷ []) }) made
 queued ns came setup o calls context apdu made h k =
     record {
       later = subst (λ xs. Once ns xs made) (sym same) (h (numbers_of o.queue) k.later);
@@ -91,7 +91,7 @@ starts ns came o made k = go o.queue k.later
     go (item ∷ queue) h = record { later = once-skip ns (invocation_in item.apdu) (numbers_of queue) made h; now = λ b. h }
 
 -- the sender acts
-acts-turned : (base : Setup) (role : Role) (x : State) (act : Act) (ns came : List ℕ) → MayAct (reliable base) role x act → Turned ns came x.outgoing x.calls.made → Turned ns came (acted (reliable base) x act).outgoing (acted (reliable base) x act).calls.made
+acts-turned : (base : ModelSetup) (role : Role) (x : State) (act : Act) (ns came : List ℕ) → MayAct (reliable base) role x act → Turned ns came x.outgoing x.calls.made → Turned ns came (acted (reliable base) x act).outgoing (acted (reliable base) x act).calls.made
 acts-turned base role x (SaysValue value) ns came h k = absurd (h.at_once refl)
 acts-turned base role x (Queues context apdu) ns came h k =
     queued ns came (reliable base) x.outgoing x.calls context apdu (handed_in (reliable base) x.calls context apdu).made (λ pending o. once-handed (reliable base) x.calls [] context apdu ns pending h.may_hand_in o) k
@@ -106,32 +106,32 @@ acts-turned base role x Resumes ns came h k = same-turned ns came x.outgoing (ac
 acts-turned base role x act ns came h k = k
 
 -- the sender takes
-hears-turned : (setup : Setup) (v : Option Value) (x : State) (ns came : List ℕ) → Turned ns came x.outgoing x.calls.made → Turned ns came (hears setup v x).outgoing (hears setup v x).calls.made
+hears-turned : (setup : ModelSetup) (v : Option Value) (x : State) (ns came : List ℕ) → Turned ns came x.outgoing x.calls.made → Turned ns came (hears setup v x).outgoing (hears setup v x).calls.made
 hears-turned setup None x ns came k = k
 hears-turned setup (Some v) x ns came k =
     same-turned ns came x.outgoing (hears setup (Some v) x).outgoing x.calls.made (hears setup (Some v) x).calls.made
     (numbers-of_append x.outgoing.queue (rejects_of setup x.calls v.identifier v.apdu) ∙ ap (λ xs. numbers_of x.outgoing.queue ++ xs) (rejects-none setup x.calls v.identifier v.apdu) ∙ nil-numbers (numbers_of x.outgoing.queue))
     refl refl (made-heard setup x.calls v.identifier v.apdu) k
 
-opens-turned : (base : Setup) (role : Role) (x : State) (choice : Choice) (ns came : List ℕ) → x ≡ new_end (reliable base) Responder → Turned ns came x.outgoing x.calls.made → Turned ns came (taken (reliable base) role x Connect choice).outgoing (taken (reliable base) role x Connect choice).calls.made
+opens-turned : (base : ModelSetup) (role : Role) (x : State) (choice : Choice) (ns came : List ℕ) → x ≡ new_end (reliable base) Responder → Turned ns came x.outgoing x.calls.made → Turned ns came (taken (reliable base) role x Connect choice).outgoing (taken (reliable base) role x Connect choice).calls.made
 opens-turned base role x (Accepting set) ns came e k = subst (λ (z : State). Turned ns came z.outgoing z.calls.made) e k
 opens-turned base role x Refusing ns came e k = k
 opens-turned base role x Nothing ns came e k = k
 opens-turned base role x (Results results) ns came e k = k
 
-recovers-turned : (base : Setup) (role : Role) (x : State) (choice : Choice) (ns came : List ℕ) → Turned ns came x.outgoing x.calls.made → Turned ns came (taken (reliable base) role x Recover choice).outgoing (taken (reliable base) role x Recover choice).calls.made
+recovers-turned : (base : ModelSetup) (role : Role) (x : State) (choice : Choice) (ns came : List ℕ) → Turned ns came x.outgoing x.calls.made → Turned ns came (taken (reliable base) role x Recover choice).outgoing (taken (reliable base) role x Recover choice).calls.made
 recovers-turned base role x (Accepting set) ns came k = k
 recovers-turned base role x Refusing ns came k = k
 recovers-turned base role x Nothing ns came k = k
 recovers-turned base role x (Results results) ns came k = k
 
-alters-turned : (base : Setup) (role : Role) (x : State) (items : List Item) (choice : Choice) (ns came : List ℕ) → Turned ns came x.outgoing x.calls.made → Turned ns came (taken (reliable base) role x (Alter items) choice).outgoing (taken (reliable base) role x (Alter items) choice).calls.made
+alters-turned : (base : ModelSetup) (role : Role) (x : State) (items : List Item) (choice : Choice) (ns came : List ℕ) → Turned ns came x.outgoing x.calls.made → Turned ns came (taken (reliable base) role x (Alter items) choice).outgoing (taken (reliable base) role x (Alter items) choice).calls.made
 alters-turned base role x items (Results results) ns came k = k
 alters-turned base role x items (Accepting set) ns came k = k
 alters-turned base role x items Refusing ns came k = k
 alters-turned base role x items Nothing ns came k = k
 
-takes-turned : (base : Setup) (role : Role) (x : State) (m : Message) (choice : Choice) (ns came : List ℕ) → (m ≡ Connect → x ≡ new_end (reliable base) Responder) → MayTake (reliable base) role x m → Turned ns came x.outgoing x.calls.made → Turned ns came (taken (reliable base) role x m choice).outgoing (taken (reliable base) role x m choice).calls.made
+takes-turned : (base : ModelSetup) (role : Role) (x : State) (m : Message) (choice : Choice) (ns came : List ℕ) → (m ≡ Connect → x ≡ new_end (reliable base) Responder) → MayTake (reliable base) role x m → Turned ns came x.outgoing x.calls.made → Turned ns came (taken (reliable base) role x m choice).outgoing (taken (reliable base) role x m choice).calls.made
 takes-turned base role x Connect choice ns came z h k = opens-turned base role x choice ns came (z refl) k
 takes-turned base role x Recover choice ns came z h k = recovers-turned base role x choice ns came k
 takes-turned base role x (Data value) choice ns came z h k = absurd (h.at_once refl)
@@ -160,11 +160,11 @@ takes-turned base role x DiscardAnswer choice ns came z h k = none-turned ns cam
 takes-turned base role x m choice ns came z h k = k
 
 -- at an opening the responder is new, and the initiator sends nothing of transfers
-pub record Opens (base : Setup) (role : Role) (x y : State) : Type 0 where
+pub record Opens (base : ModelSetup) (role : Role) (x y : State) : Type 0 where
   pub new : x ≡ new_end (reliable base) Responder
   pub at_start : y.outgoing ≡ (new_end (reliable base) Initiator).outgoing
 
-flowing-up : (setup : Setup) (role : Role) (x y : State) (down up : List Message) (shared : Shared) → Flowing setup role x y down up shared → y.phase ≡ Up
+flowing-up : (setup : ModelSetup) (role : Role) (x y : State) (down up : List Message) (shared : Shared) → Flowing setup role x y down up shared → y.phase ≡ Up
 flowing-up setup role x y down up shared (Leads o p n) = p.up
 flowing-up setup role x y down up shared (Follows o p n) = p.up
 flowing-up setup role x y down up shared (Gives_away k) = k.taker.up
@@ -175,7 +175,7 @@ back-joined Idle b u = b
 back-joined Broken b u = b
 back-joined p b u = u
 
-stands-joined : (base : Setup) (a b : State) (f g : List Sending) (shared : Shared) → Standing (reliable base) Initiator a b f g shared → IsUnjoined b.phase → ⊥
+stands-joined : (base : ModelSetup) (a b : State) (f g : List Sending) (shared : Shared) → Standing (reliable base) Initiator a b f g shared → IsUnjoined b.phase → ⊥
 stands-joined base a b f g shared j u = go j.sees_peer (flowing-up (reliable base) Initiator j.me j.peer j.down j.up shared j.flow)
   where
     go : Sees Responder b g f j.peer j.down → j.peer.phase ≡ Up → ⊥
@@ -184,7 +184,7 @@ stands-joined base a b f g shared j u = go j.sees_peer (flowing-up (reliable bas
     go (Leaves r k w n o i) p = subst IsUnjoined k u
     go (Gone k o) p = subst IsUnjoined k u
 
-opens-at : (base : Setup) (role : Role) (x y : State) (s : Sending) (f g : List Sending) (shared : Shared) → ReliableRelation base role x y (s ∷ f) g shared → s.message ≡ Connect → MayTake (reliable base) role x Connect → Opens base role x y
+opens-at : (base : ModelSetup) (role : Role) (x y : State) (s : Sending) (f g : List Sending) (shared : Shared) → ReliableRelation base role x y (s ∷ f) g shared → s.message ≡ Connect → MayTake (reliable base) role x Connect → Opens base role x y
 opens-at base Initiator x y s f g shared r e h = absurd (let c = h.responds in cc)
 opens-at base Responder x y s f g shared (Stands j) e h = absurd (stands-joined base y x g (s ∷ f) shared j h.is_unjoined)
 opens-at base Responder x y s f g shared (Fresh p q n d) e h = absurd (cc)
@@ -206,7 +206,7 @@ falls-under : (ns : List ℕ) (i : Incoming) (c : ℕ) → Falls ns i → i.was_
 falls-under [] i c f e l = tt
 falls-under (n ∷ ns) i c f e l = subst (λ d. n < d) l (subst (λ b. Under b i.last (n ∷ ns)) e f.under)
 
-ends-turned : (base : Setup) (x : State) (came ns : List ℕ) (o : Outgoing) (made : ℕ) (es : List Encoding) → SpellsIn (value_in o.transfer) (reliable base) x.sets.held x.incoming → Encoded o.transfer o.started es → x.incoming.last ≡ o.started → Falls came x.incoming → Turned ns came o made → (up : Option Value) → handed_up (reliable base) x.sets.held x.incoming ≡ up → Turned (invoked_by (reliable base) x up ++ ns) (arrived_of up x.incoming.last ++ came) o made
+ends-turned : (base : ModelSetup) (x : State) (came ns : List ℕ) (o : Outgoing) (made : ℕ) (es : List Encoding) → SpellsIn (value_in o.transfer) (reliable base) x.sets.held x.incoming → Encoded o.transfer o.started es → x.incoming.last ≡ o.started → Falls came x.incoming → Turned ns came o made → (up : Option Value) → handed_up (reliable base) x.sets.held x.incoming ≡ up → Turned (invoked_by (reliable base) x up ++ ns) (arrived_of up x.incoming.last ++ came) o made
 ends-turned base x came ns o made es sp en l f k None e = k
 ends-turned base x came ns o made es sp en l f k (Some value) e =
     let told = told-in o.transfer sp en (k.now (falls-under came x.incoming o.started f (fresh x.incoming.was_handed refl e) l)) in
@@ -229,20 +229,20 @@ ends-turned base x came ns o made es sp en l f k (Some value) e =
             subst (λ a. Once ns (invocation_in a ++ numbers_of o.queue) made) (sym en.1 ∙ ap (λ (z : Value). z.apdu) (handed-spelled base x u value sp e)) w
 
 -- the taker, where it takes no opening and no end
-abbrev Here : Setup → Role → World → Type 0
+abbrev Here : ModelSetup → Role → World → Type 0
 Here base role world = Turned (invoked (reliable base) role world) (arrived (reliable base) role world) (state_of (reliable base) (other role) world).outgoing (state_of (reliable base) (other role) world).calls.made
 
-reached-at : (base : Setup) (world : World) (role : Role) → IsRun (reliable base) world → ReliableRelation base role (state_of (reliable base) role world) (state_of (reliable base) (other role) world) (flight_to (reliable base) role world) (flight_to (reliable base) (other role) world) (shared_at (reliable base) world)
+reached-at : (base : ModelSetup) (world : World) (role : Role) → IsRun (reliable base) world → ReliableRelation base role (state_of (reliable base) role world) (state_of (reliable base) (other role) world) (flight_to (reliable base) role world) (flight_to (reliable base) (other role) world) (shared_at (reliable base) world)
 reached-at base world role h = at-role (reliable base) (ReliableRelation base) (reliable-keeps base) role world (reached (reliable base) (ReliableRelation base) (reliable-keeps base) world h)
 
-pub opens-in : (base : Setup) → NoAbortOfItself (reliable base) → (world : World) (role : Role) (choice : Choice) → IsRun (reliable base) (By role (Takes Connect choice) ∷ world) → IsStep (reliable base) role (state_of (reliable base) role world) (flight_to (reliable base) role world) (Takes Connect choice) → IsRun (reliable base) world → Opens base role (state_of (reliable base) role world) (state_of (reliable base) (other role) world)
+pub opens-in : (base : ModelSetup) → NoAbortOfItself (reliable base) → (world : World) (role : Role) (choice : Choice) → IsRun (reliable base) (By role (Takes Connect choice) ∷ world) → IsStep (reliable base) role (state_of (reliable base) role world) (flight_to (reliable base) role world) (Takes Connect choice) → IsRun (reliable base) world → Opens base role (state_of (reliable base) role world) (state_of (reliable base) (other role) world)
 opens-in base n world role choice h k r = go (flight_to (reliable base) role world) k (reached-at base world role r)
   where
     go : (flight : List Sending) → IsStep (reliable base) role (state_of (reliable base) role world) flight (Takes Connect choice) → ReliableRelation base role (state_of (reliable base) role world) (state_of (reliable base) (other role) world) flight (flight_to (reliable base) (other role) world) (shared_at (reliable base) world) → Opens base role (state_of (reliable base) role world) (state_of (reliable base) (other role) world)
     go [] k q = absurd k.comes
     go (s ∷ flight) k q = opens-at base role (state_of (reliable base) role world) (state_of (reliable base) (other role) world) s flight (flight_to (reliable base) (other role) world) (shared_at (reliable base) world) q k.comes (n world role Connect choice h)
 
-new-turned : (base : Setup) (x : State) (choice : Choice) (ns came : List ℕ) (o : Outgoing) (made : ℕ) → o ≡ (new_end (reliable base) Initiator).outgoing → Turned ns came o made → Turned (invoked_after (reliable base) x (Takes Connect choice) ns) (arrived_after (reliable base) x (Takes Connect choice) came) o made
+new-turned : (base : ModelSetup) (x : State) (choice : Choice) (ns came : List ℕ) (o : Outgoing) (made : ℕ) → o ≡ (new_end (reliable base) Initiator).outgoing → Turned ns came o made → Turned (invoked_after (reliable base) x (Takes Connect choice) ns) (arrived_after (reliable base) x (Takes Connect choice) came) o made
 new-turned base x (Accepting set) ns came o made e k = subst (λ q. Turned [] [] q made) (sym e) (record { later = none; now = λ b. none })
   where
     least : 0 ≤ made
@@ -254,7 +254,7 @@ new-turned base x Refusing ns came o made e k = k
 new-turned base x Nothing ns came o made e k = k
 new-turned base x (Results results) ns came o made e k = k
 
-takes-here : (base : Setup) → NoAbortOfItself (reliable base) → (world : World) (role : Role) (m : Message) (choice : Choice) → IsRun (reliable base) (By role (Takes m choice) ∷ world) → IsStep (reliable base) role (state_of (reliable base) role world) (flight_to (reliable base) role world) (Takes m choice) → IsRun (reliable base) world → Here base role world → Turned (invoked_after (reliable base) (state_of (reliable base) role world) (Takes m choice) (invoked (reliable base) role world)) (arrived_after (reliable base) (state_of (reliable base) role world) (Takes m choice) (arrived (reliable base) role world)) (state_of (reliable base) (other role) world).outgoing (state_of (reliable base) (other role) world).calls.made
+takes-here : (base : ModelSetup) → NoAbortOfItself (reliable base) → (world : World) (role : Role) (m : Message) (choice : Choice) → IsRun (reliable base) (By role (Takes m choice) ∷ world) → IsStep (reliable base) role (state_of (reliable base) role world) (flight_to (reliable base) role world) (Takes m choice) → IsRun (reliable base) world → Here base role world → Turned (invoked_after (reliable base) (state_of (reliable base) role world) (Takes m choice) (invoked (reliable base) role world)) (arrived_after (reliable base) (state_of (reliable base) role world) (Takes m choice) (arrived (reliable base) role world)) (state_of (reliable base) (other role) world).outgoing (state_of (reliable base) (other role) world).calls.made
 takes-here base n world role Connect choice h g r k =
     new-turned base (state_of (reliable base) role world) choice (invoked (reliable base) role world) (arrived (reliable base) role world) (state_of (reliable base) (other role) world).outgoing (state_of (reliable base) (other role) world).calls.made
     (opens-in base n world role choice h g r).at_start k
@@ -267,7 +267,7 @@ takes-here base n world role (End number) choice h g r k =
 takes-here base n world role m choice h g r k = k
 
 -- the sender's step
-sends-here : (base : Setup) → NoAbortOfItself (reliable base) → (world : World) (role : Role) (step : Step) (ns came : List ℕ) → IsRun (reliable base) (By role step ∷ world) → IsStep (reliable base) role (state_of (reliable base) role world) (flight_to (reliable base) role world) step → IsRun (reliable base) world → Turned ns came (state_of (reliable base) role world).outgoing (state_of (reliable base) role world).calls.made → Turned ns came (after (reliable base) role (state_of (reliable base) role world) step).outgoing (after (reliable base) role (state_of (reliable base) role world) step).calls.made
+sends-here : (base : ModelSetup) → NoAbortOfItself (reliable base) → (world : World) (role : Role) (step : Step) (ns came : List ℕ) → IsRun (reliable base) (By role step ∷ world) → IsStep (reliable base) role (state_of (reliable base) role world) (flight_to (reliable base) role world) step → IsRun (reliable base) world → Turned ns came (state_of (reliable base) role world).outgoing (state_of (reliable base) role world).calls.made → Turned ns came (after (reliable base) role (state_of (reliable base) role world) step).outgoing (after (reliable base) role (state_of (reliable base) role world) step).calls.made
 sends-here base n world role (Acts act) ns came h g r k = acts-turned base role (state_of (reliable base) role world) act ns came g k
 sends-here base n world role (Takes m choice) ns came h g r k =
     takes-turned base role (state_of (reliable base) role world) m choice ns came
@@ -275,12 +275,12 @@ sends-here base n world role (Takes m choice) ns came h g r k =
     (n world role m choice h) k
 sends-here base n world role (Passes m) ns came h g r k = k
 
-here-step : (base : Setup) → NoAbortOfItself (reliable base) → (world : World) (role : Role) (step : Step) → IsRun (reliable base) (By role step ∷ world) → IsStep (reliable base) role (state_of (reliable base) role world) (flight_to (reliable base) role world) step → IsRun (reliable base) world → Here base role world → Turned (invoked_after (reliable base) (state_of (reliable base) role world) step (invoked (reliable base) role world)) (arrived_after (reliable base) (state_of (reliable base) role world) step (arrived (reliable base) role world)) (state_of (reliable base) (other role) world).outgoing (state_of (reliable base) (other role) world).calls.made
+here-step : (base : ModelSetup) → NoAbortOfItself (reliable base) → (world : World) (role : Role) (step : Step) → IsRun (reliable base) (By role step ∷ world) → IsStep (reliable base) role (state_of (reliable base) role world) (flight_to (reliable base) role world) step → IsRun (reliable base) world → Here base role world → Turned (invoked_after (reliable base) (state_of (reliable base) role world) step (invoked (reliable base) role world)) (arrived_after (reliable base) (state_of (reliable base) role world) step (arrived (reliable base) role world)) (state_of (reliable base) (other role) world).outgoing (state_of (reliable base) (other role) world).calls.made
 here-step base n world role (Acts act) h g r k = k
 here-step base n world role (Takes m choice) h g r k = takes-here base n world role m choice h g r k
 here-step base n world role (Passes m) h g r k = k
 
-turned-kept : (base : Setup) → NoAbortOfItself (reliable base) → (world : World) → IsRun (reliable base) world → (role : Role) → Here base role world
+turned-kept : (base : ModelSetup) → NoAbortOfItself (reliable base) → (world : World) → IsRun (reliable base) world → (role : Role) → Here base role world
 turned-kept base n [] h Initiator = first
   where
     first : Here base Initiator []
@@ -302,10 +302,10 @@ turned-kept base n (By Responder step ∷ world) h Initiator =
 turned-kept base n (By Initiator step ∷ world) h Responder =
     sends-here base n world Initiator step (invoked (reliable base) Responder world) (arrived (reliable base) Responder world) h h.0 h.1 (turned-kept base n world h.1 Responder)
 
-reliable-invoked : (base : Setup) → NoAbortOfItself (reliable base) → InvokedOnce (reliable base)
+reliable-invoked : (base : ModelSetup) → NoAbortOfItself (reliable base) → InvokedOnce (reliable base)
 reliable-invoked base n world h role = (turned-kept base n world h role).later.falling
 
-pub all-invoked : ((setup : Setup) → NoAbortOfItself setup) → (setup : Setup) → InvokedOnce setup
+pub all-invoked : ((setup : ModelSetup) → NoAbortOfItself setup) → (setup : ModelSetup) → InvokedOnce setup
 all-invoked n =
     by-mode InvokedOnce
     (λ base. at-once_invoked (bare base) (n (bare base)) (λ e. cc))

@@ -3,7 +3,7 @@ use Rattle.std.proofs.Common.{◌≡◌, ℕ, suc, ◌≤◌, Bool, true, false,
 use Rattle.std.specs.Prelude.{Option, Some, None}
 use Rattle.agreement.specs.Sets.{Role, other, Item}
 use Rattle.agreement.specs.Sets.Role.{Initiator, Responder}
-use Rattle.agreement.specs.Messages.{Apdu, Invocation, Calls, Value, Mode, Setup, Message, Act, Choice}
+use Rattle.agreement.specs.Messages.{Apdu, Invocation, Calls, Value, Mode, ModelSetup, Message, Act, Choice}
 use Rattle.agreement.specs.Messages.Mode.{Bare, Direct, Reliable}
 use Rattle.agreement.specs.Messages.Apdu.{Invoke, Outcome, Reject}
 use Rattle.agreement.specs.Messages.Act.{Connects, Recovers, SaysValue, Queues, Drops, Alters, Marks, GivesTurn, Pleads, Restarts, Starts, Encodes, Sends, EndsActivity, Interrupts, Discards, Resumes, Releases, Aborts, Withdraws, TransportFails}
@@ -81,7 +81,7 @@ from-close : (hs : List Apdu) (n : ℕ) (calls : List Invocation) → AllFrom hs
 from-close hs n [] h = tt
 from-close hs n (call ∷ calls) h = by_test (AllFrom hs) (nat_eq call.number n) _ _ (λ t. from-close hs n calls h.1) (λ t. (h.0, from-close hs n calls h.1))
 
-from-opened : (setup : Setup) (hs : List Apdu) (n o context : ℕ) (calls : List Invocation) → HasInvoke n o hs → AllFrom hs calls → AllFrom hs (opened setup n o context calls)
+from-opened : (setup : ModelSetup) (hs : List Apdu) (n o context : ℕ) (calls : List Invocation) → HasInvoke n o hs → AllFrom hs calls → AllFrom hs (opened setup n o context calls)
 from-opened setup hs n o context calls i h = by_test (AllFrom hs) (setup.silent o) _ _ (λ t. h) (λ t. (i, h))
 
 -- what is looked up of an open invocation
@@ -94,7 +94,7 @@ from-operation hs n (call ∷ calls) h e = go (nat_eq call.number n) refl e (fro
     go false t e ih = ih e
 
 -- an outcome that may be handed in is of an open invocation, whose operation has it
-answer-allowed : (setup : Setup) (calls : List Invocation) (n : ℕ) (content : List ℕ) (o : ℕ) → operation_of n calls ≡ Some o → may_answer setup calls n content ≡ setup.allows o content
+answer-allowed : (setup : ModelSetup) (calls : List Invocation) (n : ℕ) (content : List ℕ) (o : ℕ) → operation_of n calls ≡ Some o → may_answer setup calls n content ≡ setup.allows o content
 answer-allowed setup [] n content o e = absurd (cc)
 answer-allowed setup (call ∷ calls) n content o e = go (nat_eq call.number n) e (answer-allowed setup calls n content o)
   where
@@ -111,7 +111,7 @@ record CallsFrom (hs ks : List Apdu) (calls : Calls) : Type 0 where
   pub own : AllFrom hs calls.own_open
   pub peer : AllFrom ks calls.peer_open
 
-hands-from : (setup : Setup) (hs ks : List Apdu) (calls : Calls) (due : List Handed) (context : ℕ) (apdu : Apdu) → MayHandIn setup calls due apdu → CallsFrom hs ks calls → CallsFrom (apdu ∷ hs) ks (handed_in setup calls context apdu)
+hands-from : (setup : ModelSetup) (hs ks : List Apdu) (calls : Calls) (due : List Handed) (context : ℕ) (apdu : Apdu) → MayHandIn setup calls due apdu → CallsFrom hs ks calls → CallsFrom (apdu ∷ hs) ks (handed_in setup calls context apdu)
 hands-from setup hs ks calls due context (Invoke number operation link argument) m c =
     record {
       falls = (calls.made, m.0, self, c.falls);
@@ -126,7 +126,7 @@ hands-from setup hs ks calls due context (Outcome number content) m c =
 hands-from setup hs ks calls due context (Reject number problem) m c =
     record { falls = c.falls; own = from-more (Reject number problem ∷ []) hs calls.own_open c.own; peer = c.peer }
 
-hears-from_apdu : (setup : Setup) (hs ks : List Apdu) (calls : Calls) (context : ℕ) (apdu : Apdu) → IsHandedIn ks apdu → CallsFrom hs ks calls → CallsFrom hs ks (heard setup calls context apdu)
+hears-from_apdu : (setup : ModelSetup) (hs ks : List Apdu) (calls : Calls) (context : ℕ) (apdu : Apdu) → IsHandedIn ks apdu → CallsFrom hs ks calls → CallsFrom hs ks (heard setup calls context apdu)
 hears-from_apdu setup hs ks calls context apdu i c = by_test (CallsFrom hs ks) (is_accepted setup calls apdu) (accepted setup calls context apdu) calls (λ t. go apdu i) (λ t. c)
   where
     go : (a : Apdu) → IsHandedIn ks a → CallsFrom hs ks (accepted setup calls context a)
@@ -135,14 +135,14 @@ hears-from_apdu setup hs ks calls context apdu i c = by_test (CallsFrom hs ks) (
     go (Outcome number content) i = record { falls = c.falls; own = from-close hs number calls.own_open c.own; peer = c.peer }
     go (Reject number problem) i = record { falls = c.falls; own = from-close hs number calls.own_open c.own; peer = c.peer }
 
-hears-from : (setup : Setup) (hs ks : List Apdu) (v : Option Value) (x : State) → ((value : Value) → v ≡ Some value → IsHandedIn ks value.apdu) → CallsFrom hs ks x.calls → CallsFrom hs ks (hears setup v x).calls
+hears-from : (setup : ModelSetup) (hs ks : List Apdu) (v : Option Value) (x : State) → ((value : Value) → v ≡ Some value → IsHandedIn ks value.apdu) → CallsFrom hs ks x.calls → CallsFrom hs ks (hears setup v x).calls
 hears-from setup hs ks None x i c = c
 hears-from setup hs ks (Some v) x i c = hears-from_apdu setup hs ks x.calls v.identifier v.apdu (i v refl) c
 
 cuts-from : (hs ks : List Apdu) (calls : Calls) → CallsFrom hs ks calls → CallsFrom hs ks (record calls { own_open = []; peer_open = [] })
 cuts-from hs ks calls c = record { falls = c.falls; own = tt; peer = tt }
 
-acts-from : (setup : Setup) (role : Role) (x : State) (act : Act) (hs ks : List Apdu) → MayAct setup role x act → CallsFrom hs ks x.calls → CallsFrom (handed_by (Acts act) ++ hs) ks (acted setup x act).calls
+acts-from : (setup : ModelSetup) (role : Role) (x : State) (act : Act) (hs ks : List Apdu) → MayAct setup role x act → CallsFrom hs ks x.calls → CallsFrom (handed_by (Acts act) ++ hs) ks (acted setup x act).calls
 acts-from setup role x Connects hs ks h c = c
 acts-from setup role x Recovers hs ks h c = c
 acts-from setup role x (SaysValue value) hs ks h c = hands-from setup hs ks x.calls x.outgoing.queue value.identifier value.apdu h.may_hand_in c
@@ -175,19 +175,19 @@ acts-from setup role x Aborts hs ks h c = cuts-from hs ks x.calls c
 acts-from setup role x Withdraws hs ks h c = cuts-from hs ks x.calls c
 acts-from setup role x TransportFails hs ks h c = c
 
-opens-from : (setup : Setup) (role : Role) (x : State) (choice : Choice) (hs ks : List Apdu) → x.calls.made ≡ 0 → CallsFrom hs ks x.calls → CallsFrom hs ks (taken setup role x Connect choice).calls
+opens-from : (setup : ModelSetup) (role : Role) (x : State) (choice : Choice) (hs ks : List Apdu) → x.calls.made ≡ 0 → CallsFrom hs ks x.calls → CallsFrom hs ks (taken setup role x Connect choice).calls
 opens-from setup role x (Accepting set) hs ks z c = record { falls = subst (Falls hs) z c.falls; own = tt; peer = tt }
 opens-from setup role x Refusing hs ks z c = c
 opens-from setup role x Nothing hs ks z c = c
 opens-from setup role x (Results results) hs ks z c = c
 
-recovers-from : (setup : Setup) (role : Role) (x : State) (choice : Choice) (hs ks : List Apdu) → CallsFrom hs ks x.calls → CallsFrom hs ks (taken setup role x Recover choice).calls
+recovers-from : (setup : ModelSetup) (role : Role) (x : State) (choice : Choice) (hs ks : List Apdu) → CallsFrom hs ks x.calls → CallsFrom hs ks (taken setup role x Recover choice).calls
 recovers-from setup role x (Accepting set) hs ks c = c
 recovers-from setup role x Refusing hs ks c = c
 recovers-from setup role x Nothing hs ks c = c
 recovers-from setup role x (Results results) hs ks c = c
 
-alters-from : (setup : Setup) (role : Role) (x : State) (items : List Item) (choice : Choice) (hs ks : List Apdu) → CallsFrom hs ks x.calls → CallsFrom hs ks (taken setup role x (Alter items) choice).calls
+alters-from : (setup : ModelSetup) (role : Role) (x : State) (items : List Item) (choice : Choice) (hs ks : List Apdu) → CallsFrom hs ks x.calls → CallsFrom hs ks (taken setup role x (Alter items) choice).calls
 alters-from setup role x items (Results results) hs ks c = c
 alters-from setup role x items (Accepting set) hs ks c = c
 alters-from setup role x items Refusing hs ks c = c
@@ -202,7 +202,7 @@ item-from (Some t) calls hs ks c = go t.item.apdu
     go (Outcome number content) = c
     go (Reject number problem) = c
 
-takes-from : (setup : Setup) (role : Role) (x : State) (m : Message) (choice : Choice) (hs ks : List Apdu) → (m ≡ Connect → x.calls.made ≡ 0) → ((value : Value) → value_of setup x m ≡ Some value → IsHandedIn ks value.apdu) → CallsFrom hs ks x.calls → CallsFrom hs ks (taken setup role x m choice).calls
+takes-from : (setup : ModelSetup) (role : Role) (x : State) (m : Message) (choice : Choice) (hs ks : List Apdu) → (m ≡ Connect → x.calls.made ≡ 0) → ((value : Value) → value_of setup x m ≡ Some value → IsHandedIn ks value.apdu) → CallsFrom hs ks x.calls → CallsFrom hs ks (taken setup role x m choice).calls
 takes-from setup role x Connect choice hs ks z i c = opens-from setup role x choice hs ks (z refl) c
 takes-from setup role x Recover choice hs ks z i c = recovers-from setup role x choice hs ks c
 takes-from setup role x (Accept set) choice hs ks z i c = c
@@ -242,10 +242,10 @@ broken-from Direct calls hs ks c = cuts-from hs ks calls c
 broken-from Reliable calls hs ks c = c
 
 -- an opening is accepted where no invocation was made
-abbrev pub OpensUnmade : Setup → Type 0
+abbrev pub OpensUnmade : ModelSetup → Type 0
 OpensUnmade setup = (world : World) (role : Role) (choice : Choice) → IsRun setup (By role (Takes Connect choice) ∷ world) → (state_of setup role world).calls.made ≡ 0
 
-step-from : (setup : Setup) → TheOthersOwn setup → OpensUnmade setup → (role : Role) (world : World) (step : Step) → IsRun setup (By role step ∷ world) → CallsFrom (all_handed role world) (all_handed (other role) world) (state_of setup role world).calls → CallsFrom (handed_by step ++ all_handed role world) (all_handed (other role) world) (after setup role (state_of setup role world) step).calls
+step-from : (setup : ModelSetup) → TheOthersOwn setup → OpensUnmade setup → (role : Role) (world : World) (step : Step) → IsRun setup (By role step ∷ world) → CallsFrom (all_handed role world) (all_handed (other role) world) (state_of setup role world).calls → CallsFrom (handed_by step ++ all_handed role world) (all_handed (other role) world) (after setup role (state_of setup role world) step).calls
 step-from setup own opens role world (Acts act) h c = acts-from setup role (state_of setup role world) act (all_handed role world) (all_handed (other role) world) h.0 c
 step-from setup own opens role world (Takes m choice) h c =
     takes-from setup role (state_of setup role world) m choice (all_handed role world) (all_handed (other role) world)
@@ -255,7 +255,7 @@ step-from setup own opens role world (Passes m) h c = c
 peer-from : (hs new ks : List Apdu) (calls : Calls) → CallsFrom hs ks calls → CallsFrom hs (new ++ ks) calls
 peer-from hs new ks calls c = record { falls = c.falls; own = c.own; peer = from-more new ks calls.peer_open c.peer }
 
-calls-from : (setup : Setup) → TheOthersOwn setup → OpensUnmade setup → (world : World) → IsRun setup world → (role : Role) → CallsFrom (all_handed role world) (all_handed (other role) world) (state_of setup role world).calls
+calls-from : (setup : ModelSetup) → TheOthersOwn setup → OpensUnmade setup → (world : World) → IsRun setup world → (role : Role) → CallsFrom (all_handed role world) (all_handed (other role) world) (state_of setup role world).calls
 calls-from setup own opens [] h role = record { falls = tt; own = tt; peer = tt }
 calls-from setup own opens (Break ∷ world) h role = broken-from setup.mode (state_of setup role world).calls (all_handed role world) (all_handed (other role) world) (calls-from setup own opens world h.1 role)
 calls-from setup own opens (By Initiator step ∷ world) h Initiator = step-from setup own opens Initiator world step h (calls-from setup own opens world h.1 Initiator)
@@ -266,35 +266,35 @@ calls-from setup own opens (By Responder step ∷ world) h Initiator =
     peer-from (all_handed Initiator world) (handed_by step) (all_handed Responder world) (state_of setup Initiator world).calls (calls-from setup own opens world h.1 Initiator)
 
 -- each outcome that was handed in answers an invocation that the other end handed in, and its operation has it
-abbrev IsFrom : Setup → List Apdu → Answer → Type 0
+abbrev IsFrom : ModelSetup → List Apdu → Answer → Type 0
 IsFrom setup ks answer = (o : ℕ) × (answer.operation ≡ Some o) × HasInvoke answer.number o ks × (setup.allows o answer.content ≡ true)
 
-abbrev AllAnswers : Setup → List Apdu → List Answer → Type 0
+abbrev AllAnswers : ModelSetup → List Apdu → List Answer → Type 0
 AllAnswers setup ks [] = Unit {0}
 AllAnswers setup ks (answer ∷ answers) = IsFrom setup ks answer × AllAnswers setup ks answers
 
-answers-more : (setup : Setup) (new ks : List Apdu) (ans : List Answer) → AllAnswers setup ks ans → AllAnswers setup (new ++ ks) ans
+answers-more : (setup : ModelSetup) (new ks : List Apdu) (ans : List Answer) → AllAnswers setup ks ans → AllAnswers setup (new ++ ks) ans
 answers-more setup new ks [] h = tt
 answers-more setup new ks (a ∷ ans) h = ((h.0.0, h.0.1, has-more a.number h.0.0 new ks h.0.2, h.0.3), answers-more setup new ks ans h.1)
 
-answer-from : (setup : Setup) (x : State) (due : List Handed) (apdu : Apdu) (ks : List Apdu) (ans : List Answer) → MayHandIn setup x.calls due apdu → AllFrom ks x.calls.peer_open → AllAnswers setup ks ans → AllAnswers setup ks (answer_with x apdu ++ ans)
+answer-from : (setup : ModelSetup) (x : State) (due : List Handed) (apdu : Apdu) (ks : List Apdu) (ans : List Answer) → MayHandIn setup x.calls due apdu → AllFrom ks x.calls.peer_open → AllAnswers setup ks ans → AllAnswers setup ks (answer_with x apdu ++ ans)
 answer-from setup x due (Invoke number operation link argument) ks ans m p h = h
 answer-from setup x due (Outcome number content) ks ans m p h =
     let f = from-operation ks number x.calls.peer_open p (answers-open setup x.calls.peer_open number content m) in
     ((f.0, f.1, f.2, sym (answer-allowed setup x.calls.peer_open number content f.0 f.1) ∙ m), h)
 answer-from setup x due (Reject number problem) ks ans m p h = h
 
-act-answers : (setup : Setup) (role : Role) (x : State) (act : Act) (ks : List Apdu) (ans : List Answer) → MayAct setup role x act → AllFrom ks x.calls.peer_open → AllAnswers setup ks ans → AllAnswers setup ks (answers_by x (Acts act) ++ ans)
+act-answers : (setup : ModelSetup) (role : Role) (x : State) (act : Act) (ks : List Apdu) (ans : List Answer) → MayAct setup role x act → AllFrom ks x.calls.peer_open → AllAnswers setup ks ans → AllAnswers setup ks (answers_by x (Acts act) ++ ans)
 act-answers setup role x (SaysValue value) ks ans h p a = answer-from setup x x.outgoing.queue value.apdu ks ans h.may_hand_in p a
 act-answers setup role x (Queues context apdu) ks ans h p a = answer-from setup x [] apdu ks ans h.may_hand_in p a
 act-answers setup role x act ks ans h p a = a
 
-step-answers : (setup : Setup) (role : Role) (world : World) (step : Step) (ans : List Answer) → IsRun setup (By role step ∷ world) → AllFrom (all_handed (other role) world) (state_of setup role world).calls.peer_open → AllAnswers setup (all_handed (other role) world) ans → AllAnswers setup (all_handed (other role) world) (answers_by (state_of setup role world) step ++ ans)
+step-answers : (setup : ModelSetup) (role : Role) (world : World) (step : Step) (ans : List Answer) → IsRun setup (By role step ∷ world) → AllFrom (all_handed (other role) world) (state_of setup role world).calls.peer_open → AllAnswers setup (all_handed (other role) world) ans → AllAnswers setup (all_handed (other role) world) (answers_by (state_of setup role world) step ++ ans)
 step-answers setup role world (Acts act) ans h p a = act-answers setup role (state_of setup role world) act (all_handed (other role) world) ans h.0 p a
 step-answers setup role world (Takes m choice) ans h p a = a
 step-answers setup role world (Passes m) ans h p a = a
 
-answers-from : (setup : Setup) → TheOthersOwn setup → OpensUnmade setup → (world : World) → IsRun setup world → (role : Role) → AllAnswers setup (all_handed (other role) world) (answers setup role world)
+answers-from : (setup : ModelSetup) → TheOthersOwn setup → OpensUnmade setup → (world : World) → IsRun setup world → (role : Role) → AllAnswers setup (all_handed (other role) world) (answers setup role world)
 answers-from setup own opens [] h role = tt
 answers-from setup own opens (Break ∷ world) h role = answers-from setup own opens world h.1 role
 answers-from setup own opens (By Initiator step ∷ world) h Initiator =
@@ -326,7 +326,7 @@ among-step x number content (Acts act) hs ans h ih = ih h
 among-step x number content (Takes m choice) hs ans h ih = ih h
 among-step x number content (Passes m) hs ans h ih = ih h
 
-among-answers : (setup : Setup) (number : ℕ) (content : List ℕ) (world : World) (role : Role) → IsAmong (Outcome number content) (all_handed role world) → Found number content (answers setup role world)
+among-answers : (setup : ModelSetup) (number : ℕ) (content : List ℕ) (world : World) (role : Role) → IsAmong (Outcome number content) (all_handed role world) → Found number content (answers setup role world)
 among-answers setup number content [] role h = absurd h
 among-answers setup number content (Break ∷ world) role h = among-answers setup number content world role h
 among-answers setup number content (By Initiator step ∷ world) Initiator h =
@@ -336,7 +336,7 @@ among-answers setup number content (By Responder step ∷ world) Responder h =
 among-answers setup number content (By Initiator step ∷ world) Responder h = among-answers setup number content world Responder h
 among-answers setup number content (By Responder step ∷ world) Initiator h = among-answers setup number content world Initiator h
 
-answer-is : (setup : Setup) (ks : List Apdu) (answer : Answer) (ans : List Answer) → IsAnAnswer answer ans → AllAnswers setup ks ans → IsFrom setup ks answer
+answer-is : (setup : ModelSetup) (ks : List Apdu) (answer : Answer) (ans : List Answer) → IsAnAnswer answer ans → AllAnswers setup ks ans → IsFrom setup ks answer
 answer-is setup ks answer [] i h = absurd i
 answer-is setup ks answer (a ∷ ans) (inl e) h = subst (IsFrom setup ks) e h.0
 answer-is setup ks answer (a ∷ ans) (inr i) h = answer-is setup ks answer ans i h.1
@@ -345,7 +345,7 @@ twice : (role : Role) → other (other role) ≡ role
 twice Initiator = refl
 twice Responder = refl
 
-pub one-operation : (setup : Setup) → TheOthersOwn setup → OpensUnmade setup → OneOperation setup
+pub one-operation : (setup : ModelSetup) → TheOthersOwn setup → OpensUnmade setup → OneOperation setup
 one-operation setup own opens world role m choice value number content h e is o =
     let x = state_of setup role world in
     let handed : IsAmong (Outcome number content) (all_handed (other role) world) = subst (IsHandedIn (all_handed (other role) world)) is (own world role m choice value h e) in
@@ -375,6 +375,6 @@ same-invoke n o p l m a b (Reject number problem ∷ hs) made f (inl h) k = absu
 same-invoke n o p l m a b (Reject number problem ∷ hs) made f (inr h) (inl k) = absurd (cc)
 same-invoke n o p l m a b (Reject number problem ∷ hs) made f (inr h) (inr k) = same-invoke n o p l m a b hs made f h k
 
-pub one-invocation : (setup : Setup) → TheOthersOwn setup → OpensUnmade setup → OneInvocation setup
+pub one-invocation : (setup : ModelSetup) → TheOthersOwn setup → OpensUnmade setup → OneInvocation setup
 one-invocation setup own opens world role n o p l m a b run h k =
     same-invoke n o p l m a b (all_handed role world) (state_of setup role world).calls.made (calls-from setup own opens world run role).falls h k

@@ -4,7 +4,7 @@ use Rattle.std.specs.Prelude.{Option, Some, None}
 use Rattle.std.proofs.lemmas.Bool.Decides.{nat_tests}
 use Rattle.agreement.specs.Sets.{Role, is_among, AreDistinct, Item}
 use Rattle.agreement.specs.Sets.Role.{Initiator, Responder}
-use Rattle.agreement.specs.Messages.{Apdu, Value, Mode, Setup, Message, Act, Choice, Invocation, Calls, is_of_invocation}
+use Rattle.agreement.specs.Messages.{Apdu, Value, Mode, ModelSetup, Message, Act, Choice, Invocation, Calls, is_of_invocation}
 use Rattle.agreement.specs.Messages.Mode.{Bare, Direct, Reliable}
 use Rattle.agreement.specs.Messages.Apdu.{Invoke, Outcome, Reject}
 use Rattle.agreement.specs.Messages.Act.{Connects, Recovers, SaysValue, Queues, Drops, Alters, Marks, GivesTurn, Pleads, Restarts, Starts, Encodes, Sends, EndsActivity, Interrupts, Discards, Resumes, Releases, Aborts, Withdraws, TransportFails}
@@ -67,7 +67,7 @@ fresh (k ∷ ts) n calls made h o = go (nat_eq n k) refl (fresh ts n calls made 
     go false e i = i
 
 -- a new invocation opens
-closed-opened : (setup : Setup) (ts : List ℕ) (operation context : ℕ) (calls : List Invocation) (made : ℕ) → AllClosed ts calls made → AllClosed ts (opened setup (suc made) operation context calls) (suc made)
+closed-opened : (setup : ModelSetup) (ts : List ℕ) (operation context : ℕ) (calls : List Invocation) (made : ℕ) → AllClosed ts calls made → AllClosed ts (opened setup (suc made) operation context calls) (suc made)
 closed-opened setup [] operation context calls made h = tt
 closed-opened setup (k ∷ ts) operation context calls made h =
     (by_test (λ x. is_open k x ≡ false) (setup.silent operation) _ _ (λ t. h.0) (λ t. other), more, closed-opened setup ts operation context calls made h.2)
@@ -85,14 +85,14 @@ made-more (call ∷ calls) made h = (more, made-more calls made h.1)
     more : call.number ≤ suc made
     more = let b = h.0 in omega arith
 
-made-opened : (setup : Setup) (operation context : ℕ) (calls : List Invocation) (made : ℕ) → AllMade calls made → AllMade (opened setup (suc made) operation context calls) (suc made)
+made-opened : (setup : ModelSetup) (operation context : ℕ) (calls : List Invocation) (made : ℕ) → AllMade calls made → AllMade (opened setup (suc made) operation context calls) (suc made)
 made-opened setup operation context calls made h =
     by_test (λ x. AllMade x (suc made)) (setup.silent operation) _ _ (λ t. made-more calls made h) (λ t. (self, made-more calls made h))
   where
     self : suc made ≤ suc made
     self = omega arith
 
-hands-in : (setup : Setup) (ts : List ℕ) (calls : Calls) (due : List Handed) (context : ℕ) (apdu : Apdu) → MayHandIn setup calls due apdu → Keeps_calls ts calls → Keeps_calls ts (handed_in setup calls context apdu)
+hands-in : (setup : ModelSetup) (ts : List ℕ) (calls : Calls) (due : List Handed) (context : ℕ) (apdu : Apdu) → MayHandIn setup calls due apdu → Keeps_calls ts calls → Keeps_calls ts (handed_in setup calls context apdu)
 hands-in setup ts calls due context (Invoke number operation link argument) m k =
     subst (λ n. Keeps_calls ts (record calls { own_open = opened setup n operation context calls.own_open; made = suc calls.made })) (sym m.0)
     (record { distinct = k.distinct; closed = closed-opened setup ts operation context calls.own_open calls.made k.closed; made = made-opened setup operation context calls.own_open calls.made k.made })
@@ -131,7 +131,7 @@ left-true true c h = refl
 left-true false c h = h
 
 -- an APDU is heard
-hears-apdu : (setup : Setup) (ts : List ℕ) (calls : Calls) (context : ℕ) (apdu : Apdu) → Keeps_calls ts calls → Keeps_calls ((if is_accepted setup calls apdu then outcome_in apdu else []) ++ ts) (heard setup calls context apdu)
+hears-apdu : (setup : ModelSetup) (ts : List ℕ) (calls : Calls) (context : ℕ) (apdu : Apdu) → Keeps_calls ts calls → Keeps_calls ((if is_accepted setup calls apdu then outcome_in apdu else []) ++ ts) (heard setup calls context apdu)
 hears-apdu setup ts calls context apdu k = go (is_accepted setup calls apdu) refl
   where
     takes : (a : Apdu) → is_accepted setup calls a ≡ true → Keeps_calls (outcome_in a ++ ts) (accepted setup calls context a)
@@ -143,11 +143,11 @@ hears-apdu setup ts calls context apdu k = go (is_accepted setup calls apdu) ref
     go true e = takes apdu e
     go false e = k
 
-hears-value : (setup : Setup) (ts : List ℕ) (x : State) (v : Option Value) → Keeps_calls ts x.calls → Keeps_calls (told_by setup x v ++ ts) (hears setup v x).calls
+hears-value : (setup : ModelSetup) (ts : List ℕ) (x : State) (v : Option Value) → Keeps_calls ts x.calls → Keeps_calls (told_by setup x v ++ ts) (hears setup v x).calls
 hears-value setup ts x None k = k
 hears-value setup ts x (Some v) k = hears-apdu setup ts x.calls v.identifier v.apdu k
 
-acts-calls : (setup : Setup) (role : Role) (ts : List ℕ) (x : State) (act : Act) → MayAct setup role x act → Keeps_calls ts x.calls → Keeps_calls ts (acted setup x act).calls
+acts-calls : (setup : ModelSetup) (role : Role) (ts : List ℕ) (x : State) (act : Act) → MayAct setup role x act → Keeps_calls ts x.calls → Keeps_calls ts (acted setup x act).calls
 acts-calls setup role ts x Connects h k = k
 acts-calls setup role ts x Recovers h k = k
 acts-calls setup role ts x (SaysValue value) h k = hands-in setup ts x.calls x.outgoing.queue value.identifier value.apdu h.may_hand_in k
@@ -192,19 +192,19 @@ cuts-item ts (Some t) calls k = go t.item.apdu
 begins-calls : Keeps_calls [] no_calls
 begins-calls = record { distinct = tt; closed = tt; made = tt }
 
-opens-calls : (setup : Setup) (role : Role) (ts : List ℕ) (x : State) (choice : Choice) → Keeps_calls ts x.calls → Keeps_calls (told_after setup x (Takes Connect choice) ts) (taken setup role x Connect choice).calls
+opens-calls : (setup : ModelSetup) (role : Role) (ts : List ℕ) (x : State) (choice : Choice) → Keeps_calls ts x.calls → Keeps_calls (told_after setup x (Takes Connect choice) ts) (taken setup role x Connect choice).calls
 opens-calls setup role ts x (Accepting set) k = begins-calls
 opens-calls setup role ts x Refusing k = k
 opens-calls setup role ts x Nothing k = k
 opens-calls setup role ts x (Results results) k = k
 
-recovers-calls : (setup : Setup) (role : Role) (ts : List ℕ) (x : State) (choice : Choice) → Keeps_calls ts x.calls → Keeps_calls ts (taken setup role x Recover choice).calls
+recovers-calls : (setup : ModelSetup) (role : Role) (ts : List ℕ) (x : State) (choice : Choice) → Keeps_calls ts x.calls → Keeps_calls ts (taken setup role x Recover choice).calls
 recovers-calls setup role ts x (Accepting set) k = k
 recovers-calls setup role ts x Refusing k = k
 recovers-calls setup role ts x Nothing k = k
 recovers-calls setup role ts x (Results results) k = k
 
-alters-calls : (setup : Setup) (role : Role) (ts : List ℕ) (x : State) (items : List Item) (choice : Choice) → Keeps_calls ts x.calls → Keeps_calls ts (taken setup role x (Alter items) choice).calls
+alters-calls : (setup : ModelSetup) (role : Role) (ts : List ℕ) (x : State) (items : List Item) (choice : Choice) → Keeps_calls ts x.calls → Keeps_calls ts (taken setup role x (Alter items) choice).calls
 alters-calls setup role ts x items (Results results) k = k
 alters-calls setup role ts x items (Accepting set) k = k
 alters-calls setup role ts x items Refusing k = k
@@ -213,7 +213,7 @@ alters-calls setup role ts x items Nothing k = k
 between-calls : (ts : List ℕ) (x : State) → Keeps_calls ts x.calls → Keeps_calls ts (between x).calls
 between-calls ts x k = k
 
-takes-calls : (setup : Setup) (role : Role) (ts : List ℕ) (x : State) (m : Message) (choice : Choice) → Keeps_calls ts x.calls → Keeps_calls (told_after setup x (Takes m choice) ts) (taken setup role x m choice).calls
+takes-calls : (setup : ModelSetup) (role : Role) (ts : List ℕ) (x : State) (m : Message) (choice : Choice) → Keeps_calls ts x.calls → Keeps_calls (told_after setup x (Takes m choice) ts) (taken setup role x m choice).calls
 takes-calls setup role ts x Connect choice k = opens-calls setup role ts x choice k
 takes-calls setup role ts x Recover choice k = recovers-calls setup role ts x choice k
 takes-calls setup role ts x (Accept set) choice k = k
@@ -247,12 +247,12 @@ takes-calls setup role ts x Release choice k = cuts ts x.calls k
 takes-calls setup role ts x ReleaseAnswer choice k = cuts ts x.calls k
 takes-calls setup role ts x UserAbort choice k = cuts ts x.calls k
 
-step-calls : (setup : Setup) (role : Role) (ts : List ℕ) (x : State) (flight : List Sending) (step : Step) → IsStep setup role x flight step → Keeps_calls ts x.calls → Keeps_calls (told_after setup x step ts) (after setup role x step).calls
+step-calls : (setup : ModelSetup) (role : Role) (ts : List ℕ) (x : State) (flight : List Sending) (step : Step) → IsStep setup role x flight step → Keeps_calls ts x.calls → Keeps_calls (told_after setup x step ts) (after setup role x step).calls
 step-calls setup role ts x flight (Acts act) h k = acts-calls setup role ts x act h k
 step-calls setup role ts x flight (Takes m choice) h k = takes-calls setup role ts x m choice k
 step-calls setup role ts x flight (Passes m) h k = k
 
-calls-kept : (setup : Setup) (world : World) → IsRun setup world → (role : Role) → Keeps_calls (told setup role world) (state_of setup role world).calls
+calls-kept : (setup : ModelSetup) (world : World) → IsRun setup world → (role : Role) → Keeps_calls (told setup role world) (state_of setup role world).calls
 calls-kept setup [] h role = begins-calls
 calls-kept setup (Break ∷ world) h role = go setup.mode (calls-kept setup world h.1 role)
   where
@@ -265,11 +265,11 @@ calls-kept setup (By Responder step ∷ world) h Responder = step-calls setup Re
 calls-kept setup (By Initiator step ∷ world) h Responder = calls-kept setup world h.1 Responder
 calls-kept setup (By Responder step ∷ world) h Initiator = calls-kept setup world h.1 Initiator
 
-pub one-outcome : (setup : Setup) → OneOutcome setup
+pub one-outcome : (setup : ModelSetup) → OneOutcome setup
 one-outcome setup world h role = (calls-kept setup world h role).distinct
 
 -- what is accepted names what is open
-link-open : (setup : Setup) (calls : List Invocation) (operation parent : ℕ) → is_link_allowed setup calls operation (Some parent) ≡ true → HasParent setup calls operation parent
+link-open : (setup : ModelSetup) (calls : List Invocation) (operation parent : ℕ) → is_link_allowed setup calls operation (Some parent) ≡ true → HasParent setup calls operation parent
 link-open setup [] operation parent h = absurd (true≢false (sym h))
 link-open setup (call ∷ calls) operation parent h = go (link-open setup calls operation parent) (nat_eq call.number parent) refl h
   where
@@ -277,7 +277,7 @@ link-open setup (call ∷ calls) operation parent h = go (link-open setup calls 
     go ih true e h = inl (eqb-true call.number parent e, h)
     go ih false e h = inr (ih h)
 
-pub accepted-names_open : (setup : Setup) → AcceptedNamesOpen setup
+pub accepted-names_open : (setup : ModelSetup) → AcceptedNamesOpen setup
 accepted-names_open setup calls (Invoke number operation None argument) h =
     (both-true (is_open number calls.peer_open) (has_room setup operation calls.peer_open) (left-true _ true h)).0
 accepted-names_open setup calls (Invoke number operation (Some parent) argument) h =

@@ -3,7 +3,7 @@ use Rattle.std.proofs.Common.{◌≡◌, true, false, List, [], ◌∷◌, ◌++
 use Rattle.std.specs.Prelude.{Option, Some, None}
 use Rattle.agreement.specs.Sets.{Role, other, ContextSet, Saved}
 use Rattle.agreement.specs.Sets.Role.{Initiator, Responder}
-use Rattle.agreement.specs.Messages.{Setup, Message, Act, Choice}
+use Rattle.agreement.specs.Messages.{ModelSetup, Message, Act, Choice}
 use Rattle.agreement.specs.Messages.Mode.{Reliable}
 use Rattle.agreement.specs.Messages.Act.{Connects, Recovers, Aborts, Withdraws, TransportFails}
 use Rattle.agreement.specs.Messages.Choice.{Nothing, Accepting, Refusing, Results}
@@ -29,7 +29,7 @@ use Rattle.agreement.proofs.StandingSteps.{stands-takes, stands-passes, stands-s
 use Rattle.agreement.proofs.Runs.{Keeps, Relation}
 
 -- the records of two ends that outlive a connection
-pub record Records (setup : Setup) (role : Role) (x y : State) (shared : Shared) : Type 0 where
+pub record Records (setup : ModelSetup) (role : Role) (x y : State) (shared : Shared) : Type 0 where
   pub rests_me : RestsOrNone x.outgoing.transfer
   pub rests_peer : RestsOrNone y.outgoing.transfer
   pub pairs : PairedIn x.outgoing.transfer x.outgoing.started y.incoming
@@ -40,7 +40,7 @@ pub record Records (setup : Setup) (role : Role) (x y : State) (shared : Shared)
   pub inactive_peer : y.incoming.active ≡ false
 
 -- the initiator a, the responder b, what comes to a, what comes to b
-pub data Stage (setup : Setup) (a b : State) (f g : List Sending) (shared : Shared) : Type 0 where
+pub data Stage (setup : ModelSetup) (a b : State) (f g : List Sending) (shared : Shared) : Type 0 where
   Fresh : a ≡ new_end setup Initiator → b ≡ new_end setup Responder → f ≡ [] → g ≡ [] → Stage setup a b f g shared
   Asked : (s : Sending) → a ≡ record (new_end setup Initiator) { phase = Opening } → b ≡ new_end setup Responder → f ≡ [] → g ≡ s ∷ [] → s.message ≡ Connect → Stage setup a b f g shared
   Dropped : (s : Sending) → (behind : List Sending) → (a.phase ≡ Over) × (a.outgoing ≡ (new_end setup Initiator).outgoing) → b ≡ new_end setup Responder → f ≡ [] → g ≡ s ∷ behind → s.message ≡ Connect → AllAre IsAbort behind → Stage setup a b f g shared
@@ -56,17 +56,17 @@ pub data Stage (setup : Setup) (a b : State) (f g : List Sending) (shared : Shar
   LeftA : (a.phase ≡ Broken) ⊎ (a.phase ≡ Recovering) → a.awaits ≡ NoAnswer → b.phase ≡ Over → f ≡ [] → Stage setup a b f g shared
   Deaf : (a.phase ≡ Idle) ⊎ (a.phase ≡ Opening) → a.awaits ≡ NoAnswer → b.phase ≡ Over → f ≡ [] → Stage setup a b f g shared
 
-abbrev pub ReliableRelation : Setup → Relation
+abbrev pub ReliableRelation : ModelSetup → Relation
 ReliableRelation base Initiator x y f g shared = Stage (reliable base) x y f g shared
 ReliableRelation base Responder x y f g shared = Stage (reliable base) y x g f shared
 
-abbrev After : (base : Setup) (role : Role) (x y : State) (f g : List Sending) (shared : Shared) (act : Act) → Type 0
+abbrev After : (base : ModelSetup) (role : Role) (x y : State) (f g : List Sending) (shared : Shared) (act : Act) → Type 0
 After base role x y f g shared act = ReliableRelation base role (acted (reliable base) x act) y f (g ++ sendings shared.set (sent_by (reliable base) x act)) (shared_all Reliable role (sent_by (reliable base) x act) shared)
 
 phase-of : (x z : State) (p : Phase) → x ≡ z → z.phase ≡ p → x.phase ≡ p
 phase-of x z p e h = ap (λ (q : State). q.phase) e ∙ h
 
-initiator-acts : (base : Setup) (a b : State) (f g : List Sending) (shared : Shared) (act : Act) → Stage (reliable base) a b f g shared → MayAct (reliable base) Initiator a act → After base Initiator a b f g shared act
+initiator-acts : (base : ModelSetup) (a b : State) (f g : List Sending) (shared : Shared) (act : Act) → Stage (reliable base) a b f g shared → MayAct (reliable base) Initiator a act → After base Initiator a b f g shared act
 initiator-acts base a b f g shared act (Stands j) h = Stands (stands-acts base Initiator a b f g shared act h j)
 initiator-acts base a b f g shared act (Fresh p q e d) h = go act (acting (reliable base) Initiator a act h)
   where
@@ -176,7 +176,7 @@ initiator-acts base a b f g shared act (Lost p q v e) h = absurd (over-still (re
 initiator-acts base a b f g shared act (LeftB p q v e) h = absurd (over-still (reliable base) Initiator a act h p)
 initiator-acts base a b f g shared act (Dead p q) h = absurd (over-still (reliable base) Initiator a act h p)
 
-broken-still : (setup : Setup) (x : State) (act : Act) → MayAct setup Responder x act → x.phase ≡ Broken → ⊥
+broken-still : (setup : ModelSetup) (x : State) (act : Act) → MayAct setup Responder x act → x.phase ≡ Broken → ⊥
 broken-still setup x act h e = go act (acting setup Responder x act h)
   where
     go : (act : Act) → Acting Responder x act → ⊥
@@ -187,7 +187,7 @@ broken-still setup x act h e = go act (acting setup Responder x act h)
     go TransportFails (ByFailing j) = let r = subst (MayWithdrawIn Responder) e j in cc
     go act (WhileUp j) = cc
 
-responder-acts : (base : Setup) (a b : State) (f g : List Sending) (shared : Shared) (act : Act) → Stage (reliable base) a b f g shared → MayAct (reliable base) Responder b act → After base Responder b a g f shared act
+responder-acts : (base : ModelSetup) (a b : State) (f g : List Sending) (shared : Shared) (act : Act) → Stage (reliable base) a b f g shared → MayAct (reliable base) Responder b act → After base Responder b a g f shared act
 responder-acts base a b f g shared act (Stands j) h =
     Stands (stands-swap (reliable base) Responder _ _ _ _ _ (stands-acts base Responder b a g f shared act h (stands-swap (reliable base) Initiator a b f g shared j)))
 responder-acts base a b f g shared act (Fresh p q e d) h =
@@ -213,7 +213,7 @@ responder-acts base a b f g shared act (LeftA p w q e) h = absurd (over-still (r
 responder-acts base a b f g shared act (Deaf p w q e) h = absurd (over-still (reliable base) Responder b act h q)
 
 -- a connection that begins: the initiator leads, and nothing but an abort is on its way to the responder
-begins : (base : Setup) (x y : State) (set : ContextSet) (down : List Message) (shared : Shared) → Records (reliable base) Initiator x y shared → AllQuiet down → FlowOf (reliable base) Initiator (joined_with Reliable Initiator set x) (joined_with Reliable Responder set y) down [] (record shared { set = set; inter = set })
+begins : (base : ModelSetup) (x y : State) (set : ContextSet) (down : List Message) (shared : Shared) → Records (reliable base) Initiator x y shared → AllQuiet down → FlowOf (reliable base) Initiator (joined_with Reliable Initiator set x) (joined_with Reliable Responder set y) down [] (record shared { set = set; inter = set })
 begins base x y set down shared r q =
     let flat = quiet-flat down q in
     record {
@@ -254,12 +254,12 @@ aborts-quiet (s ∷ f) a = (go s.message a.0, aborts-quiet f a.1)
     go m h = absurd h
 
 -- what a taking gives
-pub record Took (base : Setup) (role : Role) (x y : State) (f g : List Sending) (shared : Shared) (s : Sending) (m : Message) (choice : Choice) : Type 0 where
+pub record Took (base : ModelSetup) (role : Role) (x y : State) (f g : List Sending) (shared : Shared) (s : Sending) (m : Message) (choice : Choice) : Type 0 where
   pub may : WasSent (reliable base) m → MayTake (reliable base) role x m
   pub pair : pair_under x.sets.held m ≡ pair_under s.shared m
   pub next : ReliableRelation base role (taken (reliable base) role x m choice) y f (g ++ sendings shared.set (answer_to (reliable base) x m choice)) (shared_answered m choice shared)
 
-initiator-takes : (base : Setup) (a b : State) (s : Sending) (f g : List Sending) (shared : Shared) (m : Message) (choice : Choice) → Stage (reliable base) a b (s ∷ f) g shared → s.message ≡ m → (a.phase ≡ Over → ⊥) → is_purged Initiator a.awaits m ≡ false → IsChoice (reliable base) a m choice → Took base Initiator a b f g shared s m choice
+initiator-takes : (base : ModelSetup) (a b : State) (s : Sending) (f g : List Sending) (shared : Shared) (m : Message) (choice : Choice) → Stage (reliable base) a b (s ∷ f) g shared → s.message ≡ m → (a.phase ≡ Over → ⊥) → is_purged Initiator a.awaits m ≡ false → IsChoice (reliable base) a m choice → Took base Initiator a b f g shared s m choice
 initiator-takes base a b s f g shared m choice (Stands j) e alive kept c =
     let t = stands-takes base Initiator a b s f g shared m choice e alive kept c j in
     record { may = t.may; pair = t.pair; next = Stands t.next }
@@ -289,13 +289,13 @@ abbrev acceptance_of : ContextSet → Shared → Sending
 acceptance_of set shared = record { message = Accept set; shared = shared.set }
 
 -- the responder accepts or refuses an opening
-new-records : (base : Setup) (a : State) (shared : Shared) → a ≡ record (new_end (reliable base) Initiator) { phase = Opening } → Records (reliable base) Initiator a (new_end (reliable base) Responder) shared
+new-records : (base : ModelSetup) (a : State) (shared : Shared) → a ≡ record (new_end (reliable base) Initiator) { phase = Opening } → Records (reliable base) Initiator a (new_end (reliable base) Responder) shared
 new-records base a shared e =
     subst (λ x. Records (reliable base) Initiator x (new_end (reliable base) Responder) shared) (sym e)
     (record { rests_me = tt; rests_peer = tt; pairs = refl; others = refl; saved_me = tt; saved_peer = tt; inactive_me = refl; inactive_peer = refl })
 
 -- the responder accepts: the association stands
-joins : (base : Setup) (a b : State) (f behind : List Sending) (set : ContextSet) (shared : Shared) → IsBack a.phase → a.awaits ≡ NoAnswer → f ≡ [] → behind ≡ [] → Records (reliable base) Initiator a b shared → Standing (reliable base) Initiator a (joined_with Reliable Responder set b) (f ++ (acceptance_of set shared ∷ [])) behind (record shared { set = set; inter = set; saved = record { number = 0; set = set } ∷ [] })
+joins : (base : ModelSetup) (a b : State) (f behind : List Sending) (set : ContextSet) (shared : Shared) → IsBack a.phase → a.awaits ≡ NoAnswer → f ≡ [] → behind ≡ [] → Records (reliable base) Initiator a b shared → Standing (reliable base) Initiator a (joined_with Reliable Responder set b) (f ++ (acceptance_of set shared ∷ [])) behind (record shared { set = set; inter = set; saved = record { number = 0; set = set } ∷ [] })
 joins base a b f behind set shared p w e l r =
     record {
       me = joined_with Reliable Initiator set a;
@@ -309,7 +309,7 @@ joins base a b f behind set shared p w e l r =
           (begins base a b set (messages behind) shared r (aborts-quiet behind (subst (AllAre IsAbort) (sym l) tt)));
     }
 
-joins-without : (base : Setup) (a was b : State) (f behind : List Sending) (set : ContextSet) (shared : Shared) → a.phase ≡ Over → was.outgoing ≡ a.outgoing → f ≡ [] → AllAre IsAbort behind → Records (reliable base) Initiator was b shared → Standing (reliable base) Initiator a (joined_with Reliable Responder set b) (f ++ (acceptance_of set shared ∷ [])) behind (record shared { set = set; inter = set; saved = record { number = 0; set = set } ∷ [] })
+joins-without : (base : ModelSetup) (a was b : State) (f behind : List Sending) (set : ContextSet) (shared : Shared) → a.phase ≡ Over → was.outgoing ≡ a.outgoing → f ≡ [] → AllAre IsAbort behind → Records (reliable base) Initiator was b shared → Standing (reliable base) Initiator a (joined_with Reliable Responder set b) (f ++ (acceptance_of set shared ∷ [])) behind (record shared { set = set; inter = set; saved = record { number = 0; set = set } ∷ [] })
 joins-without base a was b f behind set shared p same e l r =
     record {
       me = joined_with Reliable Initiator set was;
@@ -326,7 +326,7 @@ joins-without base a was b f behind set shared p same e l r =
 no-marks : Shared → Shared
 no-marks shared = record shared { of_initiator = []; of_responder = [] }
 
-opens : (base : Setup) (a b : State) (s : Sending) (f behind : List Sending) (shared : Shared) (choice : Choice) → (a ≡ record (new_end (reliable base) Initiator) { phase = Opening }) × (behind ≡ []) ⊎ ((a.phase ≡ Over) × (a.outgoing ≡ (new_end (reliable base) Initiator).outgoing)) → b ≡ new_end (reliable base) Responder → f ≡ [] → AllAre IsAbort behind → IsChoice (reliable base) b Connect choice → Took base Responder b a behind f shared s Connect choice
+opens : (base : ModelSetup) (a b : State) (s : Sending) (f behind : List Sending) (shared : Shared) (choice : Choice) → (a ≡ record (new_end (reliable base) Initiator) { phase = Opening }) × (behind ≡ []) ⊎ ((a.phase ≡ Over) × (a.outgoing ≡ (new_end (reliable base) Initiator).outgoing)) → b ≡ new_end (reliable base) Responder → f ≡ [] → AllAre IsAbort behind → IsChoice (reliable base) b Connect choice → Took base Responder b a behind f shared s Connect choice
 opens base a b s f behind shared (Accepting set) (inl h) q e l c =
     record {
       may = λ w. record { responds = refl; is_unjoined = subst IsUnjoined (sym (phase-of b (new_end (reliable base) Responder) Idle q refl)) tt };
@@ -361,7 +361,7 @@ opens base a b s f behind shared Nothing h q e l c = absurd c
 opens base a b s f behind shared (Results results) h q e l c = absurd c
 
 -- the responder accepts or refuses a recovery
-recovers : (base : Setup) (a b : State) (s : Sending) (f behind : List Sending) (shared : Shared) (choice : Choice) → (a.phase ≡ Recovering) × (a.awaits ≡ NoAnswer) × (behind ≡ []) × Records (reliable base) Initiator a b shared ⊎ ((a.phase ≡ Over) × record { was : State; same : was.outgoing ≡ a.outgoing; records : Records (reliable base) Initiator was b shared }) → b.phase ≡ Broken → b.awaits ≡ NoAnswer → f ≡ [] → AllAre IsAbort behind → IsChoice (reliable base) b Recover choice → Took base Responder b a behind f shared s Recover choice
+recovers : (base : ModelSetup) (a b : State) (s : Sending) (f behind : List Sending) (shared : Shared) (choice : Choice) → (a.phase ≡ Recovering) × (a.awaits ≡ NoAnswer) × (behind ≡ []) × Records (reliable base) Initiator a b shared ⊎ ((a.phase ≡ Over) × record { was : State; same : was.outgoing ≡ a.outgoing; records : Records (reliable base) Initiator was b shared }) → b.phase ≡ Broken → b.awaits ≡ NoAnswer → f ≡ [] → AllAre IsAbort behind → IsChoice (reliable base) b Recover choice → Took base Responder b a behind f shared s Recover choice
 recovers base a b s f behind shared (Accepting set) (inl h) q v e l c =
     record {
       may = λ w. record { responds = refl; is_unjoined = subst IsUnjoined (sym q) tt };
@@ -396,7 +396,7 @@ is-abort : (m : Message) → IsAbort m → m ≡ UserAbort
 is-abort UserAbort h = refl
 is-abort m h = absurd h
 
-responder-takes : (base : Setup) (a b : State) (s : Sending) (f g : List Sending) (shared : Shared) (m : Message) (choice : Choice) → Stage (reliable base) a b f (s ∷ g) shared → s.message ≡ m → (b.phase ≡ Over → ⊥) → is_purged Responder b.awaits m ≡ false → IsChoice (reliable base) b m choice → Took base Responder b a g f shared s m choice
+responder-takes : (base : ModelSetup) (a b : State) (s : Sending) (f g : List Sending) (shared : Shared) (m : Message) (choice : Choice) → Stage (reliable base) a b f (s ∷ g) shared → s.message ≡ m → (b.phase ≡ Over → ⊥) → is_purged Responder b.awaits m ≡ false → IsChoice (reliable base) b m choice → Took base Responder b a g f shared s m choice
 responder-takes base a b s f g shared m choice (Stands j) e alive kept c =
     let t = stands-takes base Responder b a s g f shared m choice e alive kept c (stands-swap (reliable base) Initiator a b f (s ∷ g) shared j) in
     record { may = t.may; pair = t.pair; next = Stands (stands-swap (reliable base) Responder _ _ _ _ _ t.next) }
@@ -443,7 +443,7 @@ calm-passes role x m w n (inr k) = true≢false (sym (subst (λ q. is_purged rol
 not-over : (x : State) (p : Phase) → x.phase ≡ p → (p ≡ Over → ⊥) → x.phase ≡ Over → ⊥
 not-over x p e n o = n (sym e ∙ o)
 
-initiator-passes : (base : Setup) (a b : State) (s : Sending) (f g : List Sending) (shared : Shared) (m : Message) → Stage (reliable base) a b (s ∷ f) g shared → s.message ≡ m → (a.phase ≡ Over) ⊎ (is_purged Initiator a.awaits m ≡ true) → Stage (reliable base) a b f g shared
+initiator-passes : (base : ModelSetup) (a b : State) (s : Sending) (f g : List Sending) (shared : Shared) (m : Message) → Stage (reliable base) a b (s ∷ f) g shared → s.message ≡ m → (a.phase ≡ Over) ⊎ (is_purged Initiator a.awaits m ≡ true) → Stage (reliable base) a b f g shared
 initiator-passes base a b s f g shared m (Stands j) e h = Stands (stands-passes base Initiator a b s f g shared m e h j)
 initiator-passes base a b s f g shared m (Fresh p q n d) e h = absurd (cc)
 initiator-passes base a b s f g shared m (Asked t p q n d u) e h = absurd (cc)
@@ -459,7 +459,7 @@ initiator-passes base a b s f g shared m (LeftB p q v l) e h = LeftB p q v l
 initiator-passes base a b s f g shared m (LeftA p w q n) e h = absurd (cc)
 initiator-passes base a b s f g shared m (Deaf p w q n) e h = absurd (cc)
 
-responder-passes : (base : Setup) (a b : State) (s : Sending) (f g : List Sending) (shared : Shared) (m : Message) → Stage (reliable base) a b f (s ∷ g) shared → s.message ≡ m → (b.phase ≡ Over) ⊎ (is_purged Responder b.awaits m ≡ true) → Stage (reliable base) a b f g shared
+responder-passes : (base : ModelSetup) (a b : State) (s : Sending) (f g : List Sending) (shared : Shared) (m : Message) → Stage (reliable base) a b f (s ∷ g) shared → s.message ≡ m → (b.phase ≡ Over) ⊎ (is_purged Responder b.awaits m ≡ true) → Stage (reliable base) a b f g shared
 responder-passes base a b s f g shared m (Stands j) e h =
     Stands (stands-swap (reliable base) Responder _ _ _ _ _ (stands-passes base Responder b a s g f shared m e h (stands-swap (reliable base) Initiator a b f (s ∷ g) shared j)))
 responder-passes base a b s f g shared m (Fresh p q n d) e h = absurd (cc)
@@ -491,24 +491,24 @@ paired-suspend None out i h = h
 paired-suspend (Some t) out i (inl h) = inl (h.0, h.1)
 paired-suspend (Some t) out i (inr h) = inr h
 
-saved-suspend : (setup : Setup) (t : Option Transfer) (out : Outgoing) (marks : List Saved) → SavedIn setup t marks → SavedIn setup (suspend (record out { transfer = t })).transfer marks
+saved-suspend : (setup : ModelSetup) (t : Option Transfer) (out : Outgoing) (marks : List Saved) → SavedIn setup t marks → SavedIn setup (suspend (record out { transfer = t })).transfer marks
 saved-suspend setup None out marks h = h
 saved-suspend setup (Some t) out marks h = h
 
 -- the records of a connection that breaks
-record Weak (setup : Setup) (x y : State) (shared : Shared) : Type 0 where
+record Weak (setup : ModelSetup) (x y : State) (shared : Shared) : Type 0 where
   pub pairs : PairedIn x.outgoing.transfer x.outgoing.started y.incoming
   pub others : PairedIn y.outgoing.transfer y.outgoing.started x.incoming
   pub saved_me : SavedIn setup x.outgoing.transfer shared.of_initiator
   pub saved_peer : SavedIn setup y.outgoing.transfer shared.of_responder
 
-flow-weak : (setup : Setup) (x y : State) (down up : List Message) (shared : Shared) → Flowing setup Initiator x y down up shared → Weak setup x y shared
+flow-weak : (setup : ModelSetup) (x y : State) (down up : List Message) (shared : Shared) → Flowing setup Initiator x y down up shared → Weak setup x y shared
 flow-weak setup x y down up shared (Leads o p n) = record { pairs = n.pairs; others = n.others; saved_me = n.saved; saved_peer = n.theirs_saved }
 flow-weak setup x y down up shared (Follows o p n) = record { pairs = n.others; others = n.pairs; saved_me = n.theirs_saved; saved_peer = n.saved }
 flow-weak setup x y down up shared (Gives_away k) = record { pairs = k.pairs; others = k.others; saved_me = k.saved; saved_peer = k.theirs }
 flow-weak setup x y down up shared (Is_given k) = record { pairs = k.others; others = k.pairs; saved_me = k.theirs; saved_peer = k.saved }
 
-weak-records : (base : Setup) (a b : State) (shared : Shared) → Weak (reliable base) a b shared → Records (reliable base) Initiator (broken (reliable base) a) (broken (reliable base) b) shared
+weak-records : (base : ModelSetup) (a b : State) (shared : Shared) → Weak (reliable base) a b shared → Records (reliable base) Initiator (broken (reliable base) a) (broken (reliable base) b) shared
 weak-records base a b shared w =
     record {
       rests_me = rests-suspend a.outgoing.transfer a.outgoing;
@@ -541,7 +541,7 @@ broke role x f g seen coming u (Joins set answer rest r p a e i m c l) = go x.ph
 broke role x f g seen coming u (Leaves r p a l o i) = IsBroken (ap (broken_phase Reliable) p) o i
 broke role x f g seen coming u (Gone p o) = IsOver (ap (broken_phase Reliable) p)
 
-breaks-standing : (base : Setup) (a b : State) (f g : List Sending) (shared : Shared) → Standing (reliable base) Initiator a b f g shared → Stage (reliable base) (broken (reliable base) a) (broken (reliable base) b) [] [] shared
+breaks-standing : (base : ModelSetup) (a b : State) (f g : List Sending) (shared : Shared) → Standing (reliable base) Initiator a b f g shared → Stage (reliable base) (broken (reliable base) a) (broken (reliable base) b) [] [] shared
 breaks-standing base a b f g shared j =
     let u = up-me (reliable base) Initiator j.me j.peer j.down j.up shared j.flow in
     go (broke Initiator a f g j.me j.up u.0 j.sees_me) (broke Responder b g f j.peer j.down u.1 j.sees_peer)
@@ -564,10 +564,10 @@ breaks-standing base a b f g shared j =
     go (IsBroken p o i) (IsOver q) = LeftA (inl p) refl q refl
     go (IsBroken p o i) (IsBroken q r s) = Apart p q refl refl (weak-records base a b shared (real o i r s)) refl refl
 
-again : (base : Setup) (a b : State) (shared : Shared) → Records (reliable base) Initiator a b shared → Records (reliable base) Initiator (broken (reliable base) a) (broken (reliable base) b) shared
+again : (base : ModelSetup) (a b : State) (shared : Shared) → Records (reliable base) Initiator a b shared → Records (reliable base) Initiator (broken (reliable base) a) (broken (reliable base) b) shared
 again base a b shared r = weak-records base a b shared (record { pairs = r.pairs; others = r.others; saved_me = r.saved_me; saved_peer = r.saved_peer })
 
-breaks : (base : Setup) (a b : State) (f g : List Sending) (shared : Shared) → Stage (reliable base) a b f g shared → Stage (reliable base) (broken (reliable base) a) (broken (reliable base) b) [] [] shared
+breaks : (base : ModelSetup) (a b : State) (f g : List Sending) (shared : Shared) → Stage (reliable base) a b f g shared → Stage (reliable base) (broken (reliable base) a) (broken (reliable base) b) [] [] shared
 breaks base a b f g shared (Stands j) = breaks-standing base a b f g shared j
 breaks base a b f g shared (Fresh p q n d) = Fresh (ap (broken (reliable base)) p) (ap (broken (reliable base)) q) refl refl
 breaks base a b f g shared (Asked t p q n d u) =
@@ -589,27 +589,27 @@ breaks base a b f g shared (LeftA p w q n) = LeftA (inl (go p)) refl (ap (broken
     go (inl k) = ap (broken_phase Reliable) k
     go (inr k) = ap (broken_phase Reliable) k
 
-pub reliable-takes : (base : Setup) (role : Role) (x y : State) (s : Sending) (f g : List Sending) (shared : Shared) (m : Message) (choice : Choice) → ReliableRelation base role x y (s ∷ f) g shared → s.message ≡ m → (x.phase ≡ Over → ⊥) → is_purged role x.awaits m ≡ false → IsChoice (reliable base) x m choice → Took base role x y f g shared s m choice
+pub reliable-takes : (base : ModelSetup) (role : Role) (x y : State) (s : Sending) (f g : List Sending) (shared : Shared) (m : Message) (choice : Choice) → ReliableRelation base role x y (s ∷ f) g shared → s.message ≡ m → (x.phase ≡ Over → ⊥) → is_purged role x.awaits m ≡ false → IsChoice (reliable base) x m choice → Took base role x y f g shared s m choice
 reliable-takes base Initiator x y s f g shared m choice h e alive kept c = initiator-takes base x y s f g shared m choice h e alive kept c
 reliable-takes base Responder x y s f g shared m choice h e alive kept c = responder-takes base y x s g f shared m choice h e alive kept c
 
-reliable-acts : (base : Setup) (role : Role) (x y : State) (f g : List Sending) (shared : Shared) (act : Act) → ReliableRelation base role x y f g shared → MayAct (reliable base) role x act → After base role x y f g shared act
+reliable-acts : (base : ModelSetup) (role : Role) (x y : State) (f g : List Sending) (shared : Shared) (act : Act) → ReliableRelation base role x y f g shared → MayAct (reliable base) role x act → After base role x y f g shared act
 reliable-acts base Initiator x y f g shared act h may = initiator-acts base x y f g shared act h may
 reliable-acts base Responder x y f g shared act h may = responder-acts base y x g f shared act h may
 
-reliable-passes : (base : Setup) (role : Role) (x y : State) (s : Sending) (f g : List Sending) (shared : Shared) (m : Message) → ReliableRelation base role x y (s ∷ f) g shared → s.message ≡ m → (x.phase ≡ Over) ⊎ (is_purged role x.awaits m ≡ true) → ReliableRelation base role x y f g shared
+reliable-passes : (base : ModelSetup) (role : Role) (x y : State) (s : Sending) (f g : List Sending) (shared : Shared) (m : Message) → ReliableRelation base role x y (s ∷ f) g shared → s.message ≡ m → (x.phase ≡ Over) ⊎ (is_purged role x.awaits m ≡ true) → ReliableRelation base role x y f g shared
 reliable-passes base Initiator x y s f g shared m h e p = initiator-passes base x y s f g shared m h e p
 reliable-passes base Responder x y s f g shared m h e p = responder-passes base y x s g f shared m h e p
 
-reliable-swaps : (base : Setup) (role : Role) (x y : State) (f g : List Sending) (shared : Shared) → ReliableRelation base role x y f g shared → ReliableRelation base (other role) y x g f shared
+reliable-swaps : (base : ModelSetup) (role : Role) (x y : State) (f g : List Sending) (shared : Shared) → ReliableRelation base role x y f g shared → ReliableRelation base (other role) y x g f shared
 reliable-swaps base Initiator x y f g shared h = h
 reliable-swaps base Responder x y f g shared h = h
 
-reliable-breaks : (base : Setup) (role : Role) (x y : State) (f g : List Sending) (shared : Shared) → ReliableRelation base role x y f g shared → ReliableRelation base role (broken (reliable base) x) (broken (reliable base) y) [] [] shared
+reliable-breaks : (base : ModelSetup) (role : Role) (x y : State) (f g : List Sending) (shared : Shared) → ReliableRelation base role x y f g shared → ReliableRelation base role (broken (reliable base) x) (broken (reliable base) y) [] [] shared
 reliable-breaks base Initiator x y f g shared h = breaks base x y f g shared h
 reliable-breaks base Responder x y f g shared h = breaks base y x g f shared h
 
-pub reliable-keeps : (base : Setup) → Keeps (reliable base) (ReliableRelation base)
+pub reliable-keeps : (base : ModelSetup) → Keeps (reliable base) (ReliableRelation base)
 reliable-keeps base =
     record {
       starts = Fresh refl refl refl refl;

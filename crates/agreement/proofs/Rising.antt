@@ -1,6 +1,6 @@
 -- Each invocation is taken at most once: numbers that rise from the sender to the taker.
 use Rattle.std.proofs.Common.{◌≡◌, ℕ, suc, ◌<◌, ◌≤◌, if◌then◌else◌, List, [], ◌∷◌, ◌++◌, refl, sym, ap, ◌∙◌, arith, subst, append_assoc}
-use Rattle.agreement.specs.Messages.{Apdu, Setup, Message, Calls}
+use Rattle.agreement.specs.Messages.{Apdu, ModelSetup, Message, Calls}
 use Rattle.agreement.specs.Messages.Apdu.{Invoke, Outcome, Reject}
 use Rattle.agreement.specs.Messages.Message.{Data}
 use Rattle.agreement.specs.State.{Handed}
@@ -57,7 +57,7 @@ pub once-skip : (ns ms pending : List ℕ) (made : ℕ) → Once ns (ms ++ pendi
 once-skip ns ms pending made o = record { falling = o.falling; rising = rises-off (newest_of ns) made ms pending o.rising }
 
 -- an APDU is heard: its number is told, or passed over
-pub once-heard : (setup : Setup) (calls : Calls) (apdu : Apdu) (ns pending : List ℕ) (made : ℕ) → Once ns (invocation_in apdu ++ pending) made → Once ((if is_accepted setup calls apdu then invocation_in apdu else []) ++ ns) pending made
+pub once-heard : (setup : ModelSetup) (calls : Calls) (apdu : Apdu) (ns pending : List ℕ) (made : ℕ) → Once ns (invocation_in apdu ++ pending) made → Once ((if is_accepted setup calls apdu then invocation_in apdu else []) ++ ns) pending made
 once-heard setup calls apdu ns pending made o =
     by_test (λ (xs : List ℕ). Once (xs ++ ns) pending made) (is_accepted setup calls apdu) (invocation_in apdu) [] (λ t. told apdu o) (λ t. once-skip ns (invocation_in apdu) pending made o)
   where
@@ -67,7 +67,7 @@ once-heard setup calls apdu ns pending made o =
     told (Reject number b) o = o
 
 -- an APDU is handed in: its number comes last
-pub once-handed : (setup : Setup) (calls : Calls) (due : List Handed) (context : ℕ) (apdu : Apdu) (ns pending : List ℕ) → MayHandIn setup calls due apdu → Once ns pending calls.made → Once ns (pending ++ invocation_in apdu) (handed_in setup calls context apdu).made
+pub once-handed : (setup : ModelSetup) (calls : Calls) (due : List Handed) (context : ℕ) (apdu : Apdu) (ns pending : List ℕ) → MayHandIn setup calls due apdu → Once ns pending calls.made → Once ns (pending ++ invocation_in apdu) (handed_in setup calls context apdu).made
 once-handed setup calls due context (Invoke number operation link argument) ns pending m o =
     subst (λ n. Once ns (pending ++ (n ∷ [])) (suc calls.made)) (sym m.0) (record { falling = o.falling; rising = rises-more (newest_of ns) calls.made pending o.rising })
 once-handed setup calls due context (Outcome number content) ns pending m o = subst (λ xs. Once ns xs calls.made) (sym (nil pending)) o
@@ -82,7 +82,7 @@ once-handed setup calls due context (Reject number b) ns pending m o = subst (λ
     nil (x ∷ xs) = ap (λ ys. x ∷ ys) (nil xs)
 
 -- hearing makes no invocation
-pub made-heard : (setup : Setup) (calls : Calls) (context : ℕ) (apdu : Apdu) → (heard setup calls context apdu).made ≡ calls.made
+pub made-heard : (setup : ModelSetup) (calls : Calls) (context : ℕ) (apdu : Apdu) → (heard setup calls context apdu).made ≡ calls.made
 made-heard setup calls context apdu = by_test (λ (c : Calls). c.made ≡ calls.made) (is_accepted setup calls apdu) _ _ (λ t. go apdu) (λ t. refl)
   where
     go : (a : Apdu) → (accepted setup calls context a).made ≡ calls.made
@@ -111,7 +111,7 @@ pub numbers-of_append : (xs ys : List Handed) → numbers_of (xs ++ ys) ≡ numb
 numbers-of_append [] ys = refl
 numbers-of_append (x ∷ xs) ys = ap (λ zs. invocation_in x.apdu ++ zs) (numbers-of_append xs ys) ∙ sym (append_assoc (invocation_in x.apdu) (numbers_of xs) (numbers_of ys))
 
-pub rejects-none : (setup : Setup) (calls : Calls) (context : ℕ) (a : Apdu) → numbers_of (rejects_of setup calls context a) ≡ []
+pub rejects-none : (setup : ModelSetup) (calls : Calls) (context : ℕ) (a : Apdu) → numbers_of (rejects_of setup calls context a) ≡ []
 rejects-none setup calls context a = by_test (λ (xs : List Handed). numbers_of xs ≡ []) (is_accepted setup calls a) [] (reject_of setup calls context a) (λ t. refl) (λ t. go a)
   where
     go : (a : Apdu) → numbers_of (reject_of setup calls context a) ≡ []

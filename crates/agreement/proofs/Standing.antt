@@ -5,7 +5,7 @@ use Rattle.agreement.specs.Sets.{Role, other, ContextSet, Item, lookup, Saved, b
 use Rattle.agreement.specs.Sets.Role.{Initiator, Responder}
 use Rattle.agreement.specs.Sets.Item.{Addition, Deletion}
 use Rattle.std.proofs.lemmas.Bool.{eqb-false}
-use Rattle.agreement.specs.Messages.{Value, Setup, Message, Act}
+use Rattle.agreement.specs.Messages.{Value, ModelSetup, Message, Act}
 use Rattle.agreement.specs.Messages.Mode.{Reliable}
 use Rattle.agreement.specs.Messages.Act.{Connects, Recovers, SaysValue, Queues, Drops, Alters, Marks, GivesTurn, Pleads, Restarts, Starts, Encodes, Sends, EndsActivity, Interrupts, Discards, Resumes, Releases, Aborts, Withdraws, TransportFails}
 use Rattle.agreement.specs.Messages.Message.{Accept, Alter, Give, GiveAnswer, Please, Release, UserAbort}
@@ -24,7 +24,7 @@ use Rattle.agreement.proofs.Down.{Follower, AllQuiet, Down, AllFlat}
 use Rattle.agreement.proofs.Flow.{Leader, PairedIn, Rest, RestOf, RestBy, RestIn, SavedIn, Flow, RestsNow, IsOpen, RunsValue, ValueIn, alters_in, unanswered-none, ups-quiet}
 use Rattle.agreement.proofs.Leads.{sends_chunk, sends_mark, starts, encodes, sends_end, sends_interrupt, sends_discard, resumes, alters, shared-held}
 
-abbrev pub reliable : Setup → Setup
+abbrev pub reliable : ModelSetup → ModelSetup
 reliable base = record base { mode = Reliable }
 
 abbrev pub leader_of : State → Leader
@@ -50,7 +50,7 @@ pub record FollowOk (y : State) : Type 0 where
   pub rests : RestsOrNone y.outgoing.transfer
 
 -- the flow with its leader first
-abbrev pub FlowOf : Setup → Role → State → State → List Message → List Message → Shared → Type 0
+abbrev pub FlowOf : ModelSetup → Role → State → State → List Message → List Message → Shared → Type 0
 FlowOf setup role x y down up shared =
     Flow setup role (leader_of x) x.incoming (follower_of y) y.outgoing.started y.outgoing.transfer down up shared.set shared.inter (saved_of role shared) (saved_of (other role) shared)
 
@@ -64,7 +64,7 @@ Calm from gave (UserAbort ∷ down) = Calm from gave down
 Calm from gave (message ∷ down) = ⊥
 
 -- x gave the turn, and y is yet to take it
-pub record Giving (setup : Setup) (role : Role) (x y : State) (down up : List Message) (shared : Shared) : Type 0 where
+pub record Giving (setup : ModelSetup) (role : Role) (x y : State) (down up : List Message) (shared : Shared) : Type 0 where
   pub before : List Message
   pub behind : List Message
   pub shape : down ≡ before ++ (Give ∷ behind)
@@ -86,7 +86,7 @@ pub record Giving (setup : Setup) (role : Role) (x y : State) (down up : List Me
   pub theirs : SavedIn setup y.outgoing.transfer (saved_of (other role) shared)
 
 -- of two ends, x of this role, with what goes from x to y and what comes from y to x
-pub data Flowing (setup : Setup) (role : Role) (x y : State) (down up : List Message) (shared : Shared) : Type 0 where
+pub data Flowing (setup : ModelSetup) (role : Role) (x y : State) (down up : List Message) (shared : Shared) : Type 0 where
   Leads : LeadOk x → FollowOk y → FlowOf setup role x y down up shared → Flowing setup role x y down up shared
   Follows : FollowOk x → LeadOk y → Flow setup (other role) (leader_of y) y.incoming (follower_of x) x.outgoing.started x.outgoing.transfer up down shared.set shared.inter (saved_of (other role) shared) (saved_of role shared) → Flowing setup role x y down up shared
   Gives_away : Giving setup role x y down up shared → Flowing setup role x y down up shared
@@ -101,7 +101,7 @@ pub data Sees (role : Role) (x : State) (f g : List Sending) (seen : State) (com
   Gone : x.phase ≡ Over → seen.outgoing ≡ x.outgoing → Sees role x f g seen coming
 
 -- f comes to x, g to y
-pub record Standing (setup : Setup) (role : Role) (x y : State) (f g : List Sending) (shared : Shared) : Type 0 where
+pub record Standing (setup : ModelSetup) (role : Role) (x y : State) (f g : List Sending) (shared : Shared) : Type 0 where
   pub me : State
   pub peer : State
   pub down : List Message
@@ -115,7 +115,7 @@ abbrev pub state_with : State → Awaited → List (List Item) → Option Transf
 state_with x w own t = record x { awaits = w; sets = record x.sets { own = own }; outgoing = record x.outgoing { transfer = t } }
 
 -- what the sending of a message of itself makes of the shared set, for the flow
-abbrev pub After : Setup → Role → State → State → List Message → List Message → Shared → Act → Type 0
+abbrev pub After : ModelSetup → Role → State → State → List Message → List Message → Shared → Act → Type 0
 After base role x y down up shared act =
     Flowing (reliable base) role (acted (reliable base) x act) y (down ++ sent_by (reliable base) x act) up (shared_all Reliable role (sent_by (reliable base) x act) shared)
 
@@ -124,7 +124,7 @@ nil-messages [] = refl
 nil-messages (x ∷ xs) = ap (λ ys. x ∷ ys) (nil-messages xs)
 
 -- the marks of this end's activity, saved
-saves : (setup : Setup) (role : Role) (l : Leader) (lin : Incoming) (y : Follower) (yc : ℕ) (yt : Option Transfer) (down up : List Message) (set mid : ContextSet) (marks : List Saved) (shared : Shared) → Flow setup role l lin y yc yt down up set mid marks (saved_of (other role) shared) → Flow setup role l lin y yc yt down up (saving role marks (record shared { set = set; inter = mid })).set (saving role marks (record shared { set = set; inter = mid })).inter (saved_of role (saving role marks (record shared { set = set; inter = mid }))) (saved_of (other role) (saving role marks (record shared { set = set; inter = mid })))
+saves : (setup : ModelSetup) (role : Role) (l : Leader) (lin : Incoming) (y : Follower) (yc : ℕ) (yt : Option Transfer) (down up : List Message) (set mid : ContextSet) (marks : List Saved) (shared : Shared) → Flow setup role l lin y yc yt down up set mid marks (saved_of (other role) shared) → Flow setup role l lin y yc yt down up (saving role marks (record shared { set = set; inter = mid })).set (saving role marks (record shared { set = set; inter = mid })).inter (saved_of role (saving role marks (record shared { set = set; inter = mid }))) (saved_of (other role) (saving role marks (record shared { set = set; inter = mid })))
 saves setup Initiator l lin y yc yt down up set mid marks shared n = n
 saves setup Responder l lin y yc yt down up set mid marks shared n = n
 
@@ -165,7 +165,7 @@ abbrev pub put : Transfer → Option Value → Progress → Option Transfer
 put t value p = Some (record t { value = value; progress = p })
 
 -- a leader with no own alteration and no activity: what is on its way is calm
-flat-calm : (setup : Setup) (role : Role) (l : Leader) (down : List Message) (y : Follower) (up : List Message) → AllFlat down → alters_in down ≡ [] → Down setup role (Rest l) down y up → Calm role y.gave down × RestOf l up (record y { gave = false })
+flat-calm : (setup : ModelSetup) (role : Role) (l : Leader) (down : List Message) (y : Follower) (up : List Message) → AllFlat down → alters_in down ≡ [] → Down setup role (Rest l) down y up → Calm role y.gave down × RestOf l up (record y { gave = false })
 flat-calm setup role l [] y up f a h = (h.2, (subst (λ g. RestBy l.awaits l.transfer l up (record y { gave = g })) h.2 h.0, h.1, refl))
 flat-calm setup role l (Alter items ∷ d) y up f a h = absurd (cc)
 flat-calm setup role l (GiveAnswer ∷ d) y up f a h = let r = flat-calm setup role l d (record y { gave = false }) up f.1 a h.1 in ((h.0, r.0), r.1)
@@ -190,7 +190,7 @@ quiet-rest (Some t) c held inter up y r h = go t.progress r h
     go Running e h = absurd (cc)
     go Ending e h = absurd (cc)
 
-gives-away : (base : Setup) (role : Role) (x y : State) (t : Option Transfer) (down up : List Message) (shared : Shared) → LeadOk x → FollowOk y → RestsOrNone t → FlowOf (reliable base) role (state_with x NoAnswer [] t) y down up shared → Giving (reliable base) role (record (state_with x NoAnswer [] t) { turn = false; gave = true }) y (down ++ (Give ∷ [])) up shared
+gives-away : (base : ModelSetup) (role : Role) (x y : State) (t : Option Transfer) (down up : List Message) (shared : Shared) → LeadOk x → FollowOk y → RestsOrNone t → FlowOf (reliable base) role (state_with x NoAnswer [] t) y down up shared → Giving (reliable base) role (record (state_with x NoAnswer [] t) { turn = false; gave = true }) y (down ++ (Give ∷ [])) up shared
 gives-away base role x y t down up shared o p r n =
     let w = rests-now t r in
     let c = flat-calm (reliable base) role (leader_of (state_with x NoAnswer [] t)) down (follower_of y) up (n.idle w.0) (n.asks refl ∙ unanswered-none up) n.runs in
@@ -218,20 +218,20 @@ gives-away base role x y t down up shared o p r n =
     }
 
 -- an interrupt, a discard
-pub interrupts-act : (base : Setup) (role : Role) (x y : State) (own : List (List Item)) (t : Transfer) (down up : List Message) (shared : Shared) → LeadOk x → FollowOk y → t.progress ≡ Running → FlowOf (reliable base) role (state_with x NoAnswer own (Some t)) y down up shared → After base role (state_with x NoAnswer own (Some t)) y down up shared Interrupts
+pub interrupts-act : (base : ModelSetup) (role : Role) (x y : State) (own : List (List Item)) (t : Transfer) (down up : List Message) (shared : Shared) → LeadOk x → FollowOk y → t.progress ≡ Running → FlowOf (reliable base) role (state_with x NoAnswer own (Some t)) y down up shared → After base role (state_with x NoAnswer own (Some t)) y down up shared Interrupts
 interrupts-act base role x y own t down up shared o p e n =
     subst (λ q. FlowOf (reliable base) role (state_with x NoAnswer own (put t t.value q)) y down up shared → After base role (state_with x NoAnswer own (put t t.value q)) y down up shared Interrupts) (sym e)
     (λ n. Leads (record { up = o.up; turn = o.turn; gave = o.gave }) p
     (sends_interrupt (reliable base) role (record x.sets { own = own }) x.outgoing.started t x.incoming (follower_of y) y.outgoing.started y.outgoing.transfer down up shared.set shared.inter (saved_of role shared) (saved_of (other role) shared) n)) n
 
-pub discards-act : (base : Setup) (role : Role) (x y : State) (own : List (List Item)) (t : Transfer) (down up : List Message) (shared : Shared) → LeadOk x → FollowOk y → t.progress ≡ Running → FlowOf (reliable base) role (state_with x NoAnswer own (Some t)) y down up shared → After base role (state_with x NoAnswer own (Some t)) y down up shared Discards
+pub discards-act : (base : ModelSetup) (role : Role) (x y : State) (own : List (List Item)) (t : Transfer) (down up : List Message) (shared : Shared) → LeadOk x → FollowOk y → t.progress ≡ Running → FlowOf (reliable base) role (state_with x NoAnswer own (Some t)) y down up shared → After base role (state_with x NoAnswer own (Some t)) y down up shared Discards
 discards-act base role x y own t down up shared o p e n =
     subst (λ q. FlowOf (reliable base) role (state_with x NoAnswer own (put t t.value q)) y down up shared → After base role (state_with x NoAnswer own (put t t.value q)) y down up shared Discards) (sym e)
     (λ n. Leads (record { up = o.up; turn = o.turn; gave = o.gave }) p
     (sends_discard (reliable base) role (record x.sets { own = own }) x.outgoing.started t x.incoming (follower_of y) y.outgoing.started y.outgoing.transfer down up shared.set shared.inter (saved_of role shared) (saved_of (other role) shared) n)) n
 
 -- a suspended transfer is resumed
-resumes-act : (base : Setup) (role : Role) (x y : State) (t : Transfer) (j : ℕ) (down up : List Message) (shared : Shared) → LeadOk x → FollowOk y → FlowOf (reliable base) role (state_with x NoAnswer [] (Some (record t { confirmed = j; progress = Suspended }))) y down up shared → After base role (state_with x NoAnswer [] (Some (record t { confirmed = j; progress = Suspended }))) y down up shared Resumes
+resumes-act : (base : ModelSetup) (role : Role) (x y : State) (t : Transfer) (j : ℕ) (down up : List Message) (shared : Shared) → LeadOk x → FollowOk y → FlowOf (reliable base) role (state_with x NoAnswer [] (Some (record t { confirmed = j; progress = Suspended }))) y down up shared → After base role (state_with x NoAnswer [] (Some (record t { confirmed = j; progress = Suspended }))) y down up shared Resumes
 resumes-act base role x y t zero down up shared o p n =
     Leads (record { up = o.up; turn = o.turn; gave = o.gave }) p
     (saves (reliable base) role _ _ _ _ _ _ _ shared.set shared.set [] shared
@@ -243,14 +243,14 @@ resumes-act base role x y t (suc j) down up shared o p n =
     (resumes (reliable base) role x.sets.held x.sets.inter x.outgoing.started (record t { confirmed = suc j }) x.incoming (follower_of y) y.outgoing.started y.outgoing.transfer down up shared.set shared.inter (saved_of role shared) (saved_of (other role) shared) (suc j) refl
     (newest (below (suc (suc j)) (saved_of role shared))) (ap newest cut ∙ sym (newest-saved (up_to (suc j) t.pieces))) (below (suc (suc j)) (saved_of role shared)) cut n))
 
-starts-act : (base : Setup) (role : Role) (x y : State) (queue : List Handed) (down up : List Message) (shared : Shared) → LeadOk x → FollowOk y → (queue ≡ [] → ⊥) → FlowOf (reliable base) role (state_with x NoAnswer [] None) y down up shared → After base role (record (state_with x NoAnswer [] None) { outgoing = record { started = x.outgoing.started; transfer = None; queue = queue } }) y down up shared Starts
+starts-act : (base : ModelSetup) (role : Role) (x y : State) (queue : List Handed) (down up : List Message) (shared : Shared) → LeadOk x → FollowOk y → (queue ≡ [] → ⊥) → FlowOf (reliable base) role (state_with x NoAnswer [] None) y down up shared → After base role (record (state_with x NoAnswer [] None) { outgoing = record { started = x.outgoing.started; transfer = None; queue = queue } }) y down up shared Starts
 starts-act base role x y [] down up shared o p h n = absurd (h refl)
 starts-act base role x y (item ∷ queue) down up shared o p h n =
     Leads (record { up = o.up; turn = o.turn; gave = o.gave }) p
     (saves (reliable base) role _ _ _ _ _ _ _ shared.set shared.set [] shared
     (starts (reliable base) role x.sets.held x.sets.inter x.outgoing.started item x.incoming (follower_of y) y.outgoing.started y.outgoing.transfer down up shared.set shared.inter (saved_of role shared) (saved_of (other role) shared) n))
 
-encodes-act : (base : Setup) (role : Role) (x y : State) (t : Transfer) (context : ℕ) (found : Option Pair) (down up : List Message) (shared : Shared) → LeadOk x → FollowOk y → lookup x.sets.held context ≡ found → IsWritable base.codec (value_on context t.item found) → FlowOf (reliable base) role (state_with x NoAnswer [] (put t None Running)) y down up shared → After base role (state_with x NoAnswer [] (put t None Running)) y down up shared (Encodes context)
+encodes-act : (base : ModelSetup) (role : Role) (x y : State) (t : Transfer) (context : ℕ) (found : Option Pair) (down up : List Message) (shared : Shared) → LeadOk x → FollowOk y → lookup x.sets.held context ≡ found → IsWritable base.codec (value_on context t.item found) → FlowOf (reliable base) role (state_with x NoAnswer [] (put t None Running)) y down up shared → After base role (state_with x NoAnswer [] (put t None Running)) y down up shared (Encodes context)
 encodes-act base role x y t context None down up shared o p e f n = absurd f
 encodes-act base role x y t context (Some pair) down up shared o p e f n =
     Leads (record { up = o.up; turn = o.turn; gave = o.gave }) p
@@ -259,14 +259,14 @@ encodes-act base role x y t context (Some pair) down up shared o p e f n =
     (encodes (reliable base) role x.sets.held x.sets.inter x.outgoing.started t (record { identifier = context; pair = pair; apdu = t.item.apdu }) x.incoming (follower_of y) y.outgoing.started y.outgoing.transfer down up shared.set shared.inter (saved_of role shared) (saved_of (other role) shared) e f n)))
 
 -- the leader asks for an alteration
-pub alters-act : (base : Setup) (role : Role) (x y : State) (own : List (List Item)) (t : Option Transfer) (items : List Item) (down up : List Message) (shared : Shared) → LeadOk x → FollowOk y → MayAct (reliable base) role (state_with x NoAnswer own t) (Alters items) → FlowOf (reliable base) role (state_with x NoAnswer own t) y down up shared → After base role (state_with x NoAnswer own t) y down up shared (Alters items)
+pub alters-act : (base : ModelSetup) (role : Role) (x y : State) (own : List (List Item)) (t : Option Transfer) (items : List Item) (down up : List Message) (shared : Shared) → LeadOk x → FollowOk y → MayAct (reliable base) role (state_with x NoAnswer own t) (Alters items) → FlowOf (reliable base) role (state_with x NoAnswer own t) y down up shared → After base role (state_with x NoAnswer own t) y down up shared (Alters items)
 alters-act base role x y own t items down up shared o p h n =
     Leads (record { up = o.up; turn = o.turn; gave = o.gave }) p
     (alters (reliable base) role x.sets.held x.sets.inter own x.outgoing.started t items x.incoming (follower_of y) y.outgoing.started y.outgoing.transfer down up shared.set shared.inter (saved_of role shared) (saved_of (other role) shared)
     (not-ending t h.in_mode.1) (sound-asked role x.sets.held (used Reliable (state_with x NoAnswer own t)) items h.may_ask) h.once (keeps-value x role own t items h.may_ask n.value) n)
 
 -- what the leader does while it awaits nothing and has no own alteration
-pub lead-acts : (base : Setup) (role : Role) (x y : State) (t : Option Transfer) (down up : List Message) (shared : Shared) (act : Act) → LeadOk x → FollowOk y → MayAct (reliable base) role (state_with x NoAnswer [] t) act → FlowOf (reliable base) role (state_with x NoAnswer [] t) y down up shared → (act ≡ Releases → ⊥) → (act ≡ Aborts → ⊥) → After base role (state_with x NoAnswer [] t) y down up shared act
+pub lead-acts : (base : ModelSetup) (role : Role) (x y : State) (t : Option Transfer) (down up : List Message) (shared : Shared) (act : Act) → LeadOk x → FollowOk y → MayAct (reliable base) role (state_with x NoAnswer [] t) act → FlowOf (reliable base) role (state_with x NoAnswer [] t) y down up shared → (act ≡ Releases → ⊥) → (act ≡ Aborts → ⊥) → After base role (state_with x NoAnswer [] t) y down up shared act
 lead-acts base role x y t down up shared Connects o p h n r a = absurd (let e = h.is_idle in let f = o.up in cc)
 lead-acts base role x y t down up shared Recovers o p h n r a = absurd (let e = h.is_broken in let f = o.up in cc)
 lead-acts base role x y t down up shared (SaysValue value) o p h n r a = absurd (h.at_once refl)

@@ -3,7 +3,7 @@ use Rattle.std.proofs.Common.{◌≡◌, ℕ, List, [], ◌∷◌, ◌++◌, ref
 use Rattle.std.specs.Prelude.{Option, Some, None}
 use Rattle.agreement.specs.Sets.{Role, other, ContextSet}
 use Rattle.agreement.specs.Sets.Role.{Initiator, Responder}
-use Rattle.agreement.specs.Messages.{Setup, Message, Act, Apdu}
+use Rattle.agreement.specs.Messages.{ModelSetup, Message, Act, Apdu}
 use Rattle.agreement.specs.Messages.Mode.{Reliable}
 use Rattle.agreement.specs.Messages.Act.{Connects, Recovers, SaysValue, Queues, Drops, Alters, Marks, GivesTurn, Pleads, Restarts, Starts, Encodes, Sends, EndsActivity, Interrupts, Discards, Resumes, Releases, Aborts, Withdraws, TransportFails}
 use Rattle.agreement.specs.Messages.Message.{Give, Please, Release, UserAbort}
@@ -64,7 +64,7 @@ seen-outgoing role x f g seen coming (Leaves r p a l o q) = o
 seen-outgoing role x f g seen coming (Gone p o) = o
 
 -- an act that isn't a release or an abort sends what is live
-sent-live : (setup : Setup) (x : State) (act : Act) (s : ContextSet) → (act ≡ Releases → ⊥) → (act ≡ Aborts → ⊥) → AllAre IsLive (sendings s (sent_by setup x act))
+sent-live : (setup : ModelSetup) (x : State) (act : Act) (s : ContextSet) → (act ≡ Releases → ⊥) → (act ≡ Aborts → ⊥) → AllAre IsLive (sendings s (sent_by setup x act))
 sent-live setup x Connects s r a = (tt, tt)
 sent-live setup x Recovers s r a = (tt, tt)
 sent-live setup x (SaysValue value) s r a = (tt, tt)
@@ -100,20 +100,20 @@ is-seen role x f g seen coming u (Leaves r p a l o q) = absurd (cc)
 is-seen role x f g seen coming u (Gone p o) = absurd (cc)
 
 -- the leader acts
-by-settled : (base : Setup) (role : Role) (x y : State) (down up : List Message) (shared : Shared) (act : Act) → LeadOk x → FollowOk y → MayAct (reliable base) role x act → FlowOf (reliable base) role x y down up shared → (act ≡ Releases → ⊥) → (act ≡ Aborts → ⊥) → x.awaits ≡ NoAnswer → x.sets.own ≡ [] → After base role x y down up shared act
+by-settled : (base : ModelSetup) (role : Role) (x y : State) (down up : List Message) (shared : Shared) (act : Act) → LeadOk x → FollowOk y → MayAct (reliable base) role x act → FlowOf (reliable base) role x y down up shared → (act ≡ Releases → ⊥) → (act ≡ Aborts → ⊥) → x.awaits ≡ NoAnswer → x.sets.own ≡ [] → After base role x y down up shared act
 by-settled base role x y down up shared act o p h n r a calm own =
     subst₂ (λ w q. MayAct (reliable base) role (state_with x w q x.outgoing.transfer) act → FlowOf (reliable base) role (state_with x w q x.outgoing.transfer) y down up shared → After base role (state_with x w q x.outgoing.transfer) y down up shared act) (sym calm) (sym own)
     (λ h n. lead-acts base role x y x.outgoing.transfer down up shared act o p h n r a) h n
 
-interrupting : (base : Setup) (role : Role) (x y : State) (t : Option Transfer) (down up : List Message) (shared : Shared) → LeadOk x → FollowOk y → has_progress Running t → FlowOf (reliable base) role (state_with x NoAnswer x.sets.own t) y down up shared → After base role (state_with x NoAnswer x.sets.own t) y down up shared Interrupts
+interrupting : (base : ModelSetup) (role : Role) (x y : State) (t : Option Transfer) (down up : List Message) (shared : Shared) → LeadOk x → FollowOk y → has_progress Running t → FlowOf (reliable base) role (state_with x NoAnswer x.sets.own t) y down up shared → After base role (state_with x NoAnswer x.sets.own t) y down up shared Interrupts
 interrupting base role x y None down up shared o p h n = absurd h
 interrupting base role x y (Some t) down up shared o p h n = interrupts-act base role x y x.sets.own t down up shared o p h n
 
-discarding : (base : Setup) (role : Role) (x y : State) (t : Option Transfer) (down up : List Message) (shared : Shared) → LeadOk x → FollowOk y → has_progress Running t → FlowOf (reliable base) role (state_with x NoAnswer x.sets.own t) y down up shared → After base role (state_with x NoAnswer x.sets.own t) y down up shared Discards
+discarding : (base : ModelSetup) (role : Role) (x y : State) (t : Option Transfer) (down up : List Message) (shared : Shared) → LeadOk x → FollowOk y → has_progress Running t → FlowOf (reliable base) role (state_with x NoAnswer x.sets.own t) y down up shared → After base role (state_with x NoAnswer x.sets.own t) y down up shared Discards
 discarding base role x y None down up shared o p h n = absurd h
 discarding base role x y (Some t) down up shared o p h n = discards-act base role x y x.sets.own t down up shared o p h n
 
-leader-acts : (base : Setup) (role : Role) (x y : State) (down up : List Message) (shared : Shared) (act : Act) → LeadOk x → FollowOk y → MayAct (reliable base) role x act → FlowOf (reliable base) role x y down up shared → (act ≡ Releases → ⊥) → (act ≡ Aborts → ⊥) → After base role x y down up shared act
+leader-acts : (base : ModelSetup) (role : Role) (x y : State) (down up : List Message) (shared : Shared) (act : Act) → LeadOk x → FollowOk y → MayAct (reliable base) role x act → FlowOf (reliable base) role x y down up shared → (act ≡ Releases → ⊥) → (act ≡ Aborts → ⊥) → After base role x y down up shared act
 leader-acts base role x y down up shared Connects o p h n r a = absurd (let e = h.is_idle in let f = o.up in cc)
 leader-acts base role x y down up shared Recovers o p h n r a = absurd (let e = h.is_broken in let f = o.up in cc)
 leader-acts base role x y down up shared (SaysValue value) o p h n r a = absurd (h.at_once refl)
@@ -155,7 +155,7 @@ resting-runs (Some t) r h = clash (sym h ∙ r)
     clash : Running ≡ Suspended → ⊥
     clash e = cc
 
-waiting : (base : Setup) (role : Role) (x : State) (act : Act) → FollowOk x → MayAct (reliable base) role x act → (act ≡ Aborts → ⊥) → Waiting act
+waiting : (base : ModelSetup) (role : Role) (x : State) (act : Act) → FollowOk x → MayAct (reliable base) role x act → (act ≡ Aborts → ⊥) → Waiting act
 waiting base role x Connects o h a = absurd (let e = h.is_idle in let f = o.up in cc)
 waiting base role x Recovers o h a = absurd (let e = h.is_broken in let f = o.up in cc)
 waiting base role x (SaysValue value) o h a = absurd (h.at_once refl)
@@ -182,7 +182,7 @@ follow-same : (x : State) → FollowOk x → FollowOk x
 follow-same x o = o
 
 -- what an end without the turn sends joins what is on its way from it
-flow-quiet : (setup : Setup) (role : Role) (x y : State) (down up : List Message) (shared : Shared) (u : Message) → IsQuiet u → (u ≡ UserAbort) ⊎ FollowOk x → Flowing setup role x y down up shared → Flowing setup role x y (down ++ (u ∷ [])) up shared
+flow-quiet : (setup : ModelSetup) (role : Role) (x y : State) (down up : List Message) (shared : Shared) (u : Message) → IsQuiet u → (u ≡ UserAbort) ⊎ FollowOk x → Flowing setup role x y down up shared → Flowing setup role x y (down ++ (u ∷ [])) up shared
 flow-quiet setup role x y down up shared u q (inl e) (Leads o p n) =
     Leads o p (subst (λ m. FlowOf setup role x y (down ++ (m ∷ [])) up shared) (sym e) (sends_abort setup role (leader_of x) x.incoming (follower_of y) y.outgoing.started y.outgoing.transfer down up shared.set shared.inter (saved_of role shared) (saved_of (other role) shared) n))
 flow-quiet setup role x y down up shared u q (inr f) (Leads o p n) = absurd (true≢false (sym o.turn ∙ f.turn))
@@ -234,7 +234,7 @@ flow-quiet setup role x y down up shared u q c (Is_given k) =
     })
 
 -- queueing changes nothing that the flow reads
-flow-queues : (setup : Setup) (role : Role) (x y : State) (down up : List Message) (shared : Shared) (context : ℕ) (apdu : Apdu) → FollowOk x → Flowing setup role x y down up shared → Flowing setup role (acted setup x (Queues context apdu)) y (down ++ []) up shared
+flow-queues : (setup : ModelSetup) (role : Role) (x y : State) (down up : List Message) (shared : Shared) (context : ℕ) (apdu : Apdu) → FollowOk x → Flowing setup role x y down up shared → Flowing setup role (acted setup x (Queues context apdu)) y (down ++ []) up shared
 flow-queues setup role x y down up shared context apdu f (Leads o p n) = absurd (true≢false (sym o.turn ∙ f.turn))
 flow-queues setup role x y down up shared context apdu f (Follows o p n) =
     Follows (record { up = o.up; turn = o.turn; calm = o.calm; own = o.own; rests = o.rests }) p
@@ -284,18 +284,18 @@ flow-queues setup role x y down up shared context apdu f (Is_given k) =
       theirs = k.theirs;
     })
 
-follower-acts : (base : Setup) (role : Role) (x y : State) (down up : List Message) (shared : Shared) (act : Act) → FollowOk x → Waiting act → Flowing (reliable base) role x y down up shared → After base role x y down up shared act
+follower-acts : (base : ModelSetup) (role : Role) (x y : State) (down up : List Message) (shared : Shared) (act : Act) → FollowOk x → Waiting act → Flowing (reliable base) role x y down up shared → After base role x y down up shared act
 follower-acts base role x y down up shared act o (Queueing context apdu) n = flow-queues (reliable base) role x y down up shared context apdu o n
 follower-acts base role x y down up shared act o (Pleading priority) n = flow-quiet (reliable base) role x y down up shared (Please priority) tt (inr o) n
 
-flow-acts : (base : Setup) (role : Role) (x y : State) (down up : List Message) (shared : Shared) (act : Act) → MayAct (reliable base) role x act → (act ≡ Releases → ⊥) → (act ≡ Aborts → ⊥) → Flowing (reliable base) role x y down up shared → After base role x y down up shared act
+flow-acts : (base : ModelSetup) (role : Role) (x y : State) (down up : List Message) (shared : Shared) (act : Act) → MayAct (reliable base) role x act → (act ≡ Releases → ⊥) → (act ≡ Aborts → ⊥) → Flowing (reliable base) role x y down up shared → After base role x y down up shared act
 flow-acts base role x y down up shared act h r a (Leads o p n) = leader-acts base role x y down up shared act o p h n r a
 flow-acts base role x y down up shared act h r a (Follows o p n) = follower-acts base role x y down up shared act o (waiting base role x act o h a) (Follows o p n)
 flow-acts base role x y down up shared act h r a (Gives_away k) = follower-acts base role x y down up shared act k.giver (waiting base role x act k.giver h a) (Gives_away k)
 flow-acts base role x y down up shared act h r a (Is_given k) = follower-acts base role x y down up shared act k.taker (waiting base role x act k.taker h a) (Is_given k)
 
 -- an act of an end that is up
-stands-up : (base : Setup) (role : Role) (x y : State) (f g : List Sending) (shared : Shared) (act : Act) → MayAct (reliable base) role x act → (act ≡ Releases → ⊥) → (act ≡ Aborts → ⊥) → x.phase ≡ Up → Standing (reliable base) role x y f g shared → Standing (reliable base) role (acted (reliable base) x act) y f (g ++ sendings shared.set (sent_by (reliable base) x act)) (shared_all Reliable role (sent_by (reliable base) x act) shared)
+stands-up : (base : ModelSetup) (role : Role) (x y : State) (f g : List Sending) (shared : Shared) (act : Act) → MayAct (reliable base) role x act → (act ≡ Releases → ⊥) → (act ≡ Aborts → ⊥) → x.phase ≡ Up → Standing (reliable base) role x y f g shared → Standing (reliable base) role (acted (reliable base) x act) y f (g ++ sendings shared.set (sent_by (reliable base) x act)) (shared_all Reliable role (sent_by (reliable base) x act) shared)
 stands-up base role x y f g shared act h r a u j =
     let i = is-seen role x f g j.me j.up u j.sees_me in
     let live = sent-live (reliable base) x act shared.set r a in
@@ -309,7 +309,7 @@ stands-up base role x y f g shared act h r a u j =
       flow = flow-acts base role x j.peer j.down j.up shared act h r a (subst (λ z. Flowing (reliable base) role z j.peer j.down j.up shared) i.same j.flow);
     }
 
-stands-aborts : (base : Setup) (role : Role) (x y z : State) (f g : List Sending) (shared : Shared) → z.phase ≡ Over → x.outgoing ≡ z.outgoing → Standing (reliable base) role x y f g shared → Standing (reliable base) role z y f (g ++ (record { message = UserAbort; shared = shared.set } ∷ [])) shared
+stands-aborts : (base : ModelSetup) (role : Role) (x y z : State) (f g : List Sending) (shared : Shared) → z.phase ≡ Over → x.outgoing ≡ z.outgoing → Standing (reliable base) role x y f g shared → Standing (reliable base) role z y f (g ++ (record { message = UserAbort; shared = shared.set } ∷ [])) shared
 stands-aborts base role x y z f g shared over same j =
     record {
       me = j.me;
@@ -330,7 +330,7 @@ quiet-no_release (s ∷ f) q = (go s.message q.0, quiet-no_release f q.1)
     go m k = tt
 
 -- the initiator that leads releases
-release-flow : (base : Setup) (role : Role) (x y : State) (down up : List Message) (shared : Shared) → role ≡ Initiator → LeadOk x → FollowOk y → x.awaits ≡ NoAnswer → x.sets.own ≡ [] → x.outgoing.transfer ≡ None → FlowOf (reliable base) role x y down up shared → AllQuiet up × FlowOf (reliable base) role x y (down ++ (Release ∷ [])) up shared
+release-flow : (base : ModelSetup) (role : Role) (x y : State) (down up : List Message) (shared : Shared) → role ≡ Initiator → LeadOk x → FollowOk y → x.awaits ≡ NoAnswer → x.sets.own ≡ [] → x.outgoing.transfer ≡ None → FlowOf (reliable base) role x y down up shared → AllQuiet up × FlowOf (reliable base) role x y (down ++ (Release ∷ [])) up shared
 release-flow base role x y down up shared r o p calm own none n = (
   subst₂ (λ w q. FlowOf (reliable base) role (state_with x w q x.outgoing.transfer) y down up shared → AllQuiet up) (sym calm) (sym own)
       (subst (λ t. FlowOf (reliable base) role (state_with x NoAnswer [] t) y down up shared → AllQuiet up) (sym none) quiet) n,
@@ -344,7 +344,7 @@ release-flow base role x y down up shared r o p calm own none n = (
         let a = at-rest (reliable base) role (Rest (leader_of (state_with x NoAnswer [] None))) down (follower_of y) up n.runs in
         quiet-part up a.more (quiet-rest None x.outgoing.started x.sets.held x.sets.inter (up ++ a.more) a.last tt a.rests.0).0
 
-stands-releases : (base : Setup) (role : Role) (x y : State) (f g : List Sending) (shared : Shared) → MayAct (reliable base) role x Releases → Standing (reliable base) role x y f g shared → Standing (reliable base) role (acted (reliable base) x Releases) y f (g ++ (record { message = Release; shared = shared.set } ∷ [])) shared
+stands-releases : (base : ModelSetup) (role : Role) (x y : State) (f g : List Sending) (shared : Shared) → MayAct (reliable base) role x Releases → Standing (reliable base) role x y f g shared → Standing (reliable base) role (acted (reliable base) x Releases) y f (g ++ (record { message = Release; shared = shared.set } ∷ [])) shared
 stands-releases base role x y f g shared h j =
     let i = is-seen role x f g j.me j.up h.is_free.is_up j.sees_me in
     by_flow i (subst (λ z. Flowing (reliable base) role z j.peer j.down j.up shared) i.same j.flow)
@@ -384,7 +384,7 @@ not-broken_of role x f g seen coming u (Joins set answer rest r p a e q m c l) i
 not-broken_of role x f g seen coming u (Leaves r p a l o q) i = cc
 not-broken_of role x f g seen coming u (Gone p o) i = cc
 
-pub up-me : (setup : Setup) (role : Role) (x y : State) (down up : List Message) (shared : Shared) → Flowing setup role x y down up shared → (x.phase ≡ Up) × (y.phase ≡ Up)
+pub up-me : (setup : ModelSetup) (role : Role) (x y : State) (down up : List Message) (shared : Shared) → Flowing setup role x y down up shared → (x.phase ≡ Up) × (y.phase ≡ Up)
 up-me setup role x y down up shared (Leads o p n) = (o.up, p.up)
 up-me setup role x y down up shared (Follows o p n) = (o.up, p.up)
 up-me setup role x y down up shared (Gives_away k) = (k.giver.up, k.taker.up)
@@ -392,11 +392,11 @@ up-me setup role x y down up shared (Is_given k) = (k.taker.up, k.giver.up)
 
 -- what any act keeps
 -- an end of an association that stands doesn't withdraw
-stays-up : (base : Setup) (role : Role) (x y : State) (f g : List Sending) (shared : Shared) → Standing (reliable base) role x y f g shared → (x.phase ≡ Idle) ⊎ ((x.phase ≡ Broken) × (role ≡ Initiator)) → ⊥
+stays-up : (base : ModelSetup) (role : Role) (x y : State) (f g : List Sending) (shared : Shared) → Standing (reliable base) role x y f g shared → (x.phase ≡ Idle) ⊎ ((x.phase ≡ Broken) × (role ≡ Initiator)) → ⊥
 stays-up base role x y f g shared j (inl e) = not-idle_of role x f g j.me j.up (up-me (reliable base) role j.me j.peer j.down j.up shared j.flow).0 j.sees_me e
 stays-up base role x y f g shared j (inr e) = not-broken_of role x f g j.me j.up (up-me (reliable base) role j.me j.peer j.down j.up shared j.flow).0 j.sees_me e.0
 
-pub stands-acts : (base : Setup) (role : Role) (x y : State) (f g : List Sending) (shared : Shared) (act : Act) → MayAct (reliable base) role x act → Standing (reliable base) role x y f g shared → Standing (reliable base) role (acted (reliable base) x act) y f (g ++ sendings shared.set (sent_by (reliable base) x act)) (shared_all Reliable role (sent_by (reliable base) x act) shared)
+pub stands-acts : (base : ModelSetup) (role : Role) (x y : State) (f g : List Sending) (shared : Shared) (act : Act) → MayAct (reliable base) role x act → Standing (reliable base) role x y f g shared → Standing (reliable base) role (acted (reliable base) x act) y f (g ++ sendings shared.set (sent_by (reliable base) x act)) (shared_all Reliable role (sent_by (reliable base) x act) shared)
 stands-acts base role x y f g shared Connects h j = absurd (not-idle_of role x f g j.me j.up (up-me (reliable base) role j.me j.peer j.down j.up shared j.flow).0 j.sees_me h.is_idle)
 stands-acts base role x y f g shared Recovers h j = absurd (not-broken_of role x f g j.me j.up (up-me (reliable base) role j.me j.peer j.down j.up shared j.flow).0 j.sees_me h.is_broken)
 stands-acts base role x y f g shared (SaysValue value) h j = absurd (h.at_once refl)

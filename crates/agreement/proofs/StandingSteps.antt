@@ -3,7 +3,7 @@ use Rattle.std.proofs.Common.{◌≡◌, ℕ, true, false, List, [], ◌∷◌, 
 use Rattle.std.specs.Prelude.{Option, Some, None}
 use Rattle.agreement.specs.Sets.{Role, other, ContextSet, altered}
 use Rattle.agreement.specs.Sets.Role.{Initiator, Responder}
-use Rattle.agreement.specs.Messages.{Value, Mode, Setup, Message, Choice}
+use Rattle.agreement.specs.Messages.{Value, Mode, ModelSetup, Message, Choice}
 use Rattle.agreement.specs.Messages.Mode.{Bare, Direct, Reliable}
 use Rattle.agreement.specs.Messages.Choice.{Nothing, Accepting, Refusing, Results}
 use Rattle.agreement.specs.Messages.Message.{Connect, Recover, Accept, Data, Alter, AlterAnswer, Mark, Restart, Start, Resume, Chunk, End, EndAnswer, Interrupt, InterruptAnswer, Discard, DiscardAnswer, Give, GiveAnswer, Please, Release, ReleaseAnswer, UserAbort}
@@ -30,21 +30,21 @@ use Rattle.agreement.proofs.StandingActs.{more, fewer, up-me, seen-outgoing}
 use Rattle.agreement.proofs.StandingTakes.{FlowTakes, leader-takes}
 
 -- the flow that y leads and x follows
-abbrev Behind : Setup → Role → State → State → List Message → List Message → Shared → Type 0
+abbrev Behind : ModelSetup → Role → State → State → List Message → List Message → Shared → Type 0
 Behind base role x y down up shared =
     Flow (reliable base) (other role) (leader_of y) y.incoming (follower_of x) x.outgoing.started x.outgoing.transfer up down shared.set shared.inter (saved_of (other role) shared) (saved_of role shared)
 
 -- an answer that changes the shared set
-with-set : (base : Setup) (role : Role) (x y : State) (down up : List Message) (set : ContextSet) (shared : Shared) → Flow (reliable base) (other role) (leader_of y) y.incoming (follower_of x) x.outgoing.started x.outgoing.transfer up down set shared.inter (saved_of (other role) shared) (saved_of role shared) → Behind base role x y down up (record shared { set = set })
+with-set : (base : ModelSetup) (role : Role) (x y : State) (down up : List Message) (set : ContextSet) (shared : Shared) → Flow (reliable base) (other role) (leader_of y) y.incoming (follower_of x) x.outgoing.started x.outgoing.transfer up down set shared.inter (saved_of (other role) shared) (saved_of role shared) → Behind base role x y down up (record shared { set = set })
 with-set base Initiator x y down up set shared n = n
 with-set base Responder x y down up set shared n = n
 
-keeps-nil : (base : Setup) (role : Role) (x y : State) (down up : List Message) (shared : Shared) → FollowOk x → LeadOk y → Behind base role x y down up shared → Flowing (reliable base) role x y (down ++ []) up shared
+keeps-nil : (base : ModelSetup) (role : Role) (x y : State) (down up : List Message) (shared : Shared) → FollowOk x → LeadOk y → Behind base role x y down up shared → Flowing (reliable base) role x y (down ++ []) up shared
 keeps-nil base role x y down up shared o p n =
     Follows o p (subst (λ d. Behind base role x y d up shared) (sym (nil-messages down)) n)
 
 -- what is heard at the end of a transfer changes only the open invocations and the queue
-ended-flow : (base : Setup) (role : Role) (x y : State) (v : Option Value) (down up : List Message) (shared : Shared) → FollowOk x → LeadOk y → Behind base role (between x) y down up shared → Flowing (reliable base) role (between (hears (reliable base) v x)) y down up shared
+ended-flow : (base : ModelSetup) (role : Role) (x y : State) (v : Option Value) (down up : List Message) (shared : Shared) → FollowOk x → LeadOk y → Behind base role (between x) y down up shared → Flowing (reliable base) role (between (hears (reliable base) v x)) y down up shared
 ended-flow base role x y None down up shared o p n = Follows (record { up = o.up; turn = o.turn; calm = o.calm; own = o.own; rests = o.rests }) p n
 ended-flow base role x y (Some v) down up shared o p n = Follows (record { up = o.up; turn = o.turn; calm = o.calm; own = o.own; rests = o.rests }) p n
 
@@ -52,15 +52,15 @@ follow-again : (x z : State) → z.phase ≡ x.phase → z.turn ≡ x.turn → z
 follow-again x z a b c d e o = record { up = a ∙ o.up; turn = b ∙ o.turn; calm = c ∙ o.calm; own = d ∙ o.own; rests = subst RestsOrNone (sym e) o.rests }
 
 -- what spells a value is read as it
-pub spells-value : (base : Setup) (value : Value) (held : ContextSet) (incoming : Incoming) → SpellsIn (Some value) (reliable base) held incoming → value_read (reliable base) held incoming ≡ Some value
+pub spells-value : (base : ModelSetup) (value : Value) (held : ContextSet) (incoming : Incoming) → SpellsIn (Some value) (reliable base) held incoming → value_read (reliable base) held incoming ≡ Some value
 spells-value base value held incoming h = ap (base.codec.read held) h.1 ∙ base.codec.faithful held value h.2 h.0
 
-spells-read : (base : Setup) (value : Option Value) (held : ContextSet) (incoming : Incoming) → SpellsIn value (reliable base) held incoming → IsReadUnder held (value_read (reliable base) held incoming)
+spells-read : (base : ModelSetup) (value : Option Value) (held : ContextSet) (incoming : Incoming) → SpellsIn value (reliable base) held incoming → IsReadUnder held (value_read (reliable base) held incoming)
 spells-read base None held incoming h = absurd h
 spells-read base (Some value) held incoming h = subst (IsReadUnder held) (sym (spells-value base value held incoming h)) h.0
 
 -- the end that follows takes what comes, but what ends it
-follower-takes : (base : Setup) (role : Role) (x y : State) (down up : List Message) (shared : Shared) (m : Message) (choice : Choice) → FollowOk x → LeadOk y → IsChoice (reliable base) x m choice → (m ≡ UserAbort → ⊥) → (m ≡ Release → ⊥) → Behind base role x y down (m ∷ up) shared → FlowTakes base role x y down up shared m choice
+follower-takes : (base : ModelSetup) (role : Role) (x y : State) (down up : List Message) (shared : Shared) (m : Message) (choice : Choice) → FollowOk x → LeadOk y → IsChoice (reliable base) x m choice → (m ≡ UserAbort → ⊥) → (m ≡ Release → ⊥) → Behind base role x y down (m ∷ up) shared → FlowTakes base role x y down up shared m choice
 follower-takes base role x y down up shared (Alter items) (Results results) o p c a r n =
     record {
       may = λ w. record { is_up = o.up; in_mode = o.turn; once = distinct-additions items n.runs.1; may_be_asked = may-be_asked (other role) x.sets.held items n.runs.0 };
@@ -142,7 +142,7 @@ follower-takes base role x y down up shared (Alter items) choice o p c a r n = a
 follower-takes base role x y down up shared m choice o p c a r n = absurd n.runs
 
 -- who gave the turn takes what is on its way to it
-giver-takes : (base : Setup) (role : Role) (x y : State) (down up : List Message) (shared : Shared) (m : Message) (choice : Choice) → (m ≡ UserAbort → ⊥) → Giving (reliable base) role x y down (m ∷ up) shared → FlowTakes base role x y down up shared m choice
+giver-takes : (base : ModelSetup) (role : Role) (x y : State) (down up : List Message) (shared : Shared) (m : Message) (choice : Choice) → (m ≡ UserAbort → ⊥) → Giving (reliable base) role x y down (m ∷ up) shared → FlowTakes base role x y down up shared m choice
 giver-takes base role x y down up shared m choice a k = by_message m a k
   where
     by_message : (m : Message) → (m ≡ UserAbort → ⊥) → Giving (reliable base) role x y down (m ∷ up) shared → FlowTakes base role x y down up shared m choice
@@ -181,7 +181,7 @@ none-altered [] q = refl
 none-altered (Alter items ∷ xs) q = absurd q.0
 none-altered (m ∷ xs) q = none-altered xs q.1
 
-quiet-then : (setup : Setup) (from : Role) (R : Goal) (xs ys : List Message) (y : Follower) (up : List Message) → AllQuiet xs → Down setup from R ys y up → Down setup from R (xs ++ ys) y up
+quiet-then : (setup : ModelSetup) (from : Role) (R : Goal) (xs ys : List Message) (y : Follower) (up : List Message) → AllQuiet xs → Down setup from R ys y up → Down setup from R (xs ++ ys) y up
 quiet-then setup from R [] ys y up q h = h
 quiet-then setup from R (Please p ∷ xs) ys y up q h = quiet-then setup from R xs ys y up q.1 h
 quiet-then setup from R (UserAbort ∷ xs) ys y up q h = quiet-then setup from R xs ys y up q.1 h
@@ -204,7 +204,7 @@ rests-value None sets r = tt
 rests-value (Some t) sets r = subst (λ s. ValueIn s t.value sets) (sym r) tt
 
 -- x takes the turn from y; what x sent is quiet, and so is what comes behind the giving
-turns : (base : Setup) (role : Role) (x y : State) (down behind : List Message) (shared : Shared) → FollowOk x → FollowOk y → x.incoming.active ≡ false → y.incoming.active ≡ false → y.gave ≡ true → y.sets.held ≡ x.sets.held → y.sets.inter ≡ x.sets.inter → shared.set ≡ y.sets.held → shared.inter ≡ y.sets.inter → PairedIn y.outgoing.transfer y.outgoing.started x.incoming → PairedIn x.outgoing.transfer x.outgoing.started y.incoming → SavedIn (reliable base) x.outgoing.transfer (saved_of role shared) → SavedIn (reliable base) y.outgoing.transfer (saved_of (other role) shared) → AllQuiet down → AllQuiet behind → Flow (reliable base) role (record { awaits = NoAnswer; sets = record { held = x.sets.held; inter = x.sets.inter; own = [] }; started = x.outgoing.started; transfer = x.outgoing.transfer }) x.incoming (follower_of y) y.outgoing.started y.outgoing.transfer (down ++ (GiveAnswer ∷ [])) behind shared.set shared.inter (saved_of role shared) (saved_of (other role) shared)
+turns : (base : ModelSetup) (role : Role) (x y : State) (down behind : List Message) (shared : Shared) → FollowOk x → FollowOk y → x.incoming.active ≡ false → y.incoming.active ≡ false → y.gave ≡ true → y.sets.held ≡ x.sets.held → y.sets.inter ≡ x.sets.inter → shared.set ≡ y.sets.held → shared.inter ≡ y.sets.inter → PairedIn y.outgoing.transfer y.outgoing.started x.incoming → PairedIn x.outgoing.transfer x.outgoing.started y.incoming → SavedIn (reliable base) x.outgoing.transfer (saved_of role shared) → SavedIn (reliable base) y.outgoing.transfer (saved_of (other role) shared) → AllQuiet down → AllQuiet behind → Flow (reliable base) role (record { awaits = NoAnswer; sets = record { held = x.sets.held; inter = x.sets.inter; own = [] }; started = x.outgoing.started; transfer = x.outgoing.transfer }) x.incoming (follower_of y) y.outgoing.started y.outgoing.transfer (down ++ (GiveAnswer ∷ [])) behind shared.set shared.inter (saved_of role shared) (saved_of (other role) shared)
 turns base role x y down behind shared o p ax ay gave held inter set mid pairs others saved theirs qd qb =
     let flat = flat-append down (GiveAnswer ∷ []) (quiet-flat down qd) (tt, tt) in
     record {
@@ -230,12 +230,12 @@ turns base role x y down behind shared o p ax ay gave held inter set mid pairs o
     l : Leader
     l = record { awaits = NoAnswer; sets = record { held = x.sets.held; inter = x.sets.inter; own = [] }; started = x.outgoing.started; transfer = x.outgoing.transfer }
 
-to-own : (base : Setup) (role : Role) (x y : State) (down up : List Message) (shared : Shared) → x.awaits ≡ NoAnswer → x.sets.own ≡ [] → Flow (reliable base) role (record { awaits = NoAnswer; sets = record { held = x.sets.held; inter = x.sets.inter; own = [] }; started = x.outgoing.started; transfer = x.outgoing.transfer }) x.incoming (follower_of y) y.outgoing.started y.outgoing.transfer down up shared.set shared.inter (saved_of role shared) (saved_of (other role) shared) → FlowOf (reliable base) role x y down up shared
+to-own : (base : ModelSetup) (role : Role) (x y : State) (down up : List Message) (shared : Shared) → x.awaits ≡ NoAnswer → x.sets.own ≡ [] → Flow (reliable base) role (record { awaits = NoAnswer; sets = record { held = x.sets.held; inter = x.sets.inter; own = [] }; started = x.outgoing.started; transfer = x.outgoing.transfer }) x.incoming (follower_of y) y.outgoing.started y.outgoing.transfer down up shared.set shared.inter (saved_of role shared) (saved_of (other role) shared) → FlowOf (reliable base) role x y down up shared
 to-own base role x y down up shared e f n =
     subst₂ (λ w q. Flow (reliable base) role (record { awaits = w; sets = record { held = x.sets.held; inter = x.sets.inter; own = q }; started = x.outgoing.started; transfer = x.outgoing.transfer }) x.incoming (follower_of y) y.outgoing.started y.outgoing.transfer down up shared.set shared.inter (saved_of role shared) (saved_of (other role) shared)) (sym e) (sym f) n
 
 -- who is given the turn takes what is on its way to it
-taker-takes : (base : Setup) (role : Role) (x y : State) (down up : List Message) (shared : Shared) (m : Message) (choice : Choice) → (m ≡ UserAbort → ⊥) → (m ≡ Release → ⊥) → (k : Giving (reliable base) (other role) y x (m ∷ up) down shared) → other (other role) ≡ role → FlowTakes base role x y down up shared m choice
+taker-takes : (base : ModelSetup) (role : Role) (x y : State) (down up : List Message) (shared : Shared) (m : Message) (choice : Choice) → (m ≡ UserAbort → ⊥) → (m ≡ Release → ⊥) → (k : Giving (reliable base) (other role) y x (m ∷ up) down shared) → other (other role) ≡ role → FlowTakes base role x y down up shared m choice
 taker-takes base role x y down up shared m choice a r k same = by_before k.before k.shape k.calm
   where
     again : (z : State) (before : List Message) → up ≡ before ++ (Give ∷ k.behind) → Calm (other role) z.gave before → FollowOk z → z.incoming ≡ x.incoming → z.sets ≡ x.sets → z.outgoing ≡ x.outgoing → Flowing (reliable base) role z y (down ++ []) up shared
@@ -301,14 +301,14 @@ twice : (role : Role) → other (other role) ≡ role
 twice Initiator = refl
 twice Responder = refl
 
-flow-takes : (base : Setup) (role : Role) (x y : State) (down up : List Message) (shared : Shared) (m : Message) (choice : Choice) → is_purged role x.awaits m ≡ false → IsChoice (reliable base) x m choice → (m ≡ UserAbort → ⊥) → (m ≡ Release → ⊥) → Flowing (reliable base) role x y down (m ∷ up) shared → FlowTakes base role x y down up shared m choice
+flow-takes : (base : ModelSetup) (role : Role) (x y : State) (down up : List Message) (shared : Shared) (m : Message) (choice : Choice) → is_purged role x.awaits m ≡ false → IsChoice (reliable base) x m choice → (m ≡ UserAbort → ⊥) → (m ≡ Release → ⊥) → Flowing (reliable base) role x y down (m ∷ up) shared → FlowTakes base role x y down up shared m choice
 flow-takes base role x y down up shared m choice kept c a r (Leads o p n) = leader-takes base role x y down up shared m choice o p kept a n
 flow-takes base role x y down up shared m choice kept c a r (Follows o p n) = follower-takes base role x y down up shared m choice o p c a r n
 flow-takes base role x y down up shared m choice kept c a r (Gives_away k) = giver-takes base role x y down up shared m choice a k
 flow-takes base role x y down up shared m choice kept c a r (Is_given k) = taker-takes base role x y down up shared m choice a r k (twice role)
 
 -- a release on its way to an end: its sender is the initiator, and no activity is in progress
-release-comes : (setup : Setup) (role : Role) (x y : State) (down up : List Message) (shared : Shared) → Flowing setup role x y down (Release ∷ up) shared → (other role ≡ Initiator) × (x.turn ≡ false) × (x.incoming.active ≡ false)
+release-comes : (setup : ModelSetup) (role : Role) (x y : State) (down up : List Message) (shared : Shared) → Flowing setup role x y down (Release ∷ up) shared → (other role ≡ Initiator) × (x.turn ≡ false) × (x.incoming.active ≡ false)
 release-comes setup role x y down up shared (Leads o p n) = absurd (no-release (leader_of x) (at-rest setup role (Rest (leader_of x)) down (follower_of y) (Release ∷ up) n.runs))
   where
     by_progress : (p : Progress) (t : Transfer) (l : Leader) (us : List Message) (z : Follower) → RestIn p t l (Release ∷ us) z → ⊥
@@ -338,18 +338,18 @@ release-comes setup role x y down up shared (Is_given k) = by_before k.before k.
     by_before (b ∷ before) e c = absurd (cc)
 
 -- what a taking gives
-pub record Takes (base : Setup) (role : Role) (x y : State) (f g : List Sending) (shared : Shared) (s : Sending) (m : Message) (choice : Choice) : Type 0 where
+pub record Takes (base : ModelSetup) (role : Role) (x y : State) (f g : List Sending) (shared : Shared) (s : Sending) (m : Message) (choice : Choice) : Type 0 where
   pub may : WasSent (reliable base) m → MayTake (reliable base) role x m
   pub pair : pair_under x.sets.held m ≡ pair_under s.shared m
   pub next : Standing (reliable base) role (taken (reliable base) role x m choice) y f (g ++ sendings shared.set (answer_to (reliable base) x m choice)) (shared_answered m choice shared)
 
 -- no data comes in reliable mode
-no-pair : (base : Setup) (role : Role) (x : State) (m : Message) (at : ContextSet) → (WasSent (reliable base) m → MayTake (reliable base) role x m) → pair_under x.sets.held m ≡ pair_under at m
+no-pair : (base : ModelSetup) (role : Role) (x : State) (m : Message) (at : ContextSet) → (WasSent (reliable base) m → MayTake (reliable base) role x m) → pair_under x.sets.held m ≡ pair_under at m
 no-pair base role x (Data value) at h = absurd ((h tt).at_once refl)
 no-pair base role x m at h = refl
 
 -- answers are live
-answer-live : (setup : Setup) (x : State) (m : Message) (choice : Choice) (s : ContextSet) → (m ≡ Release → ⊥) → AllAre IsLive (sendings s (answer_to setup x m choice))
+answer-live : (setup : ModelSetup) (x : State) (m : Message) (choice : Choice) (s : ContextSet) → (m ≡ Release → ⊥) → AllAre IsLive (sendings s (answer_to setup x m choice))
 answer-live setup x Connect (Accepting set) s n = (tt, tt)
 answer-live setup x Connect Refusing s n = (tt, tt)
 answer-live setup x Connect Nothing s n = tt
@@ -390,7 +390,7 @@ live-no_release (s ∷ flight) h = (go s.message h.0, live-no_release flight h.1
     go m k = tt
 
 -- an abort ends the taker
-takes-abort : (base : Setup) (role : Role) (x y : State) (s : Sending) (f g : List Sending) (shared : Shared) (choice : Choice) → Standing (reliable base) role x y (s ∷ f) g shared → Takes base role x y f g shared s UserAbort choice
+takes-abort : (base : ModelSetup) (role : Role) (x y : State) (s : Sending) (f g : List Sending) (shared : Shared) (choice : Choice) → Standing (reliable base) role x y (s ∷ f) g shared → Takes base role x y f g shared s UserAbort choice
 takes-abort base role x y s f g shared choice j =
     record {
       may = λ w. tt;
@@ -413,7 +413,7 @@ left role y g s f seen coming new (Joins set answer rest r p a e i m c l) n q = 
 left role y g s f seen coming new (Leaves r p a l o z) n q = Leaves r p a (all-append IsNoRelease g new l q) o z
 left role y g s f seen coming new (Gone p o) n q = Gone p o
 
-takes-release : (base : Setup) (role : Role) (x y : State) (s : Sending) (f g : List Sending) (shared : Shared) (choice : Choice) → s.message ≡ Release → x.phase ≡ Up → (other role ≡ Initiator) × (x.turn ≡ false) × (x.incoming.active ≡ false) → Standing (reliable base) role x y (s ∷ f) g shared → Takes base role x y f g shared s Release choice
+takes-release : (base : ModelSetup) (role : Role) (x y : State) (s : Sending) (f g : List Sending) (shared : Shared) (choice : Choice) → s.message ≡ Release → x.phase ≡ Up → (other role ≡ Initiator) × (x.turn ≡ false) × (x.incoming.active ≡ false) → Standing (reliable base) role x y (s ∷ f) g shared → Takes base role x y f g shared s Release choice
 takes-release base role x y s f g shared choice e up r j =
     record {
       may = λ w. record { responds = no-other role r.0; is_up = up; rests = λ q. (r.1, r.2) };
@@ -441,7 +441,7 @@ kind Release = IsARelease refl
 kind m = IsAnother (λ e. cc) (λ e. cc)
 
 -- an end that is as it is seen takes what comes
-takes-same : (base : Setup) (role : Role) (x y : State) (s : Sending) (f g : List Sending) (shared : Shared) (m : Message) (choice : Choice) (j : Standing (reliable base) role x y (s ∷ f) g shared) → s.message ≡ m → is_purged role x.awaits m ≡ false → IsChoice (reliable base) x m choice → j.me ≡ x → j.up ≡ messages (s ∷ f) → AllAre IsLive g → Takes base role x y f g shared s m choice
+takes-same : (base : ModelSetup) (role : Role) (x y : State) (s : Sending) (f g : List Sending) (shared : Shared) (m : Message) (choice : Choice) (j : Standing (reliable base) role x y (s ∷ f) g shared) → s.message ≡ m → is_purged role x.awaits m ≡ false → IsChoice (reliable base) x m choice → j.me ≡ x → j.up ≡ messages (s ∷ f) → AllAre IsLive g → Takes base role x y f g shared s m choice
 takes-same base role x y s f g shared m choice j e kept c same comes live = by_kind (kind m)
   where
     flow : Flowing (reliable base) role x j.peer j.down (m ∷ messages f) shared
@@ -472,7 +472,7 @@ takes-same base role x y s f g shared m choice j e kept c same comes live = by_k
         }
 
 -- whatever comes next and isn't passed over
-pub stands-takes : (base : Setup) (role : Role) (x y : State) (s : Sending) (f g : List Sending) (shared : Shared) (m : Message) (choice : Choice) → s.message ≡ m → (x.phase ≡ Over → ⊥) → is_purged role x.awaits m ≡ false → IsChoice (reliable base) x m choice → Standing (reliable base) role x y (s ∷ f) g shared → Takes base role x y f g shared s m choice
+pub stands-takes : (base : ModelSetup) (role : Role) (x y : State) (s : Sending) (f g : List Sending) (shared : Shared) (m : Message) (choice : Choice) → s.message ≡ m → (x.phase ≡ Over → ⊥) → is_purged role x.awaits m ≡ false → IsChoice (reliable base) x m choice → Standing (reliable base) role x y (s ∷ f) g shared → Takes base role x y f g shared s m choice
 stands-takes base role x y s f g shared m choice e alive kept c j = by_view j.sees_me
   where
     by_view : Sees role x (s ∷ f) g j.me j.up → Takes base role x y f g shared s m choice
@@ -520,7 +520,7 @@ stands-takes base role x y s f g shared m choice e alive kept c j = by_view j.se
     by_view (Gone p o) = absurd (alive p)
 
 -- what is passed over
-flow-passes : (base : Setup) (role : Role) (x y : State) (down up : List Message) (shared : Shared) (m : Message) → is_purged role x.awaits m ≡ true → Flowing (reliable base) role x y down (m ∷ up) shared → Flowing (reliable base) role x y down up shared
+flow-passes : (base : ModelSetup) (role : Role) (x y : State) (down up : List Message) (shared : Shared) (m : Message) → is_purged role x.awaits m ≡ true → Flowing (reliable base) role x y down (m ∷ up) shared → Flowing (reliable base) role x y down up shared
 flow-passes base role x y down up shared m k (Leads o p n) = Leads o p (by_await x.awaits k n)
   where
     FlowAt : Awaited → List Message → Type 0
@@ -536,7 +536,7 @@ flow-passes base role x y down up shared m k (Follows o p n) = absurd (true≢fa
 flow-passes base role x y down up shared m k (Gives_away q) = absurd (true≢false (sym (subst (λ w. is_purged role w m ≡ true) q.giver.calm k)))
 flow-passes base role x y down up shared m k (Is_given q) = absurd (true≢false (sym (subst (λ w. is_purged role w m ≡ true) q.taker.calm k)))
 
-pub stands-passes : (base : Setup) (role : Role) (x y : State) (s : Sending) (f g : List Sending) (shared : Shared) (m : Message) → s.message ≡ m → (x.phase ≡ Over) ⊎ (is_purged role x.awaits m ≡ true) → Standing (reliable base) role x y (s ∷ f) g shared → Standing (reliable base) role x y f g shared
+pub stands-passes : (base : ModelSetup) (role : Role) (x y : State) (s : Sending) (f g : List Sending) (shared : Shared) (m : Message) → s.message ≡ m → (x.phase ≡ Over) ⊎ (is_purged role x.awaits m ≡ true) → Standing (reliable base) role x y (s ∷ f) g shared → Standing (reliable base) role x y f g shared
 stands-passes base role x y s f g shared m e h j = by_view j.sees_me h
   where
     peer : Sees (other role) y g f j.peer j.down
@@ -561,7 +561,7 @@ stands-passes base role x y s f g shared m e h j = by_view j.sees_me h
     by_view (Gone p o) k = record { me = j.me; peer = j.peer; down = j.down; up = j.up; sees_me = Gone p o; sees_peer = peer; flow = j.flow }
 
 -- seen from the other end
-pub stands-swap : (setup : Setup) (role : Role) (x y : State) (f g : List Sending) (shared : Shared) → Standing setup role x y f g shared → Standing setup (other role) y x g f shared
+pub stands-swap : (setup : ModelSetup) (role : Role) (x y : State) (f g : List Sending) (shared : Shared) → Standing setup role x y f g shared → Standing setup (other role) y x g f shared
 stands-swap setup Initiator x y f g shared j = record { me = j.peer; peer = j.me; down = j.up; up = j.down; sees_me = j.sees_peer; sees_peer = j.sees_me; flow = flip j.flow }
   where
     flip : {a b : State} {d u : List Message} → Flowing setup Initiator a b d u shared → Flowing setup Responder b a u d shared

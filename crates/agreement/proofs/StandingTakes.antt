@@ -2,7 +2,7 @@
 use Rattle.std.proofs.Common.{◌≡◌, ℕ, false, List, [], ◌∷◌, ◌++◌, refl, sym, ◌∙◌, true≢false, subst, subst₂, inl, inr, ◌⊎◌}
 use Rattle.std.specs.Prelude.{Option, Some, None}
 use Rattle.agreement.specs.Sets.{Role, other, ContextSet, Item}
-use Rattle.agreement.specs.Messages.{Setup, Message, Choice}
+use Rattle.agreement.specs.Messages.{ModelSetup, Message, Choice}
 use Rattle.agreement.specs.Messages.Message.{AlterAnswer, MarkAnswer, EndAnswer, InterruptAnswer, DiscardAnswer, Please, Release, UserAbort}
 use Rattle.agreement.specs.State.{Awaited, Progress, Transfer, State}
 use Rattle.agreement.specs.State.Awaited.{NoAnswer, RestartOf, InterruptOf, DiscardOf, ReleaseOf}
@@ -17,7 +17,7 @@ use Rattle.agreement.proofs.Standing.{reliable, follower_of, LeadOk, FollowOk, F
 use Rattle.agreement.proofs.Standing.Flowing.{Leads}
 
 -- what a taking gives, of the flow
-pub record FlowTakes (base : Setup) (role : Role) (x y : State) (down up : List Message) (shared : Shared) (m : Message) (choice : Choice) : Type 0 where
+pub record FlowTakes (base : ModelSetup) (role : Role) (x y : State) (down up : List Message) (shared : Shared) (m : Message) (choice : Choice) : Type 0 where
   pub may : WasSent (reliable base) m → MayTake (reliable base) role x m
   pub next : Flowing (reliable base) role (taken (reliable base) role x m choice) y (down ++ answer_to (reliable base) x m choice) up (shared_answered m choice shared)
 
@@ -48,7 +48,7 @@ rest-upward (Some t) l m us z r = go t.progress r
     go Ending h = ups-upward _ _ _ l.sets.own l.sets.held l.sets.inter m us z.held h.0
 
 -- a leader that awaits nothing takes what comes up
-leader-calm : (base : Setup) (role : Role) (x y : State) (down up : List Message) (shared : Shared) (m : Message) (choice : Choice) → LeadOk x → FollowOk y → x.awaits ≡ NoAnswer → (m ≡ UserAbort → ⊥) → Flow (reliable base) role (record { awaits = NoAnswer; sets = x.sets; started = x.outgoing.started; transfer = x.outgoing.transfer }) x.incoming (follower_of y) y.outgoing.started y.outgoing.transfer down (m ∷ up) shared.set shared.inter (saved_of role shared) (saved_of (other role) shared) → FlowTakes base role x y down up shared m choice
+leader-calm : (base : ModelSetup) (role : Role) (x y : State) (down up : List Message) (shared : Shared) (m : Message) (choice : Choice) → LeadOk x → FollowOk y → x.awaits ≡ NoAnswer → (m ≡ UserAbort → ⊥) → Flow (reliable base) role (record { awaits = NoAnswer; sets = x.sets; started = x.outgoing.started; transfer = x.outgoing.transfer }) x.incoming (follower_of y) y.outgoing.started y.outgoing.transfer down (m ∷ up) shared.set shared.inter (saved_of role shared) (saved_of (other role) shared) → FlowTakes base role x y down up shared m choice
 leader-calm base role x y down up shared m choice o p calm a n = by_message m a n
   where
     back : (z : State) → z.awaits ≡ x.awaits → LeadOk z → Flow (reliable base) role (record { awaits = NoAnswer; sets = z.sets; started = z.outgoing.started; transfer = z.outgoing.transfer }) z.incoming (follower_of y) y.outgoing.started y.outgoing.transfer down up shared.set shared.inter (saved_of role shared) (saved_of (other role) shared) → Flowing (reliable base) role z y (down ++ []) up shared
@@ -101,7 +101,7 @@ leader-calm base role x y down up shared m choice o p calm a n = by_message m a 
     by_message UserAbort a n = absurd (a refl)
     by_message m a n = absurd (upward m n)
 
-purges-some : (base : Setup) (role : Role) (w : Awaited) (x y : State) (t : Option Transfer) (down up : List Message) (shared : Shared) → (w ≡ InterruptOf) ⊎ (w ≡ DiscardOf) → Flow (reliable base) role (record { awaits = w; sets = x.sets; started = x.outgoing.started; transfer = t }) x.incoming (follower_of y) y.outgoing.started y.outgoing.transfer down up shared.set shared.inter (saved_of role shared) (saved_of (other role) shared) → t ≡ None → ⊥
+purges-some : (base : ModelSetup) (role : Role) (w : Awaited) (x y : State) (t : Option Transfer) (down up : List Message) (shared : Shared) → (w ≡ InterruptOf) ⊎ (w ≡ DiscardOf) → Flow (reliable base) role (record { awaits = w; sets = x.sets; started = x.outgoing.started; transfer = t }) x.incoming (follower_of y) y.outgoing.started y.outgoing.transfer down up shared.set shared.inter (saved_of role shared) (saved_of (other role) shared) → t ≡ None → ⊥
 purges-some base role w x y t down up shared (inl e) n q =
     let f = subst₂ (λ v s. Flow (reliable base) role (record { awaits = v; sets = x.sets; started = x.outgoing.started; transfer = s }) x.incoming (follower_of y) y.outgoing.started y.outgoing.transfer down up shared.set shared.inter (saved_of role shared) (saved_of (other role) shared)) e q n in
     (at-rest (reliable base) role (Rest (record { awaits = InterruptOf; sets = x.sets; started = x.outgoing.started; transfer = None })) down (follower_of y) up f.runs).rests.0
@@ -110,7 +110,7 @@ purges-some base role w x y t down up shared (inr e) n q =
     (at-rest (reliable base) role (Rest (record { awaits = DiscardOf; sets = x.sets; started = x.outgoing.started; transfer = None })) down (follower_of y) up f.runs).rests.0
 
 -- a leader takes what it doesn't pass over
-pub leader-takes : (base : Setup) (role : Role) (x y : State) (down up : List Message) (shared : Shared) (m : Message) (choice : Choice) → LeadOk x → FollowOk y → is_purged role x.awaits m ≡ false → (m ≡ UserAbort → ⊥) → FlowOf (reliable base) role x y down (m ∷ up) shared → FlowTakes base role x y down up shared m choice
+pub leader-takes : (base : ModelSetup) (role : Role) (x y : State) (down up : List Message) (shared : Shared) (m : Message) (choice : Choice) → LeadOk x → FollowOk y → is_purged role x.awaits m ≡ false → (m ≡ UserAbort → ⊥) → FlowOf (reliable base) role x y down (m ∷ up) shared → FlowTakes base role x y down up shared m choice
 leader-takes base role x y down up shared m choice o p kept a n = by_await x.awaits refl n
   where
     FlowAt : Awaited → Option Transfer → Message → Type 0

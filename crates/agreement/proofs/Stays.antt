@@ -6,7 +6,7 @@ use Rattle.std.proofs.lemmas.Bool.Decides.{nat_tests}
 use Rattle.agreement.specs.Sets.{Role, ContextSet, Item, Result, Saved, changed, altered, lookup, is_among, identifier_of, identifiers, below, newest}
 use Rattle.agreement.specs.Sets.Item.{Addition, Deletion}
 use Rattle.agreement.specs.Sets.Result.{Rejected, AcceptedAs, Accepted, Kept}
-use Rattle.agreement.specs.Messages.{Value, Mode, Setup, Message, Act, Choice}
+use Rattle.agreement.specs.Messages.{Value, Mode, ModelSetup, Message, Act, Choice}
 use Rattle.agreement.specs.Messages.Mode.{Bare, Direct, Reliable}
 use Rattle.agreement.specs.Messages.Act.{Connects, Recovers, SaysValue, Queues, Drops, Alters, Marks, GivesTurn, Pleads, Restarts, Starts, Encodes, Sends, EndsActivity, Interrupts, Discards, Resumes, Releases, Aborts, Withdraws, TransportFails}
 use Rattle.agreement.specs.Messages.Choice.{Nothing, Accepting, Refusing, Results}
@@ -140,7 +140,7 @@ is-joined : (p : Phase) → p ≡ Up → IsJoined p
 is-joined p e = subst IsJoined (sym e) tt
 
 -- an act of the end
-pub acts-stay : (v : Value) (setup : Setup) (role : Role) (x : State) (act : Act) → MayAct setup role x act → LeavesAlone v.identifier v.pair (Acts act) → (act ≡ Resumes → HasItsMark x.outgoing.transfer) → StayOf v setup.mode x → StayOf v setup.mode (acted setup x act)
+pub acts-stay : (v : Value) (setup : ModelSetup) (role : Role) (x : State) (act : Act) → MayAct setup role x act → LeavesAlone v.identifier v.pair (Acts act) → (act ≡ Resumes → HasItsMark x.outgoing.transfer) → StayOf v setup.mode x → StayOf v setup.mode (acted setup x act)
 acts-stay v setup role x Connects h l m k = record { sets = λ j. absurd j; own = k.own; asked = k.asked; sent = k.sent; came = k.came }
 acts-stay v setup role x Recovers h l m k = record { sets = λ j. absurd j; own = k.own; asked = k.asked; sent = k.sent; came = k.came }
 acts-stay v setup role x (SaysValue value) h l m k = k
@@ -199,19 +199,19 @@ joined-sets v Reliable set inter saved g = (g, λ e. g, λ e. absurd (cc))
 joins-stay : (v : Value) (mode : Mode) (role : Role) (set : ContextSet) (x : State) → Gives_pair v set → StayOf v mode x → StayOf v mode (joined_with mode role set x)
 joins-stay v mode role set x g k = record { sets = λ j. joined-sets v mode set x.sets.inter x.saved g; own = tt; asked = tt; sent = k.sent; came = k.came }
 
-opens-stay : (v : Value) (setup : Setup) (role : Role) (x : State) (choice : Choice) → IsChoice setup x Connect choice → LeavesAlone v.identifier v.pair (Takes Connect choice) → StayOf v setup.mode x → StayOf v setup.mode (taken setup role x Connect choice)
+opens-stay : (v : Value) (setup : ModelSetup) (role : Role) (x : State) (choice : Choice) → IsChoice setup x Connect choice → LeavesAlone v.identifier v.pair (Takes Connect choice) → StayOf v setup.mode x → StayOf v setup.mode (taken setup role x Connect choice)
 opens-stay v setup role x (Accepting set) c l k = record { sets = λ j. joined-sets v setup.mode set [] [] l; own = tt; asked = tt; sent = tt; came = (tt, tt) }
 opens-stay v setup role x Refusing c l k = record { sets = λ j. absurd (refusing-apart x.phase j); own = k.own; asked = k.asked; sent = k.sent; came = k.came }
 opens-stay v setup role x Nothing c l k = absurd c
 opens-stay v setup role x (Results results) c l k = absurd c
 
-recovers-stay : (v : Value) (setup : Setup) (role : Role) (x : State) (choice : Choice) → IsChoice setup x Recover choice → LeavesAlone v.identifier v.pair (Takes Recover choice) → StayOf v setup.mode x → StayOf v setup.mode (taken setup role x Recover choice)
+recovers-stay : (v : Value) (setup : ModelSetup) (role : Role) (x : State) (choice : Choice) → IsChoice setup x Recover choice → LeavesAlone v.identifier v.pair (Takes Recover choice) → StayOf v setup.mode x → StayOf v setup.mode (taken setup role x Recover choice)
 recovers-stay v setup role x (Accepting set) c l k = joins-stay v setup.mode role set x l k
 recovers-stay v setup role x Refusing c l k = record { sets = λ j. absurd (refusing-apart x.phase j); own = k.own; asked = k.asked; sent = k.sent; came = k.came }
 recovers-stay v setup role x Nothing c l k = absurd c
 recovers-stay v setup role x (Results results) c l k = absurd c
 
-alters-stay : (v : Value) (setup : Setup) (role : Role) (x : State) (items : List Item) (choice : Choice) → Unnamed v items → StayOf v setup.mode x → StayOf v setup.mode (taken setup role x (Alter items) choice)
+alters-stay : (v : Value) (setup : ModelSetup) (role : Role) (x : State) (items : List Item) (choice : Choice) → Unnamed v items → StayOf v setup.mode x → StayOf v setup.mode (taken setup role x (Alter items) choice)
 alters-stay v setup role x items (Results results) u k =
     record { sets = λ j. let a = k.sets j in (gives-altered v items results x.sets.held u a.0, a.1, a.2); own = k.own; asked = k.asked; sent = k.sent; came = k.came }
 alters-stay v setup role x items (Accepting set) u k = k
@@ -242,11 +242,11 @@ gives-resumed_in v activity (suc n) i held (inr h) c g = absurd (none h.1)
     none : suc n ≡ 0 → ⊥
     none e = omega arith
 
-hears-stay : (v : Value) (setup : Setup) (value : Option Value) (x : State) → StayOf v setup.mode x → StayOf v setup.mode (hears setup value x)
+hears-stay : (v : Value) (setup : ModelSetup) (value : Option Value) (x : State) → StayOf v setup.mode x → StayOf v setup.mode (hears setup value x)
 hears-stay v setup None x k = k
 hears-stay v setup (Some value) x k = k
 
-ends-stay : (v : Value) (setup : Setup) (value : Option Value) (x : State) → setup.mode ≡ Reliable → StayOf v setup.mode x → StayOf v setup.mode (between (hears setup value x))
+ends-stay : (v : Value) (setup : ModelSetup) (value : Option Value) (x : State) → setup.mode ≡ Reliable → StayOf v setup.mode x → StayOf v setup.mode (between (hears setup value x))
 ends-stay v setup None x e k = record { sets = λ j. let a = k.sets j in (a.1 e, a.1, a.2); own = k.own; asked = k.asked; sent = k.sent; came = k.came }
 ends-stay v setup (Some value) x e k = record { sets = λ j. let a = k.sets j in (a.1 e, a.1, a.2); own = k.own; asked = k.asked; sent = k.sent; came = k.came }
 
@@ -254,7 +254,7 @@ awaited-positive : (w : Awaited) (n : ℕ) → w ≡ RestartOf n → IsPositive 
 awaited-positive w n e p = subst IsPositive e p
 
 -- a taking
-pub takes-stay : (v : Value) (setup : Setup) (role : Role) (x : State) (m : Message) (choice : Choice) → MayTake setup role x m → IsChoice setup x m choice → LeavesAlone v.identifier v.pair (Takes m choice) → Sound v m → StayOf v setup.mode x → StayOf v setup.mode (taken setup role x m choice)
+pub takes-stay : (v : Value) (setup : ModelSetup) (role : Role) (x : State) (m : Message) (choice : Choice) → MayTake setup role x m → IsChoice setup x m choice → LeavesAlone v.identifier v.pair (Takes m choice) → Sound v m → StayOf v setup.mode x → StayOf v setup.mode (taken setup role x m choice)
 takes-stay v setup role x Connect choice h c l s k = opens-stay v setup role x choice c l k
 takes-stay v setup role x Recover choice h c l s k = recovers-stay v setup role x choice c l k
 takes-stay v setup role x (Accept set) choice h c l s k = joins-stay v setup.mode role set x s k
@@ -304,6 +304,6 @@ broken-apart Bare p j = j
 broken-apart Direct p j = j
 broken-apart Reliable p j = j
 
-pub breaks-stay : (v : Value) (setup : Setup) (x : State) → StayOf v setup.mode x → StayOf v setup.mode (broken setup x)
+pub breaks-stay : (v : Value) (setup : ModelSetup) (x : State) → StayOf v setup.mode x → StayOf v setup.mode (broken setup x)
 breaks-stay v setup x k =
     record { sets = λ j. absurd (broken-apart setup.mode x.phase j); own = k.own; asked = tt; sent = carries-on v _ x.outgoing (λ t c. c) k.sent; came = k.came }

@@ -3,7 +3,7 @@ use Rattle.std.proofs.Common.{◌≡◌, ℕ, zero, suc, ◌≤◌, true, false,
 use Rattle.std.specs.Prelude.{Option, Some, None}
 use Rattle.agreement.specs.Sets.{Role, ContextSet, Item, Saved, below, newest}
 use Rattle.agreement.specs.Sets.Role.{Initiator, Responder}
-use Rattle.agreement.specs.Messages.{Value, Mode, Setup, Message, Act, Choice}
+use Rattle.agreement.specs.Messages.{Value, Mode, ModelSetup, Message, Act, Choice}
 use Rattle.agreement.specs.Messages.Problem.{General}
 use Rattle.agreement.specs.Messages.Apdu.{Reject}
 use Rattle.agreement.specs.Messages.Mode.{Bare, Direct, Reliable}
@@ -50,7 +50,7 @@ whole-resumed v role (suc n) shared g w =
     whole-saving v role (below (suc (suc n)) (saved_of role shared)) (record shared { inter = shared.set; set = newest (below (suc (suc n)) (saved_of role shared)) })
     (record { set = g n refl; inter = w.set; saved = w.saved })
 
-whole-acts : (v : Value) (setup : Setup) (role : Role) (x : State) (act : Act) (shared : Shared) → (act ≡ Resumes → (n : ℕ) → confirmed_of x.outgoing.transfer ≡ suc n → Gives_pair v (newest (below (suc (suc n)) (saved_of role shared)))) → Whole v shared → Whole v (shared_all setup.mode role (sent_by setup x act) shared)
+whole-acts : (v : Value) (setup : ModelSetup) (role : Role) (x : State) (act : Act) (shared : Shared) → (act ≡ Resumes → (n : ℕ) → confirmed_of x.outgoing.transfer ≡ suc n → Gives_pair v (newest (below (suc (suc n)) (saved_of role shared)))) → Whole v shared → Whole v (shared_all setup.mode role (sent_by setup x act) shared)
 whole-acts v setup role x Connects shared g w = w
 whole-acts v setup role x Recovers shared g w = w
 whole-acts v setup role x (SaysValue value) shared g w = w
@@ -116,7 +116,7 @@ not-accepting A Connect choice n k a = absurd (n refl)
 not-accepting A Recover choice n k a = absurd (k refl)
 not-accepting A m choice n k a = absurd a
 
-whole-takes : (v : Value) (setup : Setup) (role : Role) (x : State) (m : Message) (choice : Choice) (shared : Shared) → MayTake setup role x m → LeavesAlone v.identifier v.pair (Takes m choice) → Sound v m → AcceptsIn (Takes m choice) ⊎ Whole v shared → Whole v (shared_answered m choice shared)
+whole-takes : (v : Value) (setup : ModelSetup) (role : Role) (x : State) (m : Message) (choice : Choice) (shared : Shared) → MayTake setup role x m → LeavesAlone v.identifier v.pair (Takes m choice) → Sound v m → AcceptsIn (Takes m choice) ⊎ Whole v shared → Whole v (shared_answered m choice shared)
 whole-takes v setup role x Connect choice shared h l s w = opened-whole v choice shared l w
 whole-takes v setup role x Recover choice shared h l s w = recovered-whole v choice shared l w
 whole-takes v setup role x m choice shared h l s (inl a) = absurd (not-accepting ⊥ m choice (λ e. cc) (λ e. cc) a)
@@ -165,7 +165,7 @@ neither (inr b) = b
 none-plain : (v : Value) → Plain_flight v []
 none-plain v = (tt, λ h. h)
 
-acts-plain : (v : Value) (setup : Setup) (x : State) (act : Act) (at : ContextSet) → LeavesAlone v.identifier v.pair (Acts act) → Plain_flight v (sendings at (sent_by setup x act))
+acts-plain : (v : Value) (setup : ModelSetup) (x : State) (act : Act) (at : ContextSet) → LeavesAlone v.identifier v.pair (Acts act) → Plain_flight v (sendings at (sent_by setup x act))
 acts-plain v setup x Connects at l = ((tt, tt), neither)
 acts-plain v setup x Recovers at l = ((tt, tt), neither)
 acts-plain v setup x (SaysValue value) at l = ((tt, tt), neither)
@@ -194,7 +194,7 @@ Sends_soundly v step flight = AllSound v flight × (HasAcceptance flight → Acc
 plainly : (v : Value) (step : Step) (flight : List Sending) → Plain_flight v flight → Sends_soundly v step flight
 plainly v step flight p = (p.0, λ h. absurd (p.1 h))
 
-accepts-soundly : (v : Value) (choice : Choice) (m : Message) (x : State) (setup : Setup) (at : ContextSet) → (m ≡ Connect) ⊎ (m ≡ Recover) → LeavesAlone v.identifier v.pair (Takes m choice) → Sends_soundly v (Takes m choice) (sendings at (answer_to setup x m choice))
+accepts-soundly : (v : Value) (choice : Choice) (m : Message) (x : State) (setup : ModelSetup) (at : ContextSet) → (m ≡ Connect) ⊎ (m ≡ Recover) → LeavesAlone v.identifier v.pair (Takes m choice) → Sends_soundly v (Takes m choice) (sendings at (answer_to setup x m choice))
 accepts-soundly v (Accepting set) Connect x setup at e l = ((l, tt), λ h. tt)
 accepts-soundly v Refusing Connect x setup at e l = ((tt, tt), λ h. absurd (neither h))
 accepts-soundly v Nothing Connect x setup at e l = (tt, λ h. absurd h)
@@ -206,7 +206,7 @@ accepts-soundly v (Results results) Recover x setup at e l = (tt, λ h. absurd h
 accepts-soundly v choice m x setup at (inl e) l = absurd (cc)
 accepts-soundly v choice m x setup at (inr e) l = absurd (cc)
 
-answers-soundly : (v : Value) (setup : Setup) (x : State) (m : Message) (choice : Choice) (at : ContextSet) → LeavesAlone v.identifier v.pair (Takes m choice) → Sends_soundly v (Takes m choice) (sendings at (answer_to setup x m choice))
+answers-soundly : (v : Value) (setup : ModelSetup) (x : State) (m : Message) (choice : Choice) (at : ContextSet) → LeavesAlone v.identifier v.pair (Takes m choice) → Sends_soundly v (Takes m choice) (sendings at (answer_to setup x m choice))
 answers-soundly v setup x Connect choice at l = accepts-soundly v choice Connect x setup at (inl refl) l
 answers-soundly v setup x Recover choice at l = accepts-soundly v choice Recover x setup at (inr refl) l
 answers-soundly v setup x (Alter items) (Results results) at l = ((tt, tt), λ h. absurd (neither h))
@@ -233,7 +233,7 @@ answers-soundly v setup x Release choice at l = ((tt, tt), λ h. absurd (neither
 answers-soundly v setup x m choice at l = (tt, λ h. absurd h)
 
 -- who joins by a step took an acceptance, made one, or was joined
-joins-acting : (setup : Setup) (role : Role) (x : State) (act : Act) → MayAct setup role x act → IsJoined (acted setup x act).phase → IsJoined x.phase
+joins-acting : (setup : ModelSetup) (role : Role) (x : State) (act : Act) → MayAct setup role x act → IsJoined (acted setup x act).phase → IsJoined x.phase
 joins-acting setup role x Connects h j = absurd j
 joins-acting setup role x Recovers h j = absurd j
 joins-acting setup role x Marks h j = go setup.mode j
@@ -273,7 +273,7 @@ refusing-apart p j = j
 abbrev Joining : Message → Choice → State → Type 0
 Joining m choice x = AcceptsIn (Takes m choice) ⊎ (IsAcceptance m ⊎ IsJoined x.phase)
 
-joins-taking : (setup : Setup) (role : Role) (x : State) (m : Message) (choice : Choice) → IsJoined (taken setup role x m choice).phase → Joining m choice x
+joins-taking : (setup : ModelSetup) (role : Role) (x : State) (m : Message) (choice : Choice) → IsJoined (taken setup role x m choice).phase → Joining m choice x
 joins-taking setup role x Connect (Accepting set) j = inl tt
 joins-taking setup role x Connect Refusing j = absurd (refusing-apart x.phase j)
 joins-taking setup role x Connect Nothing j = inr (inr j)
@@ -326,7 +326,7 @@ record Half (v : Value) (mode : Mode) (x : State) (f : List Sending) (A : Type 0
   pub joined : IsJoined x.phase → A
   pub accepted : HasAcceptance f → A
 
-own-half : (v : Value) (setup : Setup) (role : Role) (x : State) (f : List Sending) (A : Type 0) (step : Step) → IsStep setup role x f step → ((m : Message) (choice : Choice) → step ≡ Takes m choice → MayTake setup role x m) → LeavesAlone v.identifier v.pair step → (step ≡ Acts Resumes → HasItsMark x.outgoing.transfer) → Half v setup.mode x f A → Half v setup.mode (after setup role x step) (taken_off step f) (AcceptsIn step ⊎ A)
+own-half : (v : Value) (setup : ModelSetup) (role : Role) (x : State) (f : List Sending) (A : Type 0) (step : Step) → IsStep setup role x f step → ((m : Message) (choice : Choice) → step ≡ Takes m choice → MayTake setup role x m) → LeavesAlone v.identifier v.pair step → (step ≡ Acts Resumes → HasItsMark x.outgoing.transfer) → Half v setup.mode x f A → Half v setup.mode (after setup role x step) (taken_off step f) (AcceptsIn step ⊎ A)
 own-half v setup role x f A (Acts act) h t l m k =
     record {
       me = acts-stay v setup role x act h l (λ e. m (ap Acts e)) k.me;
@@ -359,7 +359,7 @@ peer-half v mode y g new A step s k =
     go (inl a) = inr (k.accepted a)
     go (inr b) = inl (s.1 b)
 
-sends-soundly : (v : Value) (setup : Setup) (x : State) (step : Step) (at : ContextSet) → LeavesAlone v.identifier v.pair step → Sends_soundly v step (sendings at (sent_in setup x step))
+sends-soundly : (v : Value) (setup : ModelSetup) (x : State) (step : Step) (at : ContextSet) → LeavesAlone v.identifier v.pair step → Sends_soundly v step (sendings at (sent_in setup x step))
 sends-soundly v setup x (Acts act) at l = plainly v (Acts act) (sendings at (sent_by setup x act)) (acts-plain v setup x act at l)
 sends-soundly v setup x (Takes m choice) at l = answers-soundly v setup x m choice at l
 sends-soundly v setup x (Passes m) at l = (tt, λ h. absurd h)
@@ -368,7 +368,7 @@ gives-its_mark : (v : Value) (mode : Mode) (role : Role) (x : State) (shared : S
 gives-its_mark v mode role x shared m i k n e =
     subst (Gives_pair v) (sym (i n e)) (gives-mark v n (pieces_of x.outgoing.transfer) (m n e).0 (m n e).1 k.sent)
 
-whole-step : (v : Value) (setup : Setup) (role : Role) (x : State) (f : List Sending) (A : Type 0) (step : Step) (shared : Shared) → IsStep setup role x f step → ((m : Message) (choice : Choice) → step ≡ Takes m choice → MayTake setup role x m) → LeavesAlone v.identifier v.pair step → (step ≡ Acts Resumes → HasItsMark x.outgoing.transfer × ItsMark role x shared) → Half v setup.mode x f A → (A → Whole v shared) → AcceptsIn step ⊎ A → Whole v (shared_after setup role x step shared)
+whole-step : (v : Value) (setup : ModelSetup) (role : Role) (x : State) (f : List Sending) (A : Type 0) (step : Step) (shared : Shared) → IsStep setup role x f step → ((m : Message) (choice : Choice) → step ≡ Takes m choice → MayTake setup role x m) → LeavesAlone v.identifier v.pair step → (step ≡ Acts Resumes → HasItsMark x.outgoing.transfer × ItsMark role x shared) → Half v setup.mode x f A → (A → Whole v shared) → AcceptsIn step ⊎ A → Whole v (shared_after setup role x step shared)
 whole-step v setup role x f A (Acts act) shared h t l m k w (inl a) = absurd a
 whole-step v setup role x f A (Acts act) shared h t l m k w (inr a) =
     whole-acts v setup role x act shared (λ e. gives-its_mark v setup.mode role x shared (m (ap Acts e)).0 (m (ap Acts e)).1 k.me) (w a)
@@ -388,10 +388,10 @@ Stood [] = ⊥
 Stood (Break ∷ world) = Stood world
 Stood (By who step ∷ world) = AcceptsIn step ⊎ Stood world
 
-abbrev pub ResumeFacts : Setup → Type 0
+abbrev pub ResumeFacts : ModelSetup → Type 0
 ResumeFacts setup = (world : World) (role : Role) → IsRun setup (By role (Acts Resumes) ∷ world) → HasItsMark (state_of setup role world).outgoing.transfer × ItsMark role (state_of setup role world) (shared_at setup world)
 
-record Both (v : Value) (setup : Setup) (world : World) : Type 0 where
+record Both (v : Value) (setup : ModelSetup) (world : World) : Type 0 where
   pub initiator : Half v setup.mode (state_of setup Initiator world) (flight_to setup Initiator world) (Stood world)
   pub responder : Half v setup.mode (state_of setup Responder world) (flight_to setup Responder world) (Stood world)
   pub whole : Stood world → Whole v (shared_at setup world)
@@ -409,10 +409,10 @@ broken-apart Bare p j = j
 broken-apart Direct p j = j
 broken-apart Reliable p j = j
 
-broken-half : (v : Value) (setup : Setup) (x : State) (f : List Sending) (A : Type 0) → Half v setup.mode x f A → Half v setup.mode (broken setup x) [] A
+broken-half : (v : Value) (setup : ModelSetup) (x : State) (f : List Sending) (A : Type 0) → Half v setup.mode x f A → Half v setup.mode (broken setup x) [] A
 broken-half v setup x f A k = record { me = breaks-stay v setup x k.me; sound = tt; joined = λ j. absurd (broken-apart setup.mode x.phase j); accepted = λ a. absurd a }
 
-both-kept : (v : Value) (setup : Setup) → NoAbortOfItself setup → ResumeFacts setup → IsNotBare setup.mode → (world : World) → IsRun setup world → IsLeftAlone v.identifier v.pair world → Both v setup world
+both-kept : (v : Value) (setup : ModelSetup) → NoAbortOfItself setup → ResumeFacts setup → IsNotBare setup.mode → (world : World) → IsRun setup world → IsLeftAlone v.identifier v.pair world → Both v setup world
 both-kept v setup n r b [] h l = record { initiator = first Initiator; responder = first Responder; whole = λ a. absurd a }
   where
     first : (role : Role) → Half v setup.mode (new_end setup role) [] ⊥
@@ -457,11 +457,11 @@ both-kept v setup n r b (By Responder step ∷ world) h l =
           (λ m c e. n world Responder m c (subst (λ s. IsRun setup (By Responder s ∷ world)) e h)) l.0 (λ e. r world Responder (subst (λ s. IsRun setup (By Responder s ∷ world)) e h)) k.responder k.whole;
     }
 
-half-of : (v : Value) (setup : Setup) (world : World) (role : Role) → Both v setup world → Half v setup.mode (state_of setup role world) (flight_to setup role world) (Stood world)
+half-of : (v : Value) (setup : ModelSetup) (world : World) (role : Role) → Both v setup world → Half v setup.mode (state_of setup role world) (flight_to setup role world) (Stood world)
 half-of v setup world Initiator k = k.initiator
 half-of v setup world Responder k = k.responder
 
-pub contexts-stay : (setup : Setup) → NoAbortOfItself setup → ResumeFacts setup → ContextsStay setup
+pub contexts-stay : (setup : ModelSetup) → NoAbortOfItself setup → ResumeFacts setup → ContextsStay setup
 contexts-stay setup n r b world h k pair l role j =
     let v : Value = record { identifier = k; pair = pair; apdu = Reject 0 (General 0) } in
     let both = both-kept v setup n r b world h l in
@@ -469,14 +469,14 @@ contexts-stay setup n r b world h k pair l role j =
     ((half.me.sets j).0, (both.whole (half.joined j)).set)
 
 -- what a resumption finds: nothing is resumed but in reliable mode
-saved-facts : (setup : Setup) (role : Role) (x : State) (shared : Shared) (t : Option Transfer) → x.outgoing.transfer ≡ t → SavedIn setup t (saved_of role shared) → HasItsMark t × ((n : ℕ) → confirmed_of t ≡ suc n → newest (below (suc (suc n)) (saved_of role shared)) ≡ newest_set (up_to (suc n) (pieces_of t)))
+saved-facts : (setup : ModelSetup) (role : Role) (x : State) (shared : Shared) (t : Option Transfer) → x.outgoing.transfer ≡ t → SavedIn setup t (saved_of role shared) → HasItsMark t × ((n : ℕ) → confirmed_of t ≡ suc n → newest (below (suc (suc n)) (saved_of role shared)) ≡ newest_set (up_to (suc n) (pieces_of t)))
 saved-facts setup role x shared None e s = ((λ n f. absurd (cc)), (λ n f. absurd (cc)))
 saved-facts setup role x shared (Some t) e s = (
   (λ n f. (s.0, subst (λ q. q ≤ highest t.pieces) f s.2)),
   (λ n f. ap newest (ap (below (suc (suc n))) s.1 ∙ sym (saved-up_to (suc n) t.pieces s.0 (subst (λ q. q ≤ highest t.pieces) f s.2))) ∙ sym (newest-saved (up_to (suc n) t.pieces))),
 )
 
-reliable-facts : (base : Setup) → ResumeFacts (reliable base)
+reliable-facts : (base : ModelSetup) → ResumeFacts (reliable base)
 reliable-facts base world role h =
     let x = state_of (reliable base) role world in
     let shared = shared_at (reliable base) world in
@@ -495,7 +495,7 @@ reliable-facts base world role h =
         by_flow role x shared h y down up (Gives_away k) = absurd (true≢false (sym h.leads.has_turn ∙ k.giver.turn))
         by_flow role x shared h y down up (Is_given k) = absurd (true≢false (sym h.leads.has_turn ∙ k.taker.turn))
 
-pub all-stay : ((setup : Setup) → NoAbortOfItself setup) → (setup : Setup) → ContextsStay setup
+pub all-stay : ((setup : ModelSetup) → NoAbortOfItself setup) → (setup : ModelSetup) → ContextsStay setup
 all-stay n =
     by-mode ContextsStay
     (λ base b. absurd b)

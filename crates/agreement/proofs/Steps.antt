@@ -3,7 +3,7 @@ use Rattle.std.proofs.Common.{◌≡◌, ℕ, ◌≤◌, true, false, not, List,
 use Rattle.std.proofs.lemmas.Bool.Decides.{nat_tests}
 use Rattle.agreement.specs.Sets.{Role, other, ContextSet, Saved, next_number}
 use Rattle.agreement.specs.Sets.Role.{Initiator, Responder}
-use Rattle.agreement.specs.Messages.{Setup, Message, Choice}
+use Rattle.agreement.specs.Messages.{ModelSetup, Message, Choice}
 use Rattle.agreement.specs.Messages.Mode.{Direct}
 use Rattle.agreement.specs.Messages.Message.{Accept, Data, Alter, AlterAnswer, Mark, Restart, RestartAnswer, Give, Please, Release, ReleaseAnswer, UserAbort}
 use Rattle.agreement.specs.State.{State, joined_with}
@@ -21,7 +21,7 @@ swapped_to : (most : ℕ) (role : Role) (me peer : Core) (g : List Sending) (f0 
 swapped_to most role me peer g f0 s v e n = swapped most role me peer [] (entries g) s v (subst (λ xs. Normal most role me peer (entries xs) (entries g) s v) e n)
 
 -- an end that is free takes what comes
-takes_plain : (base : Setup) (role : Role) (x y : State) (s : Sending) (f g : List Sending) (shared : Shared) (m : Message) (choice : Choice) → s.message ≡ m → x.phase ≡ Up → x.awaits ≡ NoAnswer → IsChoice (direct base) x m choice → Joined base.most_marks role x y (s ∷ f) g shared.set shared.saved → Free base.most_marks role x y (s ∷ f) g shared.set shared.saved → Takes base role x y f g shared s m choice
+takes_plain : (base : ModelSetup) (role : Role) (x y : State) (s : Sending) (f g : List Sending) (shared : Shared) (m : Message) (choice : Choice) → s.message ≡ m → x.phase ≡ Up → x.awaits ≡ NoAnswer → IsChoice (direct base) x m choice → Joined base.most_marks role x y (s ∷ f) g shared.set shared.saved → Free base.most_marks role x y (s ∷ f) g shared.set shared.saved → Takes base role x y f g shared s m choice
 takes_plain base role x y s f g shared m choice e up calm c j k = by_ask k.ask_peer k.shape_peer k.view_peer
   where
     by_ask : (ask : Ask) → Shaped ask k.peer (s ∷ f) k.before_me → View (other role) y g (s ∷ f) ask k.peer k.to_peer → Takes base role x y f g shared s m choice
@@ -114,7 +114,7 @@ loser-passed Initiator own n h = grind (arith, nat_tests)
 loser-passed Responder own n h = grind (arith, nat_tests)
 
 -- an end that asked for a restart takes what it doesn't pass over
-takes_asking : (base : Setup) (role : Role) (x y : State) (s : Sending) (f g : List Sending) (shared : Shared) (m : Message) (choice : Choice) (n : ℕ) (passed : List Sending) (j : Joined base.most_marks role x y (s ∷ f) g shared.set shared.saved) → s.message ≡ m → x.phase ≡ Up → x.awaits ≡ RestartOf n → is_purged role (RestartOf n) m ≡ false → j.ask_me ≡ Asks n → j.me ≡ core x → j.to_me ≡ passed ++ (s ∷ f) → AllAre IsLive g → Takes base role x y f g shared s m choice
+takes_asking : (base : ModelSetup) (role : Role) (x y : State) (s : Sending) (f g : List Sending) (shared : Shared) (m : Message) (choice : Choice) (n : ℕ) (passed : List Sending) (j : Joined base.most_marks role x y (s ∷ f) g shared.set shared.saved) → s.message ≡ m → x.phase ≡ Up → x.awaits ≡ RestartOf n → is_purged role (RestartOf n) m ≡ false → j.ask_me ≡ Asks n → j.me ≡ core x → j.to_me ≡ passed ++ (s ∷ f) → AllAre IsLive g → Takes base role x y f g shared s m choice
 takes_asking base role x y s f g shared m choice n passed j e up waits kept a c w live =
     by_ask j.ask_peer j.shape_peer j.view_peer (subst (λ (k : Ask). Shaped k j.me j.to_peer j.before_peer) a j.shape_me)
   where
@@ -167,7 +167,7 @@ takes_asking base role x y s f g shared m choice n passed j e up waits kept a c 
                 join (t ∷ before) h = (good-fine role (other role) k t.message h.0, join before h.1)
 
 -- whatever comes next and isn't passed over
-pub takes : (base : Setup) (role : Role) (x y : State) (s : Sending) (f g : List Sending) (shared : Shared) (m : Message) (choice : Choice) → s.message ≡ m → (x.phase ≡ Over → ⊥) → is_purged role x.awaits m ≡ false → IsChoice (direct base) x m choice → Joined base.most_marks role x y (s ∷ f) g shared.set shared.saved → Takes base role x y f g shared s m choice
+pub takes : (base : ModelSetup) (role : Role) (x y : State) (s : Sending) (f g : List Sending) (shared : Shared) (m : Message) (choice : Choice) → s.message ≡ m → (x.phase ≡ Over → ⊥) → is_purged role x.awaits m ≡ false → IsChoice (direct base) x m choice → Joined base.most_marks role x y (s ∷ f) g shared.set shared.saved → Takes base role x y f g shared s m choice
 takes base role x y s f g shared m choice e alive kept c j = by_view j.view_me
   where
     by_view : View role x (s ∷ f) g j.ask_me j.me j.to_me → Takes base role x y f g shared s m choice
@@ -251,7 +251,7 @@ takes base role x y s f g shared m choice e alive kept c j = by_view j.view_me
     by_view (Gone p) = absurd (alive p)
 
 -- whatever comes next and is passed over
-pub passes : (base : Setup) (role : Role) (x y : State) (s : Sending) (f g : List Sending) (shared : Shared) (m : Message) → s.message ≡ m → (x.phase ≡ Over) ⊎ (is_purged role x.awaits m ≡ true) → Joined base.most_marks role x y (s ∷ f) g shared.set shared.saved → Joined base.most_marks role x y f g shared.set shared.saved
+pub passes : (base : ModelSetup) (role : Role) (x y : State) (s : Sending) (f g : List Sending) (shared : Shared) (m : Message) → s.message ≡ m → (x.phase ≡ Over) ⊎ (is_purged role x.awaits m ≡ true) → Joined base.most_marks role x y (s ∷ f) g shared.set shared.saved → Joined base.most_marks role x y f g shared.set shared.saved
 passes base role x y s f g shared m e h j = with_view (by_view j.view_me h)
   where
     with_view : View role x f g j.ask_me j.me j.to_me → Joined base.most_marks role x y f g shared.set shared.saved

@@ -3,7 +3,7 @@ use Rattle.std.proofs.Common.{◌≡◌, ℕ, ◌≤◌, Bool, true, false, ◌|
 use Rattle.agreement.specs.Sets.{Role, other, ContextSet, Item, Listed, Saved, altered, listed, below, newest, next_number, AllMayBeAsked, AreDistinct, identifiers, is_among}
 use Rattle.agreement.specs.Sets.Role.{Initiator, Responder}
 use Rattle.agreement.specs.Sets.Item.{Addition, Deletion}
-use Rattle.agreement.specs.Messages.{Setup, Message, Choice}
+use Rattle.agreement.specs.Messages.{ModelSetup, Message, Choice}
 use Rattle.agreement.specs.Messages.Choice.{Results}
 use Rattle.agreement.specs.Messages.Message.{Data, Alter, AlterAnswer, Mark, Restart, RestartAnswer, Give, Please, Release, ReleaseAnswer, UserAbort}
 use Rattle.agreement.specs.State.{State}
@@ -20,7 +20,7 @@ use Rattle.agreement.proofs.Views.Ask.{NotAsking, Asks}
 use Rattle.agreement.proofs.Views.View.{Plain, Asking, Answered, Joining, Leaving, Gone}
 
 -- what a taking gives: that it may be, that the pair is the one of the sending, and what goes on
-pub record Takes (base : Setup) (role : Role) (x y : State) (f g : List Sending) (shared : Shared) (s : Sending) (m : Message) (choice : Choice) : Type 0 where
+pub record Takes (base : ModelSetup) (role : Role) (x y : State) (f g : List Sending) (shared : Shared) (s : Sending) (m : Message) (choice : Choice) : Type 0 where
   pub may : WasSent (direct base) m → MayTake (direct base) role x m
   pub pair : pair_under x.sets.held m ≡ pair_under s.shared m
   pub next : Joined base.most_marks role (taken (direct base) role x m choice) y f (g ++ sendings shared.set (answer_to (direct base) x m choice)) (shared_answered m choice shared).set (shared_answered m choice shared).saved
@@ -117,7 +117,7 @@ left role y g s f ask c whole new (Joining set answer r p a k e w i l) n q = abs
 left role y g s f ask c whole new (Leaving r p a l) n q = Leaving r p a (all-append IsNoRelease g new l q)
 left role y g s f ask c whole new (Gone p) n q = Gone p
 
-pub takes_abort : (base : Setup) (role : Role) (x y : State) (s : Sending) (f g : List Sending) (shared : Shared) (choice : Choice) → Joined base.most_marks role x y (s ∷ f) g shared.set shared.saved → Takes base role x y f g shared s UserAbort choice
+pub takes_abort : (base : ModelSetup) (role : Role) (x y : State) (s : Sending) (f g : List Sending) (shared : Shared) (choice : Choice) → Joined base.most_marks role x y (s ∷ f) g shared.set shared.saved → Takes base role x y f g shared s UserAbort choice
 takes_abort base role x y s f g shared choice j =
     record {
       may = λ w. tt;
@@ -127,7 +127,7 @@ takes_abort base role x y s f g shared choice j =
           (subst (λ xs. View (other role) y xs f j.ask_peer j.peer j.to_peer) (sym (nil-append g)) (shortened (other role) y g s f j.ask_peer j.peer j.to_peer j.view_peer));
     }
 
-pub takes_release : (base : Setup) (role : Role) (x y : State) (s : Sending) (f g : List Sending) (shared : Shared) (choice : Choice) → s.message ≡ Release → x.phase ≡ Up → other role ≡ Initiator → Joined base.most_marks role x y (s ∷ f) g shared.set shared.saved → Takes base role x y f g shared s Release choice
+pub takes_release : (base : ModelSetup) (role : Role) (x y : State) (s : Sending) (f g : List Sending) (shared : Shared) (choice : Choice) → s.message ≡ Release → x.phase ≡ Up → other role ≡ Initiator → Joined base.most_marks role x y (s ∷ f) g shared.set shared.saved → Takes base role x y f g shared s Release choice
 takes_release base role x y s f g shared choice e up r j =
     record {
       may = λ w. record { responds = no-other role r; is_up = up; rests = λ q. absurd (cc) };
@@ -138,7 +138,7 @@ takes_release base role x y s f g shared choice e up r j =
     }
 
 -- what is taken by an end that is free, but a restart
-pub takes_free : (base : Setup) (role : Role) (x y : State) (s : Sending) (f g : List Sending) (shared : Shared) (m : Message) (choice : Choice) → s.message ≡ m → x.phase ≡ Up → x.awaits ≡ NoAnswer → IsChoice (direct base) x m choice → Joined base.most_marks role x y (s ∷ f) g shared.set shared.saved → Head base.most_marks role x y s f g shared.set shared.saved → Takes base role x y f g shared s m choice
+pub takes_free : (base : ModelSetup) (role : Role) (x y : State) (s : Sending) (f g : List Sending) (shared : Shared) (m : Message) (choice : Choice) → s.message ≡ m → x.phase ≡ Up → x.awaits ≡ NoAnswer → IsChoice (direct base) x m choice → Joined base.most_marks role x y (s ∷ f) g shared.set shared.saved → Head base.most_marks role x y s f g shared.set shared.saved → Takes base role x y f g shared s m choice
 takes_free base role x y s f g shared m choice e up calm c j h =
     go m choice e c (subst (λ t. Normal base.most_marks role (core x) h.peer (entry s.shared t ∷ entries h.rest) (entries h.to_peer) shared.set shared.saved) e h.normal)
   where
@@ -298,7 +298,7 @@ answered_view role y g s f m c whole answer list (Leaving r p a l) fine live i q
 answered_view role y g s f m c whole answer list (Gone p) fine live i q = Gone p
 
 -- a restart is taken and answered
-pub takes_restart : (base : Setup) (role : Role) (x y : State) (s : Sending) (f g : List Sending) (shared : Shared) (m : ℕ) (list : List Listed) (choice : Choice) (peer : Core) (to_peer before_me before_peer : List Sending) → x.phase ≡ Up → 1 ≤ m → m ≤ next_number x.saved → m ≤ next_number peer.saved → list ≡ listed (newest (below m peer.saved)) → AllAre IsAbort f → AllAre (IsFine (other role) m) to_peer → AllAre IsLive g → View (other role) y g (s ∷ f) (Asks m) peer to_peer → Normal base.most_marks role (core x) peer (entries before_me) (entries before_peer) shared.set shared.saved → Takes base role x y f g shared s (Restart m list) choice
+pub takes_restart : (base : ModelSetup) (role : Role) (x y : State) (s : Sending) (f g : List Sending) (shared : Shared) (m : ℕ) (list : List Listed) (choice : Choice) (peer : Core) (to_peer before_me before_peer : List Sending) → x.phase ≡ Up → 1 ≤ m → m ≤ next_number x.saved → m ≤ next_number peer.saved → list ≡ listed (newest (below m peer.saved)) → AllAre IsAbort f → AllAre (IsFine (other role) m) to_peer → AllAre IsLive g → View (other role) y g (s ∷ f) (Asks m) peer to_peer → Normal base.most_marks role (core x) peer (entries before_me) (entries before_peer) shared.set shared.saved → Takes base role x y f g shared s (Restart m list) choice
 takes_restart base role x y s f g shared m list choice peer to_peer before_me before_peer up positive known asked same aborts fine live view n =
     let one = below-me base.most_marks role (core x) peer (entries before_me) (entries before_peer) shared.set shared.saved m n known in
     let two = below-peer base.most_marks role (core x) peer (entries before_me) (entries before_peer) shared.set shared.saved m n asked in

@@ -3,7 +3,7 @@
 use Rattle.std.proofs.Common.{◌≡◌, ℕ, ◌≤◌, true, List, [], ◌∷◌, ◌++◌, refl, sym, ap, ◌∙◌, subst, append_assoc, inl, inr, ◌⊎◌}
 use Rattle.agreement.specs.Sets.{Role, other, ContextSet, Listed, Saved, listed, below, newest, next_number}
 use Rattle.agreement.specs.Sets.Role.{Initiator, Responder}
-use Rattle.agreement.specs.Messages.{Setup, Message}
+use Rattle.agreement.specs.Messages.{ModelSetup, Message}
 use Rattle.agreement.specs.Messages.Mode.{Direct}
 use Rattle.agreement.specs.Messages.Message.{Accept, Data, Alter, AlterAnswer, Mark, Restart, RestartAnswer, Give, Please, Release, UserAbort}
 use Rattle.agreement.specs.State.{Phase, State, joined_with}
@@ -16,7 +16,7 @@ use Rattle.agreement.proofs.Flights.{Entry}
 use Rattle.agreement.proofs.Flights.Entry.{AValue, AnAsk, AnAnswer, AMark, AGive, ARelease, AQuiet, ABad}
 use Rattle.agreement.proofs.Normal.{Core, Normal, back, swapped}
 
-abbrev pub direct : Setup → Setup
+abbrev pub direct : ModelSetup → ModelSetup
 direct base = record base { mode = Direct }
 
 abbrev pub entry : ContextSet → Message → Entry

@@ -3,7 +3,7 @@ use Rattle.std.specs.Prelude.{◌≡◌, ℕ, suc, zero, ◌<◌, ◌≤◌, tru
 use Rattle.osi_base.specs.Limits.{most_alterations}
 use Rattle.agreement.specs.Sets.{Pair, Role, ContextSet, AllMayAsk, AreDistinct, named, some_deletes, lookup, listed, below, newest, next_number}
 use Rattle.agreement.specs.Sets.Role.{Initiator}
-use Rattle.agreement.specs.Messages.{Value, Mode, Setup, Codec, Message, Act}
+use Rattle.agreement.specs.Messages.{Value, Mode, ModelSetup, Codec, Message, Act}
 use Rattle.agreement.specs.Messages.Mode.{Bare, Direct, Reliable}
 use Rattle.agreement.specs.Messages.Message.{Connect, Recover, Data, Alter, Mark, Give, Please, Restart, Start, Chunk, End, Interrupt, Discard, Resume, Release, UserAbort}
 use Rattle.agreement.specs.Messages.Act.{Connects, Recovers, SaysValue, Queues, Drops, Alters, Marks, GivesTurn, Pleads, Restarts, Starts, Encodes, Sends, EndsActivity, Interrupts, Discards, Resumes, Releases, Aborts, Withdraws, TransportFails}
@@ -107,7 +107,7 @@ MayAlterIn Bare state = ⊥
 MayAlterIn Direct state = Unit {0}
 MayAlterIn Reliable state = (state.turn ≡ true) × IsNotEnding state.outgoing.transfer
 
-abbrev pub MayMarkIn : Setup → Mode → State → Type 0
+abbrev pub MayMarkIn : ModelSetup → Mode → State → Type 0
 MayMarkIn setup Bare state = ⊥
 MayMarkIn setup Direct state = next_number state.saved ≤ setup.most_marks
 MayMarkIn setup Reliable state =
@@ -139,7 +139,7 @@ MayWithdrawIn role Broken = role ≡ Initiator
 MayWithdrawIn role phase = ⊥
 
 -- may an end in this state do this of itself?
-abbrev pub MayAct : Setup → Role → State → Act → Type 0
+abbrev pub MayAct : ModelSetup → Role → State → Act → Type 0
 MayAct setup role state Connects = record { initiates : role ≡ Initiator; is_idle : state.phase ≡ Idle }
 MayAct setup role state Recovers = record { initiates : role ≡ Initiator; is_broken : state.phase ≡ Broken }
 MayAct setup role state (SaysValue value) =
@@ -234,7 +234,7 @@ next_mark Direct state = next_number state.saved
 next_mark Reliable state = suc (highest (pieces_of state.outgoing.transfer))
 
 -- the message that an act sends
-abbrev pub sent_by : Setup → State → Act → List Message
+abbrev pub sent_by : ModelSetup → State → Act → List Message
 sent_by setup state Connects = Connect ∷ []
 sent_by setup state Recovers = Recover ∷ []
 sent_by setup state (SaysValue value) = Data value ∷ []
@@ -310,7 +310,7 @@ gave_in Bare state = state
 gave_in Direct state = record state { turn = false }
 gave_in Reliable state = record state { turn = false; gave = true }
 
-abbrev pub acted : Setup → State → Act → State
+abbrev pub acted : ModelSetup → State → Act → State
 acted setup state Connects = record state { phase = Opening }
 acted setup state Recovers = record state { phase = Recovering }
 acted setup state (SaysValue value) =

@@ -4,7 +4,7 @@ use Rattle.agreement.specs.Sets.{Pair, Context, ContextSet, Role, lookup}
 use Rattle.agreement.specs.Sets.Role.{Initiator, Responder}
 use Rattle.agreement.specs.Sets.Item.{Addition, Deletion}
 use Rattle.agreement.specs.Sets.Result.{AcceptedAs, Accepted, Kept}
-use Rattle.agreement.specs.Messages.{Apdu, Problem, Calls, Value, Mode, Setup, Message, Act, Choice}
+use Rattle.agreement.specs.Messages.{Apdu, Problem, Calls, Value, Mode, ModelSetup, Message, Act, Choice}
 use Rattle.agreement.specs.Messages.Problem.{General, OfInvocation, OfResult, OfError}
 use Rattle.agreement.specs.Messages.Apdu.{Invoke, Outcome, Reject}
 use Rattle.agreement.specs.Messages.Act.{Connects, Recovers, SaysValue, Queues, Alters, Marks, GivesTurn, Restarts, Starts, Encodes, Sends, EndsActivity, Interrupts, Discards, Resumes, Withdraws, TransportFails}
@@ -36,17 +36,17 @@ abbrev pub comes_to : Role → State → List Sending → Choice → World → W
 comes_to role state [] choice world = world
 comes_to role state (sending ∷ rest) choice world = By role (step_of role state sending.message choice) ∷ world
 
-abbrev pub after_event : Setup → World → Event → World
+abbrev pub after_event : ModelSetup → World → Event → World
 after_event setup world (Does role act) = By role (Acts act) ∷ world
 after_event setup world (Gets role choice) = comes_to role (state_of setup role world) (flight_to setup role world) choice world
 after_event setup world Cut = Break ∷ world
 
-abbrev pub played_on : Setup → World → List Event → World
+abbrev pub played_on : ModelSetup → World → List Event → World
 played_on setup world [] = world
 played_on setup world (event ∷ events) = played_on setup (after_event setup world event) events
 
 -- the world that these events make, the oldest first
-abbrev pub played : Setup → List Event → World
+abbrev pub played : ModelSetup → List Event → World
 played setup events = played_on setup [] events
 
 -- a plain codec: the context, then the APDU
@@ -120,7 +120,7 @@ problem_of calls (Outcome number (operation ∷ zero ∷ rest)) = OfResult 0
 problem_of calls (Outcome number content) = OfError 0
 problem_of calls (Reject number problem) = problem
 
-abbrev pub case_setup : Mode → IsFaithful → Setup
+abbrev pub case_setup : Mode → IsFaithful → ModelSetup
 case_setup mode faithful =
     record {
       mode = mode;

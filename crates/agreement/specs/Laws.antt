@@ -3,7 +3,7 @@ use Rattle.std.specs.Prelude.{◌≡◌, ℕ, suc, ◌<◌, ◌≤◌, nat_eq, l
 use Rattle.osi_base.specs.Limits.{most_alterations}
 use Rattle.agreement.specs.Sets.{Pair, Role, ContextSet, IsKnownSet, other, lookup, AreDistinct, is_among, identifiers, named}
 use Rattle.agreement.specs.Sets.Role.{Initiator, Responder}
-use Rattle.agreement.specs.Messages.{Apdu, Invocation, Calls, Value, Setup, Message, Choice}
+use Rattle.agreement.specs.Messages.{Apdu, Invocation, Calls, Value, ModelSetup, Message, Choice}
 use Rattle.agreement.specs.Messages.Message.{Accept, Connect, End}
 use Rattle.agreement.specs.Messages.Act.{Alters, GivesTurn, SaysValue, Queues, Starts, Encodes}
 use Rattle.agreement.specs.Messages.Choice.{Accepting}
@@ -29,7 +29,7 @@ abbrev pub mails : List Sending → List Mail
 mails [] = []
 mails (sending ∷ rest) = record { message = sending.message; pair = pair_under sending.shared sending.message } ∷ mails rest
 
-abbrev pub mail_to : Setup → Role → World → List Mail
+abbrev pub mail_to : ModelSetup → Role → World → List Mail
 mail_to setup role [] = []
 mail_to setup role (Break ∷ world) = []
 mail_to setup role (By who step ∷ world) =
@@ -41,7 +41,7 @@ read_in state (Acts act) = []
 read_in state (Takes message choice) = Some (record { message = message; pair = pair_under state.sets.held message }) ∷ []
 read_in state (Passes message) = None ∷ []
 
-abbrev pub readings : Setup → Role → World → List (Option Mail)
+abbrev pub readings : ModelSetup → Role → World → List (Option Mail)
 readings setup role [] = []
 readings setup role (Break ∷ world) = []
 readings setup role (By who step ∷ world) =
@@ -56,11 +56,11 @@ AreAsSent (Some reading ∷ readings) (first ∷ mail) = (reading ≡ first) × 
 
 -- taken as sent: each message taken is the one sent in its place of the connection, and each value
 -- was read under the pair that the shared set gave its context at its sending
-abbrev pub TakenAsSent : Setup → Type 0
+abbrev pub TakenAsSent : ModelSetup → Type 0
 TakenAsSent setup = (world : World) → IsRun setup world → (role : Role) → AreAsSent (readings setup role world) (mail_to setup role world)
 
 -- no abort of itself: each message taken, and not passed over, may be taken
-abbrev pub NoAbortOfItself : Setup → Type 0
+abbrev pub NoAbortOfItself : ModelSetup → Type 0
 NoAbortOfItself setup =
     (world : World) (role : Role) (message : Message) (choice : Choice) → IsRun setup (By role (Takes message choice) ∷ world) →
     MayTake setup role (state_of setup role world) message
@@ -84,7 +84,7 @@ IsJoined phase = ⊥
 
 -- contexts stay: one that is left alone, as those of the association and of transfers, has its pair in
 -- the set of each end that is up or releasing, and in the shared set
-abbrev pub ContextsStay : Setup → Type 0
+abbrev pub ContextsStay : ModelSetup → Type 0
 ContextsStay setup =
     IsNotBare setup.mode → (world : World) → IsRun setup world → (k : ℕ) (pair : Pair) → IsLeftAlone k pair world → (role : Role) →
     IsJoined (state_of setup role world).phase →
@@ -99,7 +99,7 @@ abbrev pub HoldsTurn : State → Type 0
 HoldsTurn state = (state.turn ≡ true) × (state.phase ≡ Up) × IsNotRestarting state.awaits
 
 -- one holder of the turn
-abbrev pub OneHolder : Setup → Type 0
+abbrev pub OneHolder : ModelSetup → Type 0
 OneHolder setup =
     (world : World) → IsRun setup world → HoldsTurn (state_of setup Initiator world) → HoldsTurn (state_of setup Responder world) → ⊥
 
@@ -111,7 +111,7 @@ HasNotGiven (moment ∷ later) = HasNotGiven later
 
 -- after an acceptance that the initiator took, of an opening or of a recovery, it has the turn
 -- whenever it is up, until it gives
-abbrev pub InitiatorLeads : Setup → Type 0
+abbrev pub InitiatorLeads : ModelSetup → Type 0
 InitiatorLeads setup =
     (later earlier : World) (set : ContextSet) (choice : Choice) → HasNotGiven later →
     (state_of setup Initiator (later ++ (By Initiator (Takes (Accept set) choice) ∷ earlier))).phase ≡ Up →
@@ -124,25 +124,25 @@ outcome_in (Invoke number operation link argument) = []
 outcome_in (Outcome number content) = number ∷ []
 outcome_in (Reject number problem) = number ∷ []
 
-abbrev pub told_by : Setup → State → Option Value → List ℕ
+abbrev pub told_by : ModelSetup → State → Option Value → List ℕ
 told_by setup state None = []
 told_by setup state (Some value) = if is_accepted setup state.calls value.apdu then outcome_in value.apdu else []
 
 -- the outcomes that an end was told since its association began, the newest first
-abbrev pub told_after : Setup → State → Step → List ℕ → List ℕ
+abbrev pub told_after : ModelSetup → State → Step → List ℕ → List ℕ
 told_after setup state (Acts act) told = told
 told_after setup state (Passes message) told = told
 told_after setup state (Takes Connect (Accepting set)) told = []
 told_after setup state (Takes message choice) told = told_by setup state (value_of setup state message) ++ told
 
-abbrev pub told : Setup → Role → World → List ℕ
+abbrev pub told : ModelSetup → Role → World → List ℕ
 told setup role [] = []
 told setup role (Break ∷ world) = told setup role world
 told setup role (By who step ∷ world) =
     if_same role who (told_after setup (state_of setup role world) step (told setup role world)) (told setup role world)
 
 -- one outcome: no invocation gets two
-abbrev pub OneOutcome : Setup → Type 0
+abbrev pub OneOutcome : ModelSetup → Type 0
 OneOutcome setup = (world : World) → IsRun setup world → (role : Role) → AreDistinct (told setup role world)
 
 -- what was handed in at an end, the newest first
@@ -168,7 +168,7 @@ IsHandedIn handed (Reject number problem) = Unit {0}
 
 -- the other side's own: each invocation and each outcome that is handed up is one that was handed in
 -- at the other end
-abbrev pub TheOthersOwn : Setup → Type 0
+abbrev pub TheOthersOwn : ModelSetup → Type 0
 TheOthersOwn setup =
     (world : World) (role : Role) (message : Message) (choice : Choice) (value : Value) → IsRun setup (By role (Takes message choice) ∷ world) →
     value_of setup (state_of setup role world) message ≡ Some value → IsHandedIn (all_handed (other role) world) value.apdu
@@ -191,7 +191,7 @@ answered role (By who step ∷ world) = if_same role who (answered_after step (a
 
 -- each invocation is answered at most once, so the outcome of one that is handed up is the one that
 -- was handed in
-abbrev pub AnsweredOnce : Setup → Type 0
+abbrev pub AnsweredOnce : ModelSetup → Type 0
 AnsweredOnce setup = (world : World) → IsRun setup world → (role : Role) → AreDistinct (answered role world)
 
 -- the operation of the open invocation with this number
@@ -216,7 +216,7 @@ answers_by state (Acts (Queues context apdu)) = answer_with state apdu
 answers_by state step = []
 
 -- the outcomes that an end handed in, the newest first
-abbrev pub answers : Setup → Role → World → List Answer
+abbrev pub answers : ModelSetup → Role → World → List Answer
 answers setup role [] = []
 answers setup role (Break ∷ world) = answers setup role world
 answers setup role (By who step ∷ world) =
@@ -228,7 +228,7 @@ IsAnAnswer answer (first ∷ rest) = (first ≡ answer) ⊎ IsAnAnswer answer re
 
 -- one operation: where an outcome is accepted, the open invocation that it answers has the operation that it had
 -- at the end that answered, and this operation has that outcome
-abbrev pub OneOperation : Setup → Type 0
+abbrev pub OneOperation : ModelSetup → Type 0
 OneOperation setup =
     (world : World) (role : Role) (message : Message) (choice : Choice) (value : Value) (number : ℕ) (content : List ℕ) →
     IsRun setup (By role (Takes message choice) ∷ world) → value_of setup (state_of setup role world) message ≡ Some value →
@@ -238,7 +238,7 @@ OneOperation setup =
 
 -- one invocation: an end hands in at most one under each number, so its link and its argument, too, are at both ends
 -- those that were handed in
-abbrev pub OneInvocation : Setup → Type 0
+abbrev pub OneInvocation : ModelSetup → Type 0
 OneInvocation setup =
     (world : World) (role : Role) (number operation operation' : ℕ) (link link' : Option ℕ) (argument argument' : List ℕ) → IsRun setup world →
     IsAmong (Invoke number operation link argument) (all_handed role world) → IsAmong (Invoke number operation' link' argument') (all_handed role world) →
@@ -262,7 +262,7 @@ encoded_by state shared (Acts (Encodes context)) = encoding_of state.outgoing.tr
 encoded_by state shared step = []
 
 -- what an end encoded, the newest first
-abbrev pub encodings : Setup → Role → World → List Encoding
+abbrev pub encodings : ModelSetup → Role → World → List Encoding
 encodings setup role [] = []
 encodings setup role (Break ∷ world) = encodings setup role world
 encodings setup role (By who step ∷ world) =
@@ -274,7 +274,7 @@ IsNewest encoding (first ∷ rest) = first ≡ encoding
 
 -- transfers arrive whole: what is handed up at the end of an activity is the item of that activity,
 -- as it was last encoded, read under the pair that the shared set gave then
-abbrev pub ArriveWhole : Setup → Type 0
+abbrev pub ArriveWhole : ModelSetup → Type 0
 ArriveWhole setup =
     (world : World) (role : Role) (number : ℕ) (choice : Choice) (value : Value) → IsRun setup (By role (Takes (End number) choice) ∷ world) →
     handed_up setup (state_of setup role world).sets.held (state_of setup role world).incoming ≡ Some value →
@@ -290,7 +290,7 @@ started_after state (Acts Starts) items = first_of state.outgoing.queue ++ items
 started_after state (Takes Connect (Accepting set)) items = []
 started_after state step items = items
 
-abbrev pub items_started : Setup → Role → World → List Handed
+abbrev pub items_started : ModelSetup → Role → World → List Handed
 items_started setup role [] = []
 items_started setup role (Break ∷ world) = items_started setup role world
 items_started setup role (By who step ∷ world) =
@@ -305,7 +305,7 @@ IsOf apdu None = ⊥
 IsOf apdu (Some item) = item.apdu ≡ apdu
 
 -- items of activities: what was last encoded for an activity is the item that was started as that activity
-abbrev pub ItemsOfActivities : Setup → Type 0
+abbrev pub ItemsOfActivities : ModelSetup → Type 0
 ItemsOfActivities setup =
     (world : World) (role : Role) (encoding : Encoding) → IsRun setup world → IsNewest encoding (encodings setup role world) →
     IsOf encoding.apdu (item_of encoding.activity (items_started setup role world))
@@ -315,13 +315,13 @@ abbrev pub arrived_of : Option Value → ℕ → List ℕ
 arrived_of None activity = []
 arrived_of (Some value) activity = activity ∷ []
 
-abbrev pub arrived_after : Setup → State → Step → List ℕ → List ℕ
+abbrev pub arrived_after : ModelSetup → State → Step → List ℕ → List ℕ
 arrived_after setup state (Takes (End number) choice) arrived =
     arrived_of (handed_up setup state.sets.held state.incoming) state.incoming.last ++ arrived
 arrived_after setup state (Takes Connect (Accepting set)) arrived = []
 arrived_after setup state step arrived = arrived
 
-abbrev pub arrived : Setup → Role → World → List ℕ
+abbrev pub arrived : ModelSetup → Role → World → List ℕ
 arrived setup role [] = []
 arrived setup role (Break ∷ world) = arrived setup role world
 arrived setup role (By who step ∷ world) =
@@ -333,19 +333,19 @@ AreFalling (n ∷ []) = Unit {0}
 AreFalling (n ∷ m ∷ rest) = (m < n) × AreFalling (m ∷ rest)
 
 -- transfers arrive at most once, in rising numbers
-abbrev pub ArriveOnce : Setup → Type 0
+abbrev pub ArriveOnce : ModelSetup → Type 0
 ArriveOnce setup = (world : World) → IsRun setup world → (role : Role) → AreFalling (arrived setup role world)
 
--- an open invocation has this number, and its operation may have this one as a child (X.880 8.3)
-abbrev pub HasParent : Setup → List Invocation → ℕ → ℕ → Type 0
+-- an open invocation has this number, and its operation may have this one as a child (X.880 8.2.6)
+abbrev pub HasParent : ModelSetup → List Invocation → ℕ → ℕ → Type 0
 HasParent setup [] operation parent = ⊥
 HasParent setup (call ∷ calls) operation parent =
     (call.number ≡ parent) × (setup.links call.operation operation ≡ true) ⊎ HasParent setup calls operation parent
 
 -- what an accepted APDU names: an invocation whose number isn't open yet, and whose link is an open
 -- invocation of the taker that may have it as a child; an outcome or a reject of an open invocation of
--- the taker (X.880 8.3, 9)
-abbrev pub NamesOpen : Setup → Calls → Apdu → Type 0
+-- the taker (X.880 8.2.6, 9)
+abbrev pub NamesOpen : ModelSetup → Calls → Apdu → Type 0
 NamesOpen setup calls (Invoke number operation None argument) = is_open number calls.peer_open ≡ false
 NamesOpen setup calls (Invoke number operation (Some parent) argument) =
     (is_open number calls.peer_open ≡ false) × HasParent setup calls.own_open operation parent
@@ -353,7 +353,7 @@ NamesOpen setup calls (Outcome number content) = is_open number calls.own_open �
 NamesOpen setup calls (Reject number problem) = is_open number calls.own_open ≡ true
 
 -- what is accepted names what is open
-abbrev pub AcceptedNamesOpen : Setup → Type 0
+abbrev pub AcceptedNamesOpen : ModelSetup → Type 0
 AcceptedNamesOpen setup = (calls : Calls) (apdu : Apdu) → is_accepted setup calls apdu ≡ true → NamesOpen setup calls apdu
 
 -- the numbers of the invocations that an end accepted since its association began, the newest first
@@ -361,35 +361,35 @@ abbrev pub invocation_in : Apdu → List ℕ
 invocation_in (Invoke number operation link argument) = number ∷ []
 invocation_in apdu = []
 
-abbrev pub invoked_by : Setup → State → Option Value → List ℕ
+abbrev pub invoked_by : ModelSetup → State → Option Value → List ℕ
 invoked_by setup state None = []
 invoked_by setup state (Some value) = if is_accepted setup state.calls value.apdu then invocation_in value.apdu else []
 
-abbrev pub invoked_after : Setup → State → Step → List ℕ → List ℕ
+abbrev pub invoked_after : ModelSetup → State → Step → List ℕ → List ℕ
 invoked_after setup state (Acts act) invoked = invoked
 invoked_after setup state (Passes message) invoked = invoked
 invoked_after setup state (Takes Connect (Accepting set)) invoked = []
 invoked_after setup state (Takes message choice) invoked = invoked_by setup state (value_of setup state message) ++ invoked
 
-abbrev pub invoked : Setup → Role → World → List ℕ
+abbrev pub invoked : ModelSetup → Role → World → List ℕ
 invoked setup role [] = []
 invoked setup role (Break ∷ world) = invoked setup role world
 invoked setup role (By who step ∷ world) =
     if_same role who (invoked_after setup (state_of setup role world) step (invoked setup role world)) (invoked setup role world)
 
 -- each invocation is taken at most once: their numbers rise
-abbrev pub InvokedOnce : Setup → Type 0
+abbrev pub InvokedOnce : ModelSetup → Type 0
 InvokedOnce setup = (world : World) → IsRun setup world → (role : Role) → AreFalling (invoked setup role world)
 
 -- alterations are few: an end has at most four unanswered ones, and no identifier is named twice in them
-abbrev pub AlterationsAreFew : Setup → Type 0
+abbrev pub AlterationsAreFew : ModelSetup → Type 0
 AlterationsAreFew setup =
     (world : World) → IsRun setup world → (role : Role) →
     (length (state_of setup role world).sets.own ≤ most_alterations) × AreDistinct (named (state_of setup role world).sets.own)
 
 -- contexts are known: out of bare mode each context of an end's set and of the shared set has a transfer syntax that
 -- the ends know
-abbrev pub ContextsAreKnown : Setup → Type 0
+abbrev pub ContextsAreKnown : ModelSetup → Type 0
 ContextsAreKnown setup =
     IsNotBare setup.mode → (world : World) → IsRun setup world →
     record {

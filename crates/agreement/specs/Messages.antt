@@ -56,7 +56,7 @@ pub data Mode : Type 0 where
 -- operation has (X.880 8), the problem for which an APDU that isn't accepted is rejected, the one context
 -- of bare mode, and the limits: the most marks, the most octets of a transfer, the most open invocations
 -- of one end
-pub record Setup : Type 0 where
+pub record ModelSetup : Type 0 where
   pub mode : Mode
   pub codec : Codec
   pub knows : List ℕ → Bool

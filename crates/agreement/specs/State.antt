@@ -1,7 +1,7 @@
 -- What an end has in hand: its sets, what it sends, what it receives, its open invocations.
 use Rattle.std.specs.Prelude.{ℕ, zero, suc, Bool, false, nat_eq, if◌then◌else◌, List, [], ◌∷◌, ◌++◌, Option, None}
 use Rattle.agreement.specs.Sets.{Role, is_initiator, ContextSet, Item, Saved}
-use Rattle.agreement.specs.Messages.{Apdu, Calls, Value, Mode, Setup}
+use Rattle.agreement.specs.Messages.{Apdu, Calls, Value, Mode, ModelSetup}
 use Rattle.agreement.specs.Messages.Mode.{Bare, Direct, Reliable}
 
 pub data Phase : Type 0 where
@@ -115,13 +115,13 @@ first_phase Bare = Up
 first_phase Direct = Idle
 first_phase Reliable = Idle
 
-abbrev pub first_set : Setup → Mode → ContextSet
+abbrev pub first_set : ModelSetup → Mode → ContextSet
 first_set setup Bare = setup.bare_context ∷ []
 first_set setup Direct = []
 first_set setup Reliable = []
 
 -- a new end; the turn is at the initiator
-abbrev pub new_end : Setup → Role → State
+abbrev pub new_end : ModelSetup → Role → State
 new_end setup role =
     record {
       phase = first_phase setup.mode;

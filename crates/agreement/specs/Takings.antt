@@ -3,7 +3,7 @@ use Rattle.std.specs.Prelude.{◌≡◌, ℕ, suc, ◌≤◌, ◌⊎◌, Bool, t
 use Rattle.agreement.specs.Sets.{IsRising, AreKnown, IsKnownSet, Role, is_initiator, other, ContextSet, Item, Result, Fits, AllMayBeAsked, AreDistinct, altered, identifiers, lookup, listed, below, newest, next_number}
 use Rattle.agreement.specs.Sets.Role.{Initiator, Responder}
 use Rattle.agreement.specs.Sets.Item.{Addition, Deletion}
-use Rattle.agreement.specs.Messages.{Apdu, Calls, Value, Mode, Setup, Message, Choice}
+use Rattle.agreement.specs.Messages.{Apdu, Calls, Value, Mode, ModelSetup, Message, Choice}
 use Rattle.agreement.specs.Messages.Mode.{Bare, Direct, Reliable}
 use Rattle.agreement.specs.Messages.Apdu.{Invoke}
 use Rattle.agreement.specs.Messages.Message.{Connect, Recover, Accept, Refuse, Data, Alter, AlterAnswer, Mark, MarkAnswer, Restart, RestartAnswer, Start, Resume, Chunk, End, EndAnswer, Interrupt, InterruptAnswer, Discard, DiscardAnswer, Give, GiveAnswer, Please, Release, ReleaseAnswer, UserAbort}
@@ -52,7 +52,7 @@ MayAlterFrom Reliable turn = turn ≡ false
 
 -- a mark carries the next number, within the limit, and comes from the turn's holder; in reliable
 -- mode in its activity
-abbrev pub MayMarkFrom : Setup → Mode → State → ℕ → Type 0
+abbrev pub MayMarkFrom : ModelSetup → Mode → State → ℕ → Type 0
 MayMarkFrom setup Bare state number = ⊥
 MayMarkFrom setup Direct state number =
     record { lacks_turn : state.turn ≡ false; is_next : number ≡ next_number state.saved; is_within : number ≤ setup.most_marks }
@@ -89,7 +89,7 @@ MayResumeAt incoming activity mark =
     (activity ≡ incoming.last) × (mark ≤ highest incoming.pieces) ⊎ (activity ≡ suc incoming.last) × (mark ≡ 0)
 
 -- what the octets of a transfer spell under the set
-abbrev pub value_read : Setup → ContextSet → Incoming → Option Value
+abbrev pub value_read : ModelSetup → ContextSet → Incoming → Option Value
 value_read setup held incoming = setup.codec.read held (joined incoming.pieces)
 
 -- a value may be taken under the set: it is there, under the pair that the set gives its context
@@ -108,7 +108,7 @@ IsUnjoined Broken = Unit {0}
 IsUnjoined phase = ⊥
 
 -- may an end in this state take this message?
-abbrev pub MayTake : Setup → Role → State → Message → Type 0
+abbrev pub MayTake : ModelSetup → Role → State → Message → Type 0
 MayTake setup role state Connect = record { responds : role ≡ Responder; is_unjoined : IsUnjoined state.phase }
 MayTake setup role state Recover = record { responds : role ≡ Responder; is_unjoined : IsUnjoined state.phase }
 MayTake setup role state (Accept set) =
@@ -205,7 +205,7 @@ MayTake setup role state UserAbort = Unit {0}
 
 -- what the taker may decide: over an opening freely, over a recovery where it has the association,
 -- over an alteration by results that fit, each with transfer syntaxes that it knows; over nothing else
-abbrev pub IsChoice : Setup → State → Message → Choice → Type 0
+abbrev pub IsChoice : ModelSetup → State → Message → Choice → Type 0
 IsChoice setup state Connect (Accepting set) = record { is_set : IsRising set; is_known : IsKnownSet setup.knows set }
 IsChoice setup state Connect Refusing = Unit {0}
 IsChoice setup state Recover (Accepting set) =
@@ -238,7 +238,7 @@ give_answer Direct = []
 give_answer Reliable = GiveAnswer ∷ []
 
 -- what the end answers at once
-abbrev pub answer_to : Setup → State → Message → Choice → List Message
+abbrev pub answer_to : ModelSetup → State → Message → Choice → List Message
 answer_to setup state Connect choice = acceptance choice
 answer_to setup state Recover choice = acceptance choice
 answer_to setup state (Alter items) choice = results_of choice
@@ -266,7 +266,7 @@ restored role number state =
     }
 
 -- what a taken APDU changes: the open invocations, and the rejects that are due
-abbrev pub hears : Setup → Option Value → State → State
+abbrev pub hears : ModelSetup → Option Value → State → State
 hears setup None state = state
 hears setup (Some value) state =
     record state {
@@ -275,11 +275,11 @@ hears setup (Some value) state =
     }
 
 -- what is handed up at the end of a transfer: nothing where it was handed up before
-abbrev pub handed_up : Setup → ContextSet → Incoming → Option Value
+abbrev pub handed_up : ModelSetup → ContextSet → Incoming → Option Value
 handed_up setup held incoming = if incoming.was_handed then None else value_read setup held incoming
 
 -- the value that is handed up as this message is taken
-abbrev pub value_of : Setup → State → Message → Option Value
+abbrev pub value_of : ModelSetup → State → Message → Option Value
 value_of setup state (Data value) = Some value
 value_of setup state (End number) = handed_up setup state.sets.held state.incoming
 value_of setup state message = None
@@ -312,12 +312,12 @@ refusing Broken = Broken
 refusing phase = Over
 
 -- an accepted opening begins anew; an accepted recovery goes on
-abbrev pub opened_by : Setup → Role → Choice → State → State
+abbrev pub opened_by : ModelSetup → Role → Choice → State → State
 opened_by setup role (Accepting set) state = joined_with setup.mode role set (new_end setup role)
 opened_by setup role Refusing state = record state { phase = refusing state.phase }
 opened_by setup role choice state = state
 
-abbrev pub recovered_by : Setup → Role → Choice → State → State
+abbrev pub recovered_by : ModelSetup → Role → Choice → State → State
 recovered_by setup role (Accepting set) state = joined_with setup.mode role set state
 recovered_by setup role Refusing state = record state { phase = refusing state.phase }
 recovered_by setup role choice state = state
@@ -344,7 +344,7 @@ cut_item (Some transfer) calls = cut_apdu transfer.item.apdu calls
     cut_apdu apdu calls = calls
 
 -- the state after a taking
-abbrev pub taken : Setup → Role → State → Message → Choice → State
+abbrev pub taken : ModelSetup → Role → State → Message → Choice → State
 taken setup role state Connect choice = opened_by setup role choice state
 taken setup role state Recover choice = recovered_by setup role choice state
 taken setup role state (Accept set) choice = joined_with setup.mode role set state
@@ -411,7 +411,7 @@ broken_calls Bare calls = cut_calls calls
 broken_calls Direct calls = cut_calls calls
 broken_calls Reliable calls = calls
 
-abbrev pub broken : Setup → State → State
+abbrev pub broken : ModelSetup → State → State
 broken setup state =
     record state {
       phase = broken_phase setup.mode state.phase;

@@ -2,7 +2,7 @@
 use Rattle.std.specs.Prelude.{◌≡◌, ℕ, suc, zero, true, false, ◌⊎◌, ◌++◌, List, [], ◌∷◌, Option, None}
 use Rattle.agreement.specs.Sets.{Pair, Role, ContextSet, Saved, altered, lookup, below, newest}
 use Rattle.agreement.specs.Sets.Role.{Initiator, Responder}
-use Rattle.agreement.specs.Messages.{Mode, Setup, Message, Act, Choice}
+use Rattle.agreement.specs.Messages.{Mode, ModelSetup, Message, Act, Choice}
 use Rattle.agreement.specs.Messages.Mode.{Bare, Direct, Reliable}
 use Rattle.agreement.specs.Messages.Message.{Connect, Recover, Data, Alter, Mark, Restart, Start, Resume, End, Interrupt, Discard}
 use Rattle.agreement.specs.Messages.Choice.{Accepting, Results}
@@ -32,19 +32,19 @@ if_same Initiator Responder x y = y
 if_same Responder Initiator x y = y
 if_same Responder Responder x y = x
 
-abbrev pub after : Setup → Role → State → Step → State
+abbrev pub after : ModelSetup → Role → State → Step → State
 after setup role state (Acts act) = acted setup state act
 after setup role state (Takes message choice) = taken setup role state message choice
 after setup role state (Passes message) = state
 
 -- the state of an end, from its own steps
-abbrev pub state_of : Setup → Role → World → State
+abbrev pub state_of : ModelSetup → Role → World → State
 state_of setup role [] = new_end setup role
 state_of setup role (Break ∷ world) = broken setup (state_of setup role world)
 state_of setup role (By who step ∷ world) =
     if_same role who (after setup role (state_of setup role world) step) (state_of setup role world)
 
-abbrev pub sent_in : Setup → State → Step → List Message
+abbrev pub sent_in : ModelSetup → State → Step → List Message
 sent_in setup state (Acts act) = sent_by setup state act
 sent_in setup state (Takes message choice) = answer_to setup state message choice
 sent_in setup state (Passes message) = []
@@ -116,13 +116,13 @@ shared_answered Interrupt choice shared = record shared { set = shared.inter }
 shared_answered Discard choice shared = record shared { set = shared.inter }
 shared_answered message choice shared = shared
 
-abbrev pub shared_after : Setup → Role → State → Step → Shared → Shared
+abbrev pub shared_after : ModelSetup → Role → State → Step → Shared → Shared
 shared_after setup role state (Acts act) shared = shared_all setup.mode role (sent_by setup state act) shared
 shared_after setup role state (Takes message choice) shared = shared_answered message choice shared
 shared_after setup role state (Passes message) shared = shared
 
 -- the shared set of a world: of the ends it takes only what they send
-abbrev pub shared_at : Setup → World → Shared
+abbrev pub shared_at : ModelSetup → World → Shared
 shared_at setup [] = record { set = first_set setup setup.mode; inter = []; saved = []; of_initiator = []; of_responder = [] }
 shared_at setup (Break ∷ world) = shared_at setup world
 shared_at setup (By who step ∷ world) = shared_after setup who (state_of setup who world) step (shared_at setup world)
@@ -136,7 +136,7 @@ abbrev pub sendings : ContextSet → List Message → List Sending
 sendings shared [] = []
 sendings shared (message ∷ messages) = record { message = message; shared = shared } ∷ sendings shared messages
 
-abbrev pub sent_by_step : Setup → Role → World → Step → List Sending
+abbrev pub sent_by_step : ModelSetup → Role → World → Step → List Sending
 sent_by_step setup who world step = sendings (shared_at setup world).set (sent_in setup (state_of setup who world) step)
 
 abbrev pub without_first : List Sending → List Sending
@@ -149,7 +149,7 @@ taken_off (Takes message choice) flight = without_first flight
 taken_off (Passes message) flight = without_first flight
 
 -- what is on its way to an end: sent on this connection and not yet come, the oldest first
-abbrev pub flight_to : Setup → Role → World → List Sending
+abbrev pub flight_to : ModelSetup → Role → World → List Sending
 flight_to setup role [] = []
 flight_to setup role (Break ∷ world) = []
 flight_to setup role (By who step ∷ world) =
@@ -164,7 +164,7 @@ ComesNext message (sending ∷ rest) = sending.message ≡ message
 
 -- what may happen next: an act that may be done; a taking of what comes next, if it isn't purged, by
 -- an end that isn't over; a passing over of what comes next where it is purged or the end is over
-abbrev pub IsStep : Setup → Role → State → List Sending → Step → Type 0
+abbrev pub IsStep : ModelSetup → Role → State → List Sending → Step → Type 0
 IsStep setup role state flight (Acts act) = MayAct setup role state act
 IsStep setup role state flight (Takes message choice) =
     record {
@@ -179,12 +179,12 @@ IsStep setup role state flight (Passes message) =
       is_passed : (state.phase ≡ Over) ⊎ (is_purged role state.awaits message ≡ true);
     }
 
-abbrev pub IsMoment : Setup → World → Moment → Type 0
+abbrev pub IsMoment : ModelSetup → World → Moment → Type 0
 IsMoment setup world Break = Unit {0}
 IsMoment setup world (By who step) = IsStep setup who (state_of setup who world) (flight_to setup who world) step
 
 -- the worlds that two ends can reach
-abbrev pub IsRun : Setup → World → Type 0
+abbrev pub IsRun : ModelSetup → World → Type 0
 IsRun setup [] = Unit {0}
 IsRun setup (moment ∷ world) = IsMoment setup world moment × IsRun setup world
 

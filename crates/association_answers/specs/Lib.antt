@@ -1,4 +1,4 @@
-pub mod Reacted
+pub mod BroughtAs
 pub use Rattle.association_calls.specs as association_calls
 pub use Rattle.association_calls.specs.association_reading as association_reading
 pub use Rattle.association_sends.specs as association_sends

@@ -6,7 +6,7 @@ ghost use Rattle.end_rules.specs.State.{is_carrying};
 ghost use Rattle.end_rules.specs.Faults.{over, abort_of, cuts};
 ghost use Rattle.association_sends.specs.association_words.Seen.{seen_fault, seen_message};
 ghost use Rattle.association_calls.specs.association_state.Seen.{seen};
-ghost use Rattle.association_answers.specs.Reacted.{FailsAs};
+ghost use Rattle.association_answers.specs.BroughtAs.{FailsAs};
 
 use crate::brought::{Messages, Reaction, one_message};
 use crate::telling::push_cuts;

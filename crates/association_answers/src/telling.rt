@@ -6,7 +6,7 @@ ghost use Rattle.end_rules.specs.Sets.{Alteration as rule_alteration};
 ghost use Rattle.end_rules.specs.Faults.{cuts, losses};
 ghost use Rattle.association_sends.specs.association_words.Seen.{seen_message};
 ghost use Rattle.association_calls.specs.association_state.Seen.{seen};
-ghost use Rattle.association_answers.specs.Reacted.{TakenAs};
+ghost use Rattle.association_answers.specs.BroughtAs.{TakenAs};
 
 use crate::brought::{Brought, one_message};
 use association_calls::association_state_layer::Body;
@@ -60,7 +60,7 @@ pub fn with_nothing(alloc: Global) -> Brought
 pub fn push_cuts(alloc: Global, body: &Body, shown: &mut Indications) -> Result<(), NoMemory>
     ensures { OnOk result (shown.new ≡ shown.old ++ cuts (seen body.now)) }
 {
-    let opens = body.calls.opens()?;
+    let opens = body.calls.open_calls()?;
     tell_cuts(alloc, opens.as_slice(), shown)
 }
 

@@ -70,7 +70,7 @@ pub fn contexts_in_use(alloc: Global, body: &Body) -> Result<Ids, NoMemory>
     ensures { IfOk result (λ ids. ids ≡ used (seen body.now)) }
 {
     let mut ids = current_context(alloc, &body.sending)?;
-    let opens = body.calls.opens()?;
+    let opens = body.calls.open_calls()?;
     push_calls(&mut ids, &opens)?;
     push_queue(&mut ids, &body.sending.queue)?;
     Ok(ids)

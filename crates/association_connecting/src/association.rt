@@ -9,7 +9,7 @@ ghost use Rattle.end_rules.specs.State.{awaiting, NoAnswer};
 ghost use Rattle.end_rules.specs.TakesAssociation.{association_fault, contexts_for, after_association, answers_to_association, shown_of_association, aborted_by_peer};
 ghost use Rattle.association_words.specs.Seen.{seen_fault, seen_values, seen_association};
 ghost use Rattle.association_answers.specs.association_state.Seen.{base_in, seen};
-ghost use Rattle.association_answers.specs.Reacted.{TakenAs};
+ghost use Rattle.association_answers.specs.BroughtAs.{TakenAs};
 
 use crate::associated::{is_release_request, is_release_response};
 use crate::connect_faults::connect_fault;

@@ -10,7 +10,7 @@ ghost use Rattle.end_rules.specs.Connecting.{the_one, user_of, rtse_in, informat
 ghost use Rattle.end_rules.specs.Faults.{rtse_fault, fault_if, or_fault};
 ghost use Rattle.association_words.specs.Seen.{seen_fault, seen_values, seen_accepting};
 ghost use Rattle.association_answers.specs.association_state.Seen.{base_in, seen};
-ghost use Rattle.association_answers.specs.Reacted.{TakenAs};
+ghost use Rattle.association_answers.specs.BroughtAs.{TakenAs};
 
 use crate::answering::agreed_for;
 use crate::associated::{accept_information_fault, is_accepting, rtse_in, user_of};

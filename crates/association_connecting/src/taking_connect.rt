@@ -6,7 +6,7 @@ ghost use Rattle.association_connecting.specs.Agreed.{seen_agreed};
 ghost use Rattle.association_connecting.specs.Terms.{TermsOf};
 ghost use Rattle.association_words.specs.Seen.{seen_values};
 ghost use Rattle.association_answers.specs.association_state.Seen.{base_in, seen};
-ghost use Rattle.association_answers.specs.Reacted.{TakenAs};
+ghost use Rattle.association_answers.specs.BroughtAs.{TakenAs};
 
 use crate::agreeing::names_recovery;
 use crate::answering::{acceptance_message, agreed_for, refusal_message};

@@ -11,7 +11,7 @@ use Rattle.association_line.specs.Line.{first_size}
 use Rattle.association_line.specs.Reactions.{ReactionsAreSteps}
 use Rattle.association_reacting.specs.association_answers.declared.brought.Reaction.{Reaction}
 use Rattle.association_reacting.specs.association_answers.declared.brought.Reaction.TheVariants.{Passes, Takes, Fails}
-use Rattle.association_reacting.specs.association_answers.Reacted.{seen_messages}
+use Rattle.association_reacting.specs.association_answers.BroughtAs.{seen_messages}
 use Rattle.association_reacting.specs.SeenReaction.{ReactsAs}
 use Rattle.association_end.specs.View.{EndView, base}
 use Rattle.association_end.specs.OneMessage as reacted

@@ -3,7 +3,7 @@ use Rattle.std.proofs.Common.{◌≡◌, ℕ, ◌<◌, Bool, true, false, if◌t
 use Rattle.std.proofs.lemmas.List.{append-nil}
 use Rattle.std.specs.Prelude.{option_map, Result, Ok, Err}
 use Rattle.tpkt.specs.declared.packet.TFault.{TFault}
-use Rattle.tpkt.specs.declared.reader_state.Held.{Held}
+use Rattle.tpkt.specs.declared.reader_state.ReaderState.{ReaderState}
 use Rattle.dialogue.specs.declared.indication.Indication.{Indication}
 use Rattle.end_rules.specs.Base.{Base, Fault}
 use Rattle.end_rules.specs.Messages.{Message, Transport, Session, Word}
@@ -50,7 +50,7 @@ held_unit : (f : Option TFault) → IsUnit (front_held f) → ⊥
 held_unit None u = u
 held_unit (Some f) u = u
 
-one_fewer : (held : Held) (fronts : List Front) → IsUnit (first_front held fronts) → length (without_first fronts) < length fronts
+one_fewer : (held : ReaderState) (fronts : List Front) → IsUnit (first_front held fronts) → length (without_first fronts) < length fronts
 one_fewer held [] u = absurd (held_unit held.fault u)
 one_fewer held (front ∷ more) u = omega arith
 
@@ -59,7 +59,7 @@ fewer_behind intake u = one_fewer intake.held intake.fronts u
 
 -- ---- less than a message is left where it is
 
-short_list : (held : Held) (fronts : List Front) → AreMessages fronts → first_front held fronts ≡ Short → without_first fronts ≡ fronts
+short_list : (held : ReaderState) (fronts : List Front) → AreMessages fronts → first_front held fronts ≡ Short → without_first fronts ≡ fronts
 short_list held [] m e = refl
 short_list held (front ∷ more) m e = absurd (subst IsMessage e m.0)
 

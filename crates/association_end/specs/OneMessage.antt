@@ -16,7 +16,7 @@ use Rattle.association_meaning.specs.association_intake.declared.front.Front as 
 use Rattle.association_meaning.specs.association_intake.Seen.{seen_front}
 use Rattle.association_reacting.specs.association_answers.declared.brought.Reaction.{Reaction}
 use Rattle.association_reacting.specs.association_answers.declared.brought.Reaction.TheVariants.{Passes, Takes, Fails}
-use Rattle.association_reacting.specs.association_answers.Reacted.{seen_messages}
+use Rattle.association_reacting.specs.association_answers.BroughtAs.{seen_messages}
 use Rattle.association_reacting.specs.SeenReaction.{ReactsAs}
 use Rattle.association_end.specs.View.{EndView}
 use Rattle.association_end.specs.View as view

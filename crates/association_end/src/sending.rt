@@ -3,7 +3,7 @@
 ghost use Rattle.std.specs.Prelude.{◌≡◌, [], ◌∷◌, IfOk, OnOk, OnErr};
 ghost use Rattle.osi_base.specs.Limits.{IsUnitSize};
 ghost use Rattle.association_words.specs.Seen.{seen_message};
-ghost use Rattle.association_reacting.specs.association_answers.Reacted.{seen_messages};
+ghost use Rattle.association_reacting.specs.association_answers.BroughtAs.{seen_messages};
 ghost use Rattle.association_writing.specs.Room.{MayStand};
 ghost use Rattle.association_end.specs.OneMessage.{all_written, AllMayStand, sending};
 

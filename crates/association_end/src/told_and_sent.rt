@@ -4,7 +4,7 @@ ghost use Rattle.std.specs.Prelude.{◌≡◌, ◌++◌, true, List, OnOk, OnErr
 ghost use Rattle.osi_base.specs.Limits.{IsUnitSize};
 ghost use Rattle.dialogue.specs.declared.indication.Indication.{Indication};
 ghost use Rattle.end_rules.specs.State.{passes_over};
-ghost use Rattle.association_reacting.specs.association_answers.Reacted.{seen_messages};
+ghost use Rattle.association_reacting.specs.association_answers.BroughtAs.{seen_messages};
 ghost use Rattle.association_end.specs.Progress.{Keeps};
 ghost use Rattle.association_end.specs.OneMessage.{AllMayStand, sent_for, IsOverFor, SettlesFor, Settles, sending, with_line, with_came};
 

@@ -24,7 +24,7 @@ use Rattle.association_answers.specs.open_invocations.Invocations.{SomeCarried}
 use Rattle.end_rules.specs.Base.{Base, InvokeHead, ResultHead, ErrorHead}
 use Rattle.end_rules.specs.State.{Calls}
 use Rattle.end_rules.specs.Hearing.{hear}
-use Rattle.end_wire.specs.Heads.{carried_at, said, refused, said_or_refused, head_at}
+use Rattle.end_wire.specs.Heads.{carried_at, heard_head, refused, heard_or_refused, head_at}
 use Rattle.end_wire.proofs.HeadLaws.{head_read, no_head}
 
 same_room : (s : Syntax) (h : heads.Head) → room_in s (room_behind s h) ≡ room_behind s h
@@ -34,7 +34,7 @@ same_room Packed h = omega arith
 
 module _ (tables : Tables) (s : Syntax) where
   -- the fields of a head that was read say it with what they carry
-  says_so : (h : heads.Head) → said_by (fields_in s h) (carried_by tables s (fields_in s h)) ≡ said tables s h
+  says_so : (h : heads.Head) → said_by (fields_in s h) (carried_by tables s (fields_in s h)) ≡ heard_head tables s h
   says_so (heads.invoke id linked code os) =
       ap (λ (n : ℕ). InvokeHead id linked code (carried_at s tables.types n (option_map argument_of (operation_coded tables code)) os)) (same_room s (heads.invoke id linked code os))
   says_so (heads.result id None) = refl
@@ -48,9 +48,9 @@ module _ (tables : Tables) (readable : IsReadable tables) (s : Syntax) (text : L
   -- ---- a head
 
   module _ (fields : ApduHead) (p : HasFields s text fields) (os : IfSome fields.rest AreOctets) where
-    head_is : said tables s p.head ≡ head_at tables s text
+    head_is : heard_head tables s p.head ≡ head_at tables s text
     unfolding head_at
-    head_is = sym (ap (said_or_refused tables s text) (head_read s text p.head p.spells))
+    head_is = sym (ap (heard_or_refused tables s text) (head_read s text p.head p.spells))
 
     fields_say : said_by fields (carried_by tables s fields) ≡ head_at tables s text
     fields_say = subst (λ (f : ApduHead). said_by f (carried_by tables s f) ≡ head_at tables s text) (sym p.are) (says_so tables s p.head ∙ head_is)
@@ -72,7 +72,7 @@ module _ (tables : Tables) (readable : IsReadable tables) (s : Syntax) (text : L
   module _ (are : AreOctets text) where
     refused_read : HasNone s text → (f : HeadFault) → refusal_of s text ≡ f → refused f ≡ head_at tables s text
     unfolding head_at
-    refused_read none f e = ap refused (sym e) ∙ sym (ap (said_or_refused tables s text) (no_head s text are none))
+    refused_read none f e = ap refused (sym e) ∙ sym (ap (heard_or_refused tables s text) (no_head s text are none))
 
     module _ (base : Base) (context : ℕ) (calls : Calls) where
       refused_by : (f : HeadFault) → IsRefused s text f → IfOk (refused_as f) (λ taken. heard_with calls taken ≡ hear base calls context (head_at tables s text))

@@ -9,7 +9,7 @@ use Rattle.rose_roles.specs.declared.apdu_taken.RoseTaken as roses
 use Rattle.rose_roles.specs.declared.apdu_taken.RoseTaken.TheVariants as rose
 use Rattle.rose_roles.specs.Hearing.{heard_with}
 use Rattle.association_answers.specs.declared.brought.Brought as broughts
-use Rattle.association_answers.specs.Reacted.{seen_messages}
+use Rattle.association_answers.specs.BroughtAs.{seen_messages}
 use Rattle.association_words.specs.declared.values.Value as words
 use Rattle.association_words.specs.Seen.{seen_message, seen_value, seen_values}
 use Rattle.association_hearing.specs.ValuesTaken.{TookAs, Joined}

@@ -3,7 +3,7 @@ use Rattle.std.specs.Prelude.{◌≡◌, ◌++◌}
 use Rattle.end_rules.specs.State.{Body}
 use Rattle.end_rules.specs.Hearing as rules
 use Rattle.association_answers.specs.declared.brought.Brought.{Brought}
-use Rattle.association_answers.specs.Reacted.{seen_messages}
+use Rattle.association_answers.specs.BroughtAs.{seen_messages}
 
 -- the body afterwards, the answers and what is shown are those of the rules
 pub record TookAs (taken : rules.Taken) (body : Body) (came : Brought) : Type 0 where

@@ -7,7 +7,7 @@ ghost use Rattle.end_rules.specs.TakesData.{part_in};
 ghost use Rattle.association_words.specs.Seen.{seen_content};
 ghost use Rattle.association_answers.specs.association_state.Seen.{seen};
 
-use association_answers::association_state_layer::{Body, Pieces, Progress};
+use association_answers::association_state_layer::{Body, Progress, TransferPieces};
 use association_sets::copy_set;
 use association_words::ValueContent;
 use osi_base::{NoMemory, SetItem, SetList};
@@ -30,7 +30,7 @@ pub fn part_in(content: &ValueContent) -> &[u8]
 #[tactic(auto, using(crate::proofs::Resumed::resumed_at))]
 pub fn set_resumed(
     alloc: Global,
-    pieces: &Pieces,
+    pieces: &TransferPieces,
     mark: u32,
     held: &[SetItem],
 ) -> Result<SetList, NoMemory>

@@ -1,13 +1,13 @@
 -- The parts of what came, as one. No public clause cites this module.
 use Rattle.std.specs.Prelude.{◌≡◌, List, Option, Some, None, IsSome}
 use Rattle.tpkt.specs.declared.packet.TFault.{TFault}
-use Rattle.tpkt.specs.declared.reader_state.Held.{Held}
+use Rattle.tpkt.specs.declared.reader_state.ReaderState.{ReaderState}
 use Rattle.association_reading.specs.Front as reading
 use Rattle.association_intake.specs.declared.front.Front.{Front}
 use Rattle.association_intake.specs.declared.intake.Parts.{Parts}
 use Rattle.association_intake.specs.Seen.{seen_fronts, ArePlaced}
 
-abbrev pub held_with : List Front → Option Held → Option reading.Intake
+abbrev pub held_with : List Front → Option ReaderState → Option reading.Intake
 held_with fronts None = None
 held_with fronts (Some held) = Some (record { fronts = seen_fronts fronts; held = held })
 
@@ -16,7 +16,7 @@ view_of None = None
 view_of (Some parts) = held_with parts.fronts.items parts.reader
 
 -- the fault is that of the stream
-abbrev pub IsFaultOf : Option Held → Option TFault → Type 0
+abbrev pub IsFaultOf : Option ReaderState → Option TFault → Type 0
 IsFaultOf None fault = Unit {0}
 IsFaultOf (Some held) fault = fault ≡ held.fault
 

@@ -1,6 +1,6 @@
 //! What an end receives by transfers.
 
-use crate::pieces::Pieces;
+use crate::transfer_pieces::TransferPieces;
 
 /// What an end receives: the record of the peer's last activity.
 #[derive(Debug, Drop)]
@@ -8,7 +8,7 @@ pub struct Receiving {
     /// The number of the peer's last activity.
     pub last: u32,
     /// The pieces that came in it, with their marks.
-    pub pieces: Pieces,
+    pub pieces: TransferPieces,
     /// Whether the end of that activity was taken already.
     pub was_handed: bool,
     /// Whether that activity is in progress.

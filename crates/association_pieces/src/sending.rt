@@ -4,7 +4,7 @@ ghost use Rattle.std.specs.Prelude.{◌≡◌, [], ◌∷◌, MatchOption};
 ghost use Rattle.association_sets.specs.end_rules.State.{is_running, is_ending, is_suspended};
 ghost use Rattle.association_pieces.specs.Sending.{seen_progress};
 
-use crate::pieces::Pieces;
+use crate::transfer_pieces::TransferPieces;
 use osi_base::{Octets, Pair};
 use stub_tables::Apdu;
 
@@ -96,7 +96,7 @@ pub struct Transfer {
     /// How the item was last encoded; `None` before its first encoding.
     pub encoded: Option<Encoded>,
     /// The pieces that were sent, with their marks.
-    pub pieces: Pieces,
+    pub pieces: TransferPieces,
     /// The highest number of a mark that the peer confirmed; 0 where there is none.
     pub confirmed: u32,
     /// How far the transfer is.

@@ -20,7 +20,7 @@ use Rattle.association_place.specs.association_reading.Reacting.{has_connection}
 use Rattle.association_connecting.specs.association_answers.declared.brought.Brought.{Brought}
 use Rattle.association_connecting.specs.association_answers.declared.brought.Reaction.{Reaction}
 use Rattle.association_connecting.specs.association_answers.declared.brought.Reaction.TheVariants as reaction
-use Rattle.association_connecting.specs.association_answers.Reacted.{TakenAs, FailsAs}
+use Rattle.association_connecting.specs.association_answers.BroughtAs.{TakenAs, FailsAs}
 use Rattle.association_takes.specs.ActivityWords.{is_end}
 use Rattle.association_reacting.specs.SeenReaction.{TakesSo, ReactsAs}
 

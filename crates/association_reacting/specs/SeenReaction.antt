@@ -9,7 +9,7 @@ use Rattle.association_words.specs.declared.words.Message.{Message}
 use Rattle.association_connecting.specs.association_answers.declared.brought.Brought.{Brought}
 use Rattle.association_connecting.specs.association_answers.declared.brought.Reaction.{Reaction}
 use Rattle.association_connecting.specs.association_answers.declared.brought.Reaction.TheVariants.{Passes, Takes, Fails}
-use Rattle.association_connecting.specs.association_answers.Reacted.{seen_messages}
+use Rattle.association_connecting.specs.association_answers.BroughtAs.{seen_messages}
 
 -- the message is passed over, and nothing changes
 pub record PassesSo (rule : rules.Reaction) (old new : Body) : Type 0 where

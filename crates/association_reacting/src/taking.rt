@@ -4,7 +4,7 @@ ghost use Rattle.std.specs.Prelude.{◌≡◌, IfOk, OnOk, None, false};
 ghost use Rattle.end_rules.specs.Reacting.{fails as rule_fails, word_fault, on_word, after_word, answers_to_word, shown_of_word, contexts_of_word};
 ghost use Rattle.association_words.specs.Seen.{seen_fault, seen_word};
 ghost use Rattle.association_place.specs.association_state.Seen.{base_in, seen};
-ghost use Rattle.association_connecting.specs.association_answers.Reacted.{TakenAs};
+ghost use Rattle.association_connecting.specs.association_answers.BroughtAs.{TakenAs};
 ghost use Rattle.association_reacting.specs.ActivityEnds.{is_end_word};
 ghost use Rattle.association_reacting.specs.SeenReaction.{ReactsAs};
 

@@ -12,7 +12,7 @@ use Rattle.osi_base.specs.declared.session_word.SessionWord.{SessionWord}
 use Rattle.osi_base.specs.declared.session_word.SessionWord.TheVariants as units
 use Rattle.osi_base.specs.Limits.{tsdu_limit}
 use Rattle.tpkt.specs.declared.packet.Packet.{Packet}
-use Rattle.tpkt.specs.declared.reader_state.Held.{Held}
+use Rattle.tpkt.specs.declared.reader_state.ReaderState.{ReaderState}
 use Rattle.tpkt.specs.Stream.{IsOctets}
 use Rattle.tpkt.specs.Reader.{ReaderProgress, nothing, reading}
 use Rattle.tpkt.specs.Written.{written_tsdu}
@@ -37,11 +37,11 @@ handed_up size tsdu least most within fits =
     r.0 ∙ s.2
 
 -- the fronts of what was read with these packets
-abbrev first_of : Held → List Packet → Front
+abbrev first_of : ReaderState → List Packet → Front
 first_of held packets = first_front held (all_fronts packets)
 
 -- a unit that can't stand alone stands behind an empty GT, which says nothing
-placed_first : (at : UserPlaces) (unit : SessionWord) (held : Held) (more : List Front) → (start : ℕ) × (first_front held (fronts_of_units at (Ok (in_its_place unit)) ++ more) ≡ OfSession unit start)
+placed_first : (at : UserPlaces) (unit : SessionWord) (held : ReaderState) (more : List Front) → (start : ℕ) × (first_front held (fronts_of_units at (Ok (in_its_place unit)) ++ more) ≡ OfSession unit start)
 placed_first at unit held more = by (stands_alone unit)
   where
     by : (b : Bool) → (start : ℕ) × (first_front held (fronts_of_units at (Ok (if b then unit ∷ [] else units.GiveTokens None ∷ unit ∷ [])) ++ more) ≡ OfSession unit start)

@@ -8,7 +8,7 @@ use Rattle.osi_base.specs.declared.session_word.SessionWord.TheVariants as units
 use Rattle.tpkt.specs.declared.packet.Packet.{Packet}
 use Rattle.tpkt.specs.declared.packet.Packet.TheVariants as packets
 use Rattle.tpkt.specs.declared.packet.TFault.{TFault}
-use Rattle.tpkt.specs.declared.reader_state.Held.{Held}
+use Rattle.tpkt.specs.declared.reader_state.ReaderState.{ReaderState}
 use Rattle.tpkt.specs.Reader.{nothing, reading}
 use Rattle.spdu_codec.specs.declared.places.UserPlaces.{UserPlaces}
 use Rattle.spdu_codec.specs.Reading.{UnitFault, units_at}
@@ -57,7 +57,7 @@ all_fronts (packet ∷ more) = fronts_of packet ++ all_fronts more
 
 pub record Intake : Type 0 where
   pub fronts : List Front
-  pub held : Held
+  pub held : ReaderState
 
 abbrev pub nothing_came : Intake
 nothing_came = record { fronts = []; held = nothing }
@@ -72,7 +72,7 @@ abbrev pub front_held : Option TFault → Front
 front_held None = Short
 front_held (Some fault) = Faulty layers.Transport fault.place
 
-abbrev pub first_front : Held → List Front → Front
+abbrev pub first_front : ReaderState → List Front → Front
 first_front held [] = front_held held.fault
 first_front held (front ∷ more) = front
 

@@ -9,7 +9,7 @@ ghost use Rattle.association_pieces.specs.Sending.{seen_queued, seen_transfer, s
 ghost use Rattle.association_hearing.specs.association_state.Seen.{seen};
 
 use association_hearing::association_state_layer::{
-    Awaited, Body, Ground, Pieces, Progress, Queued, Sending, Stage, Transfer, take_next,
+    Awaited, Body, Ground, Progress, Queued, Sending, Stage, Transfer, TransferPieces, take_next,
 };
 use association_hearing::{part_in, set_resumed};
 use association_sets::{Alteration, copy_set};
@@ -135,7 +135,7 @@ fn new_transfer(alloc: Global, item: Queued) -> Transfer
     Transfer {
         item,
         encoded: None,
-        pieces: Pieces::new(alloc),
+        pieces: TransferPieces::new(alloc),
         confirmed: 0,
         progress: Progress::Running,
     }
@@ -211,7 +211,7 @@ fn resumed_set(basis: &Ground<'_>, body: &Body, mark: u32) -> Result<SetList, No
 {
     let held = body.sets.held.as_slice();
     match &body.sending.current {
-        None => set_resumed(basis.alloc, &Pieces::new(basis.alloc), mark, held),
+        None => set_resumed(basis.alloc, &TransferPieces::new(basis.alloc), mark, held),
         Some(transfer) => set_resumed(basis.alloc, &transfer.pieces, mark, held),
     }
 }

@@ -7,7 +7,7 @@ use Rattle.end_model.specs.end_rules.ByItself.{OwnAct, SendsNow, EncodesOn}
 use Rattle.end_model.specs.end_rules.History.{Step, called, sent, took, answered, fault, aborted, step_of}
 use Rattle.end_model.specs.end_rules.World.{World}
 use Rattle.end_model.specs.Sharing.{side_of}
-use Rattle.end_model.specs.Pairs.{Common, base_at}
+use Rattle.end_model.specs.BothEnds.{Common, base_at}
 use Rattle.run_laws.specs.Laws.{IsFaultless, NothingFails}
 use Rattle.association_runs.specs.Worlds.{stepping}
 use Rattle.association_runs.proofs.Histories.{end_for}
@@ -38,13 +38,13 @@ quiet-calm (fault layer place reason) q = absurd q
 quiet-calm (aborted message) q = absurd q
 quiet-calm _ q = tt
 
-pub calm-keeps : (common : Common) → Keeps common (λ w two ledger dealings. NothingFails w)
+pub calm-keeps : (common : Common) → Keeps common (λ w two ledger exchanges. NothingFails w)
 calm-keeps common = record {
   begins = tt;
-  calls = λ role w two ledger dealings call answer j c h. all-calm (side_of role) w (called call (Ok answer) ∷ map sent (due_of (base_at role common) (end_for common role w).body call (Ok answer))) (tt, sents-calm (due_of (base_at role common) (end_for common role w).body call (Ok answer))) h;
-  acts = λ role w two ledger dealings own j c h. all-calm (side_of role) w (step_of own ∷ []) (own-calm own) h;
-  takes = λ role w two ledger dealings message left body answers shown j e r h. all-calm (side_of role) w (took message ∷ map (answered message) answers) (tt, answers-calm message answers) h;
-  passes = λ role w two ledger dealings message left j e r h. (tt, h);
-  quiet = λ role w two ledger dealings x q h. (quiet-calm x q, h);
-  breaks = λ w two ledger dealings j h. (tt, (tt, h));
+  calls = λ role w two ledger exchanges call answer j c h. all-calm (side_of role) w (called call (Ok answer) ∷ map sent (due_of (base_at role common) (end_for common role w).body call (Ok answer))) (tt, sents-calm (due_of (base_at role common) (end_for common role w).body call (Ok answer))) h;
+  acts = λ role w two ledger exchanges own j c h. all-calm (side_of role) w (step_of own ∷ []) (own-calm own) h;
+  takes = λ role w two ledger exchanges message left body answers shown j e r h. all-calm (side_of role) w (took message ∷ map (answered message) answers) (tt, answers-calm message answers) h;
+  passes = λ role w two ledger exchanges message left j e r h. (tt, h);
+  quiet = λ role w two ledger exchanges x q h. (quiet-calm x q, h);
+  breaks = λ w two ledger exchanges j h. (tt, (tt, h));
 }

@@ -13,15 +13,15 @@ use Rattle.end_model.specs.end_rules.World.{World}
 use Rattle.agreement.specs.Sets.{Role}
 use Rattle.agreement.specs.Sets.Role.{Initiator, Responder}
 use Rattle.end_model.specs.Sharing.{side_of}
-use Rattle.end_model.specs.Pairs.{Common, base_at, Two, body_at, coming_to, both_broke}
-use Rattle.outcome_laws.specs.reliable_model.Goes.{Ledger, Goes}
-use Rattle.outcome_laws.specs.reliable_model.Goes as goes_
-use Rattle.outcome_laws.specs.Deals.{Dealings, on_dealt, loses}
-use Rattle.outcome_laws.specs.Deals as deals_
+use Rattle.end_model.specs.BothEnds.{Common, base_at, Two, body_at, coming_to, both_broke}
+use Rattle.outcome_laws.specs.reliable_model.Ledgers.{Ledger, ReachedWithLedger}
+use Rattle.outcome_laws.specs.reliable_model.Ledgers as ledgers
+use Rattle.outcome_laws.specs.Exchanges.{Exchanges, on_exchange, loses}
+use Rattle.outcome_laws.specs.Exchanges as exchanges_
 use Rattle.association_line.specs.association_reading.Front.{Intake, with_octets}
 use Rattle.association_worlds.specs.Lines.{more_came}
 use Rattle.osi_base.specs.Limits.{IsUnitSize}
-use Rattle.association_worlds.specs.Ways.{Way}
+use Rattle.association_worlds.specs.InTransit.{Way}
 use Rattle.association_worlds.specs.Laws.{IsMeant}
 use Rattle.association_worlds.proofs.Kept.{way-moved}
 use Rattle.run_laws.specs.Passing.{Passed, sendings, readings}
@@ -50,7 +50,7 @@ plain rs all coming h =
     subst (λ (l : List _). Follows l (messages_in (all ++ [])) coming) (sym (append-nil rs))
     (subst (λ (l : List _). Follows rs (messages_in l) coming) (sym (append-nil all)) h)
 
-module _ (common : Common) (Extra : World → Two → Ledger → Dealings → Type 0) (k : Keeps common Extra) where
+module _ (common : Common) (Extra : World → Two → Ledger → Exchanges → Type 0) (k : Keeps common Extra) where
   fed-way : (came : Option Intake) (waiting octets : List ℕ) (n : ℕ) (coming : List Message) (over : Bool) → octets ≡ take n waiting → Way common.tables came waiting coming
       → Way common.tables (if over then None else option_map (with_octets octets) came) (drop n waiting) coming
   fed-way came waiting octets n coming true e w = tt
@@ -64,25 +64,25 @@ module _ (common : Common) (Extra : World → Two → Ledger → Dealings → Ty
       record {
         two = s.two;
         ledger = s.ledger;
-        dealings = s.dealings;
-        joint = record { deals = j.deals; speaks = j.speaks; bodies = bodies-so j; sizes = sizes-so j; ways = ways-so j; shared = j.shared; follows = follows-so j };
-        extra = k.quiet Responder (record { side = A; step = gave n } ∷ w) s.two s.ledger s.dealings (fed octets) tt (k.quiet Initiator w s.two s.ledger s.dealings (gave n) tt s.extra);
+        exchanges = s.exchanges;
+        joint = record { reached_exchanges = j.reached_exchanges; speaks = j.speaks; bodies = bodies-so j; sizes = sizes-so j; ways = ways-so j; shared = j.shared; follows = follows-so j };
+        extra = k.quiet Responder (record { side = A; step = gave n } ∷ w) s.two s.ledger s.exchanges (fed octets) tt (k.quiet Initiator w s.two s.ledger s.exchanges (gave n) tt s.extra);
       }
     where
-      bodies-so : Joint common w s.two s.ledger s.dealings → (r : Role) → (end_for common r (record { side = B; step = fed octets } ∷ record { side = A; step = gave n } ∷ w)).body ≡ body_at r s.two
+      bodies-so : Joint common w s.two s.ledger s.exchanges → (r : Role) → (end_for common r (record { side = B; step = fed octets } ∷ record { side = A; step = gave n } ∷ w)).body ≡ body_at r s.two
       bodies-so j Initiator = j.bodies Initiator
       bodies-so j Responder = j.bodies Responder
 
-      sizes-so : Joint common w s.two s.ledger s.dealings → (r : Role) → IsUnitSize (end_for common r (record { side = B; step = fed octets } ∷ record { side = A; step = gave n } ∷ w)).line.size
+      sizes-so : Joint common w s.two s.ledger s.exchanges → (r : Role) → IsUnitSize (end_for common r (record { side = B; step = fed octets } ∷ record { side = A; step = gave n } ∷ w)).line.size
       sizes-so j Initiator = j.sizes Initiator
       sizes-so j Responder = j.sizes Responder
 
-      ways-so : Joint common w s.two s.ledger s.dealings → (r : Role) → WayTo common (record { side = B; step = fed octets } ∷ record { side = A; step = gave n } ∷ w) r (coming_to r s.two)
+      ways-so : Joint common w s.two s.ledger s.exchanges → (r : Role) → WayTo common (record { side = B; step = fed octets } ∷ record { side = A; step = gave n } ∷ w) r (coming_to r s.two)
       ways-so j Initiator = j.ways Initiator
       ways-so j Responder =
           fed-way (end_for common Responder w).line.came (end_for common Initiator w).line.waiting octets n (coming_to Responder s.two) (passes_over (end_for common Responder w).body.link.phase) e (j.ways Responder)
 
-      follows-so : Joint common w s.two s.ledger s.dealings → (r : Role) → FollowsAt common (record { side = B; step = fed octets } ∷ record { side = A; step = gave n } ∷ w) r (coming_to r s.two)
+      follows-so : Joint common w s.two s.ledger s.exchanges → (r : Role) → FollowsAt common (record { side = B; step = fed octets } ∷ record { side = A; step = gave n } ∷ w) r (coming_to r s.two)
       follows-so j Initiator = plain (readings A w) (sendings (ends_for common) B w) (coming_to Initiator s.two) (j.follows Initiator)
       follows-so j Responder = plain (readings B w) (sendings (ends_for common) A w) (coming_to Responder s.two) (j.follows Responder)
 
@@ -92,25 +92,25 @@ module _ (common : Common) (Extra : World → Two → Ledger → Dealings → Ty
       record {
         two = s.two;
         ledger = s.ledger;
-        dealings = s.dealings;
-        joint = record { deals = j.deals; speaks = j.speaks; bodies = bodies-so j; sizes = sizes-so j; ways = ways-so j; shared = j.shared; follows = follows-so j };
-        extra = k.quiet Initiator (record { side = B; step = gave n } ∷ w) s.two s.ledger s.dealings (fed octets) tt (k.quiet Responder w s.two s.ledger s.dealings (gave n) tt s.extra);
+        exchanges = s.exchanges;
+        joint = record { reached_exchanges = j.reached_exchanges; speaks = j.speaks; bodies = bodies-so j; sizes = sizes-so j; ways = ways-so j; shared = j.shared; follows = follows-so j };
+        extra = k.quiet Initiator (record { side = B; step = gave n } ∷ w) s.two s.ledger s.exchanges (fed octets) tt (k.quiet Responder w s.two s.ledger s.exchanges (gave n) tt s.extra);
       }
     where
-      bodies-so : Joint common w s.two s.ledger s.dealings → (r : Role) → (end_for common r (record { side = A; step = fed octets } ∷ record { side = B; step = gave n } ∷ w)).body ≡ body_at r s.two
+      bodies-so : Joint common w s.two s.ledger s.exchanges → (r : Role) → (end_for common r (record { side = A; step = fed octets } ∷ record { side = B; step = gave n } ∷ w)).body ≡ body_at r s.two
       bodies-so j Initiator = j.bodies Initiator
       bodies-so j Responder = j.bodies Responder
 
-      sizes-so : Joint common w s.two s.ledger s.dealings → (r : Role) → IsUnitSize (end_for common r (record { side = A; step = fed octets } ∷ record { side = B; step = gave n } ∷ w)).line.size
+      sizes-so : Joint common w s.two s.ledger s.exchanges → (r : Role) → IsUnitSize (end_for common r (record { side = A; step = fed octets } ∷ record { side = B; step = gave n } ∷ w)).line.size
       sizes-so j Initiator = j.sizes Initiator
       sizes-so j Responder = j.sizes Responder
 
-      ways-so : Joint common w s.two s.ledger s.dealings → (r : Role) → WayTo common (record { side = A; step = fed octets } ∷ record { side = B; step = gave n } ∷ w) r (coming_to r s.two)
+      ways-so : Joint common w s.two s.ledger s.exchanges → (r : Role) → WayTo common (record { side = A; step = fed octets } ∷ record { side = B; step = gave n } ∷ w) r (coming_to r s.two)
       ways-so j Initiator =
           fed-way (end_for common Initiator w).line.came (end_for common Responder w).line.waiting octets n (coming_to Initiator s.two) (passes_over (end_for common Initiator w).body.link.phase) e (j.ways Initiator)
       ways-so j Responder = j.ways Responder
 
-      follows-so : Joint common w s.two s.ledger s.dealings → (r : Role) → FollowsAt common (record { side = A; step = fed octets } ∷ record { side = B; step = gave n } ∷ w) r (coming_to r s.two)
+      follows-so : Joint common w s.two s.ledger s.exchanges → (r : Role) → FollowsAt common (record { side = A; step = fed octets } ∷ record { side = B; step = gave n } ∷ w) r (coming_to r s.two)
       follows-so j Initiator = plain (readings A w) (sendings (ends_for common) B w) (coming_to Initiator s.two) (j.follows Initiator)
       follows-so j Responder = plain (readings B w) (sendings (ends_for common) A w) (coming_to Responder s.two) (j.follows Responder)
 
@@ -122,21 +122,21 @@ module _ (common : Common) (Extra : World → Two → Ledger → Dealings → Ty
       record {
         two = both_broke common s.two;
         ledger = s.ledger;
-        dealings = on_dealt Initiator loses loses s.dealings;
+        exchanges = on_exchange Initiator loses loses s.exchanges;
         joint =
             record {
-              deals = deals_.breaks s.two s.ledger s.dealings j.deals;
-              speaks = record { goes = goes_.breaks s.two s.ledger j.speaks.goes; calls = j.speaks.calls };
+              reached_exchanges = exchanges_.breaks s.two s.ledger s.exchanges j.reached_exchanges;
+              speaks = record { goes = ledgers.breaks s.two s.ledger j.speaks.goes; calls = j.speaks.calls };
               bodies = bodies-so j;
               sizes = sizes-so;
               ways = ways-so;
               shared = j.shared;
               follows = follows-so;
             };
-        extra = k.breaks w s.two s.ledger s.dealings j s.extra;
+        extra = k.breaks w s.two s.ledger s.exchanges j s.extra;
       }
     where
-      bodies-so : Joint common w s.two s.ledger s.dealings → (r : Role) → (end_for common r (record { side = B; step = broke } ∷ record { side = A; step = broke } ∷ w)).body ≡ body_at r (both_broke common s.two)
+      bodies-so : Joint common w s.two s.ledger s.exchanges → (r : Role) → (end_for common r (record { side = B; step = broke } ∷ record { side = A; step = broke } ∷ w)).body ≡ body_at r (both_broke common s.two)
       bodies-so j Initiator = ap (after_broke (base_at Initiator common)) (j.bodies Initiator)
       bodies-so j Responder = ap (after_broke (base_at Responder common)) (j.bodies Responder)
 
@@ -154,7 +154,7 @@ module _ (common : Common) (Extra : World → Two → Ledger → Dealings → Ty
 
 -- ---- feeds and whole runs
 
-module _ (common : Common) (m : IsMeant common) (Extra : World → Two → Ledger → Dealings → Type 0) (k : Keeps common Extra) where
+module _ (common : Common) (m : IsMeant common) (Extra : World → Two → Ledger → Exchanges → Type 0) (k : Keeps common Extra) where
   pub fed-so : (role : Role) (w : World) (e : End) (reading own : List Step) (shown : List Indication) → e ≡ end_for common role w → Reads (base_at role common) e reading shown
       → ByItself (base_at role common) (after_all (base_at role common) e reading).body own → Joined common Extra w → Joined common Extra (stepping (side_of role) w (reading ++ feed_end ∷ own))
   fed-so role w e reading own shown is r o s =

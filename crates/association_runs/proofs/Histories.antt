@@ -9,8 +9,8 @@ use Rattle.end_model.specs.end_rules.World.{World, Ends, base_at, body_at, histo
 use Rattle.end_model.specs.end_rules.World as sides
 use Rattle.agreement.specs.Sets.{Role, other}
 use Rattle.agreement.specs.Sets.Role.{Initiator, Responder}
-use Rattle.end_model.specs.Pairs as pairs
-use Rattle.end_model.specs.Pairs.{Common}
+use Rattle.end_model.specs.BothEnds as both_ends
+use Rattle.end_model.specs.BothEnds.{Common}
 use Rattle.end_model.specs.Sharing.{side_of}
 use Rattle.association_line.specs.Line.{End, after, after_all, end_of, going_on}
 use Rattle.association_runs.specs.Worlds.{stepping}
@@ -44,9 +44,9 @@ stepping-append side w (x ∷ xs) ys = stepping-append side (record { side = sid
 
 -- what the moments say of the end of this role
 abbrev pub end_for : Common → Role → World → End
-end_for common role w = end_of (pairs.base_at role common) (history_of (side_of role) w)
+end_for common role w = end_of (both_ends.base_at role common) (history_of (side_of role) w)
 
-pub base-for : (common : Common) (role : Role) → base_at (ends_for common) (side_of role) ≡ pairs.base_at role common
+pub base-for : (common : Common) (role : Role) → base_at (ends_for common) (side_of role) ≡ both_ends.base_at role common
 base-for common Initiator = refl
 base-for common Responder = refl
 
@@ -58,20 +58,20 @@ pub other-other : (role : Role) → other (other role) ≡ role
 other-other Initiator = refl
 other-other Responder = refl
 
-pub own-end : (common : Common) (role : Role) (w : World) (xs : List Step) → end_for common role (stepping (side_of role) w xs) ≡ after_all (pairs.base_at role common) (end_for common role w) xs
+pub own-end : (common : Common) (role : Role) (w : World) (xs : List Step) → end_for common role (stepping (side_of role) w xs) ≡ after_all (both_ends.base_at role common) (end_for common role w) xs
 own-end common role w xs =
-    ap (end_of (pairs.base_at role common)) (own-history role w xs) ∙ end-going (pairs.base_at role common) (history_of (side_of role) w) xs
+    ap (end_of (both_ends.base_at role common)) (own-history role w xs) ∙ end-going (both_ends.base_at role common) (history_of (side_of role) w) xs
 
 pub peer-end : (common : Common) (role : Role) (w : World) (xs : List Step) → end_for common (other role) (stepping (side_of role) w xs) ≡ end_for common (other role) w
-peer-end common role w xs = ap (end_of (pairs.base_at (other role) common)) (peer-history role w xs)
+peer-end common role w xs = ap (end_of (both_ends.base_at (other role) common)) (peer-history role w xs)
 
 pub body-is : (base : Base) (h : History) → (end_of base h).body ≡ body_of base h
 body-is base [] = refl
 body-is base (x ∷ h) = ap (λ (b : Body). after_step base b x) (body-is base h)
 
 pub body-for : (common : Common) (role : Role) (w : World) → body_at (ends_for common) (side_of role) w ≡ (end_for common role w).body
-body-for common Initiator w = sym (body-is (pairs.base_at Initiator common) (history_of A w))
-body-for common Responder w = sym (body-is (pairs.base_at Responder common) (history_of B w))
+body-for common Initiator w = sym (body-is (both_ends.base_at Initiator common) (history_of A w))
+body-for common Responder w = sym (body-is (both_ends.base_at Responder common) (history_of B w))
 
 -- ---- the shared set
 
@@ -79,7 +79,7 @@ abbrev pub shared_on : Base → Side → Shared → List Step → Shared
 shared_on base side shared [] = shared
 shared_on base side shared (x ∷ xs) = shared_on base side (shared_after base side x shared) xs
 
-pub shared-stepping : (common : Common) (role : Role) (w : World) (xs : List Step) → shared_at (ends_for common) (stepping (side_of role) w xs) ≡ shared_on (pairs.base_at role common) (side_of role) (shared_at (ends_for common) w) xs
+pub shared-stepping : (common : Common) (role : Role) (w : World) (xs : List Step) → shared_at (ends_for common) (stepping (side_of role) w xs) ≡ shared_on (both_ends.base_at role common) (side_of role) (shared_at (ends_for common) w) xs
 shared-stepping common role w [] = refl
 shared-stepping common Initiator w (x ∷ xs) = shared-stepping common Initiator (record { side = A; step = x } ∷ w) xs
 shared-stepping common Responder w (x ∷ xs) = shared-stepping common Responder (record { side = B; step = x } ∷ w) xs

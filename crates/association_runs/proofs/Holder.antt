@@ -16,11 +16,11 @@ use Rattle.agreement.specs.Sets.{Role}
 use Rattle.agreement.specs.Sets.Role.{Initiator, Responder}
 use Rattle.end_model.specs.Requests.{after_called}
 use Rattle.end_model.specs.Sharing.{side_of}
-use Rattle.end_model.specs.Pairs as pairs
-use Rattle.end_model.specs.Pairs.{Common, Two, coming_to, stepped, both_broke}
-use Rattle.outcome_laws.specs.reliable_model.Goes.{Ledger, first_ledger, after_sending, after_own, after_taking, own_messages, Goes}
-use Rattle.outcome_laws.specs.reliable_model.Goes as goes_
-use Rattle.outcome_laws.specs.Deals.{Dealings}
+use Rattle.end_model.specs.BothEnds as both_ends
+use Rattle.end_model.specs.BothEnds.{Common, Two, coming_to, stepped, both_broke}
+use Rattle.outcome_laws.specs.reliable_model.Ledgers.{Ledger, first_ledger, after_sending, after_own, after_taking, own_messages, ReachedWithLedger}
+use Rattle.outcome_laws.specs.reliable_model.Ledgers as ledgers
+use Rattle.outcome_laws.specs.Exchanges.{Exchanges}
 use Rattle.run_laws.specs.Laws.{AtEachMoment, OneHolder}
 use Rattle.association_line.specs.Line.{End, after, after_all}
 use Rattle.association_runs.specs.Worlds.{stepping}
@@ -44,8 +44,8 @@ module _ (common : Common) (one : AreOneHolder common) where
   -- ---- steps that bring the turn to nobody
 
   stepped-on : (role : Role) (w : World) (x : Step) → IsCalm x → Ever w → Ever (record { side = side_of role; step = x } ∷ w)
-  stepped-on Initiator w x n h = ((λ a b. now w h (gains-not (pairs.base_at Initiator common) (body_at (ends_for common) A w) x n a) b), h)
-  stepped-on Responder w x n h = ((λ a b. now w h a (gains-not (pairs.base_at Responder common) (body_at (ends_for common) B w) x n b)), h)
+  stepped-on Initiator w x n h = ((λ a b. now w h (gains-not (both_ends.base_at Initiator common) (body_at (ends_for common) A w) x n a) b), h)
+  stepped-on Responder w x n h = ((λ a b. now w h a (gains-not (both_ends.base_at Responder common) (body_at (ends_for common) B w) x n b)), h)
 
   answers-on : (role : Role) (w : World) (to : Message) (ms : List Message) → Ever w → Ever (stepping (side_of role) w (map (answered to) ms))
   answers-on role w to [] h = h
@@ -67,16 +67,16 @@ module _ (common : Common) (one : AreOneHolder common) where
 
   -- ---- steps that lead to what two ends reach
 
-  of-bodies : (w : World) (two : Two) (ledger : Ledger) → Goes common two ledger → body_at (ends_for common) A w ≡ two.a → body_at (ends_for common) B w ≡ two.b → OneHolder (ends_for common) w
+  of-bodies : (w : World) (two : Two) (ledger : Ledger) → ReachedWithLedger common two ledger → body_at (ends_for common) A w ≡ two.a → body_at (ends_for common) B w ≡ two.b → OneHolder (ends_for common) w
   of-bodies w two ledger g a b = λ x y. one two ledger g (ap holds_turn (sym a) ∙ x) (ap holds_turn (sym b) ∙ y)
 
-  reached-at : (role : Role) (w : World) (xs : List Step) (two : Two) (ledger : Ledger) (dealings : Dealings) (body : Body) (left more : List Message) (later : Ledger) → Joint common w two ledger dealings
-      → Goes common (stepped role body left more two) later → (after_all (pairs.base_at role common) (end_for common role w) xs).body ≡ body → OneHolder (ends_for common) (stepping (side_of role) w xs)
-  reached-at Initiator w xs two ledger dealings body left more later j g e =
+  reached-at : (role : Role) (w : World) (xs : List Step) (two : Two) (ledger : Ledger) (exchanges : Exchanges) (body : Body) (left more : List Message) (later : Ledger) → Joint common w two ledger exchanges
+      → ReachedWithLedger common (stepped role body left more two) later → (after_all (both_ends.base_at role common) (end_for common role w) xs).body ≡ body → OneHolder (ends_for common) (stepping (side_of role) w xs)
+  reached-at Initiator w xs two ledger exchanges body left more later j g e =
       of-bodies (stepping A w xs) (stepped Initiator body left more two) later g
       (body-for common Initiator (stepping A w xs) ∙ ap (λ (x : End). x.body) (own-end common Initiator w xs) ∙ e)
       (body-for common Responder (stepping A w xs) ∙ ap (λ (x : End). x.body) (peer-end common Initiator w xs) ∙ j.bodies Responder)
-  reached-at Responder w xs two ledger dealings body left more later j g e =
+  reached-at Responder w xs two ledger exchanges body left more later j g e =
       of-bodies (stepping B w xs) (stepped Responder body left more two) later g
       (body-for common Initiator (stepping B w xs) ∙ ap (λ (x : End). x.body) (peer-end common Responder w xs) ∙ j.bodies Initiator)
       (body-for common Responder (stepping B w xs) ∙ ap (λ (x : End). x.body) (own-end common Responder w xs) ∙ e)
@@ -87,54 +87,54 @@ module _ (common : Common) (one : AreOneHolder common) where
   sents-on role w (m ∷ []) f o h = (o, h)
   sents-on role w (m ∷ n ∷ ms) f o h = absurd f
 
-  call-goes : (role : Role) (two : Two) (ledger : Ledger) (call : Call) (answer : Option ℤ) (b : Body) → b ≡ pairs.body_at role two → Goes common two ledger → can_call (pairs.base_at role common) b call ≡ Ok answer
-      → Goes common (stepped role (after_called common.mode (pairs.base_at role common) b call answer) (coming_to role two) (due_of (pairs.base_at role common) b call (Ok answer)) two) (after_sending common role (due_of (pairs.base_at role common) b call (Ok answer)) ledger)
+  call-goes : (role : Role) (two : Two) (ledger : Ledger) (call : Call) (answer : Option ℤ) (b : Body) → b ≡ both_ends.body_at role two → ReachedWithLedger common two ledger → can_call (both_ends.base_at role common) b call ≡ Ok answer
+      → ReachedWithLedger common (stepped role (after_called common.mode (both_ends.base_at role common) b call answer) (coming_to role two) (due_of (both_ends.base_at role common) b call (Ok answer)) two) (after_sending common role (due_of (both_ends.base_at role common) b call (Ok answer)) ledger)
   call-goes role two ledger call answer b e g c =
-      subst (λ (b : Body). can_call (pairs.base_at role common) b call ≡ Ok answer → Goes common (stepped role (after_called common.mode (pairs.base_at role common) b call answer) (coming_to role two) (due_of (pairs.base_at role common) b call (Ok answer)) two) (after_sending common role (due_of (pairs.base_at role common) b call (Ok answer)) ledger)) (sym e)
-      (λ c. goes_.calls two ledger role call answer g c) c
+      subst (λ (b : Body). can_call (both_ends.base_at role common) b call ≡ Ok answer → ReachedWithLedger common (stepped role (after_called common.mode (both_ends.base_at role common) b call answer) (coming_to role two) (due_of (both_ends.base_at role common) b call (Ok answer)) two) (after_sending common role (due_of (both_ends.base_at role common) b call (Ok answer)) ledger)) (sym e)
+      (λ c. ledgers.calls two ledger role call answer g c) c
 
-  called-on : (role : Role) (w : World) (two : Two) (ledger : Ledger) (dealings : Dealings) (call : Call) (answer : Option ℤ) → Joint common w two ledger dealings
-      → can_call (pairs.base_at role common) (end_for common role w).body call ≡ Ok answer → Ever w
-      → Ever (stepping (side_of role) w (called call (Ok answer) ∷ map sent (due_of (pairs.base_at role common) (end_for common role w).body call (Ok answer))))
-  called-on role w two ledger dealings call answer j c h =
-      let base = pairs.base_at role common in
+  called-on : (role : Role) (w : World) (two : Two) (ledger : Ledger) (exchanges : Exchanges) (call : Call) (answer : Option ℤ) → Joint common w two ledger exchanges
+      → can_call (both_ends.base_at role common) (end_for common role w).body call ≡ Ok answer → Ever w
+      → Ever (stepping (side_of role) w (called call (Ok answer) ∷ map sent (due_of (both_ends.base_at role common) (end_for common role w).body call (Ok answer))))
+  called-on role w two ledger exchanges call answer j c h =
+      let base = both_ends.base_at role common in
       let e = end_for common role w in
       let due : List Message = due_of base e.body call (Ok answer) in
       let g = call-goes role two ledger call answer e.body (j.bodies role) j.speaks.goes c in
-      let o = reached-at role w (called call (Ok answer) ∷ map sent due) two ledger dealings (after_called common.mode base e.body call answer) (coming_to role two) due (after_sending common role due ledger) j g
+      let o = reached-at role w (called call (Ok answer) ∷ map sent due) two ledger exchanges (after_called common.mode base e.body call answer) (coming_to role two) due (after_sending common role due ledger) j g
       (ap (λ (x : End). x.body) (all-sent base (after base e (called call (Ok answer))) due)) in
       sents-on role (record { side = side_of role; step = called call (Ok answer) } ∷ w) due (due-few base e.body call answer) o (stepped-on role w (called call (Ok answer)) tt h)
 
-  acted-on : (role : Role) (w : World) (two : Two) (ledger : Ledger) (dealings : Dealings) (own : OwnAct) → Joint common w two ledger dealings
-      → next_own (pairs.base_at role common) (end_for common role w).body ≡ Some own → Ever w → Ever (stepping (side_of role) w (step_of own ∷ []))
-  acted-on role w two ledger dealings own j c h =
-      let g = goes_.acts two ledger role own j.speaks.goes (ap (next_own (pairs.base_at role common)) (sym (j.bodies role)) ∙ c) in (
-        reached-at role w (step_of own ∷ []) two ledger dealings (after_step (pairs.base_at role common) (pairs.body_at role two) (step_of own)) (coming_to role two) (own_messages own) (after_own common role (pairs.body_at role two) own ledger) j g
-            (ap (λ (b : Body). after_step (pairs.base_at role common) b (step_of own)) (j.bodies role)),
+  acted-on : (role : Role) (w : World) (two : Two) (ledger : Ledger) (exchanges : Exchanges) (own : OwnAct) → Joint common w two ledger exchanges
+      → next_own (both_ends.base_at role common) (end_for common role w).body ≡ Some own → Ever w → Ever (stepping (side_of role) w (step_of own ∷ []))
+  acted-on role w two ledger exchanges own j c h =
+      let g = ledgers.acts two ledger role own j.speaks.goes (ap (next_own (both_ends.base_at role common)) (sym (j.bodies role)) ∙ c) in (
+        reached-at role w (step_of own ∷ []) two ledger exchanges (after_step (both_ends.base_at role common) (both_ends.body_at role two) (step_of own)) (coming_to role two) (own_messages own) (after_own common role (both_ends.body_at role two) own ledger) j g
+            (ap (λ (b : Body). after_step (both_ends.base_at role common) b (step_of own)) (j.bodies role)),
         h,
       )
 
-  took-on : (role : Role) (w : World) (two : Two) (ledger : Ledger) (dealings : Dealings) (message : Message) (left : List Message) (body : Body) (answers : List Message) (shown : List Indication) → Joint common w two ledger dealings
-      → coming_to role two ≡ message ∷ left → react (pairs.base_at role common) (pairs.body_at role two) message ≡ Takes body answers shown → Ever w → Ever (record { side = side_of role; step = took message } ∷ w)
-  took-on role w two ledger dealings message left body answers shown j e r h =
-      let g = goes_.takes two ledger role message left body answers shown j.speaks.goes e r in (
-        reached-at role w (took message ∷ []) two ledger dealings body left answers (after_taking common role (pairs.body_at role two) message answers ledger) j g
-            (ap (λ (b : Body). after_taken (pairs.base_at role common) b message) (j.bodies role) ∙ sym (taken-leaves (pairs.base_at role common) (pairs.body_at role two) message body answers shown r)),
+  took-on : (role : Role) (w : World) (two : Two) (ledger : Ledger) (exchanges : Exchanges) (message : Message) (left : List Message) (body : Body) (answers : List Message) (shown : List Indication) → Joint common w two ledger exchanges
+      → coming_to role two ≡ message ∷ left → react (both_ends.base_at role common) (both_ends.body_at role two) message ≡ Takes body answers shown → Ever w → Ever (record { side = side_of role; step = took message } ∷ w)
+  took-on role w two ledger exchanges message left body answers shown j e r h =
+      let g = ledgers.takes two ledger role message left body answers shown j.speaks.goes e r in (
+        reached-at role w (took message ∷ []) two ledger exchanges body left answers (after_taking common role (both_ends.body_at role two) message answers ledger) j g
+            (ap (λ (b : Body). after_taken (both_ends.base_at role common) b message) (j.bodies role) ∙ sym (taken-leaves (both_ends.base_at role common) (both_ends.body_at role two) message body answers shown r)),
         h,
       )
 
   at-first : OneHolder (ends_for common) []
-  at-first a b = one (pairs.two_new common) (first_ledger common) goes_.begins a b
+  at-first a b = one (both_ends.two_new common) (first_ledger common) ledgers.begins a b
 
-  pub holder-keeps : Keeps common (λ w two ledger dealings. Ever w)
+  pub holder-keeps : Keeps common (λ w two ledger exchanges. Ever w)
   holder-keeps = record {
     begins = at-first;
-    calls = λ role w two ledger dealings call answer j c h. called-on role w two ledger dealings call answer j c h;
-    acts = λ role w two ledger dealings own j c h. acted-on role w two ledger dealings own j c h;
-    takes = λ role w two ledger dealings message left body answers shown j e r h.
+    calls = λ role w two ledger exchanges call answer j c h. called-on role w two ledger exchanges call answer j c h;
+    acts = λ role w two ledger exchanges own j c h. acted-on role w two ledger exchanges own j c h;
+    takes = λ role w two ledger exchanges message left body answers shown j e r h.
         answers-on role (record { side = side_of role; step = took message } ∷ w) message answers
-        (took-on role w two ledger dealings message left body answers shown j e r h);
-    passes = λ role w two ledger dealings message left j e r h. stepped-on role w passed tt h;
-    quiet = λ role w two ledger dealings x q h. stepped-on role w x (quiet-calm x q) h;
-    breaks = λ w two ledger dealings j h. stepped-on Responder (record { side = A; step = broke } ∷ w) broke tt (stepped-on Initiator w broke tt h);
+        (took-on role w two ledger exchanges message left body answers shown j e r h);
+    passes = λ role w two ledger exchanges message left j e r h. stepped-on role w passed tt h;
+    quiet = λ role w two ledger exchanges x q h. stepped-on role w x (quiet-calm x q) h;
+    breaks = λ w two ledger exchanges j h. stepped-on Responder (record { side = A; step = broke } ∷ w) broke tt (stepped-on Initiator w broke tt h);
   }

@@ -11,10 +11,10 @@ use Rattle.end_model.specs.end_rules.World.{World, Ends}
 use Rattle.agreement.specs.Sets.{Role}
 use Rattle.agreement.specs.Sets.Role.{Initiator, Responder}
 use Rattle.end_model.specs.Sharing.{side_of}
-use Rattle.end_model.specs.Pairs as pairs
-use Rattle.end_model.specs.Pairs.{Common, Two, coming_to}
-use Rattle.outcome_laws.specs.reliable_model.Goes.{Ledger}
-use Rattle.outcome_laws.specs.Deals.{Dealings}
+use Rattle.end_model.specs.BothEnds as both_ends
+use Rattle.end_model.specs.BothEnds.{Common, Two, coming_to}
+use Rattle.outcome_laws.specs.reliable_model.Ledgers.{Ledger}
+use Rattle.outcome_laws.specs.Exchanges.{Exchanges}
 use Rattle.run_laws.specs.Passing.{sent_in, Passed, as_read, at_sending, on_connection, sendings, read_in, readings, AreInPlace, TakenInPlace}
 use Rattle.run_laws.specs.Laws.{AtEachMoment}
 use Rattle.association_runs.specs.Worlds.{stepping}
@@ -103,19 +103,19 @@ module _ (common : Common) where
   quiet-none passed q = absurd q
   quiet-none _ q = tt
 
-  took-on : (role : Role) (w : World) (two : Two) (ledger : Ledger) (dealings : Dealings) (message : Message) (left : List Message) → Joint common w two ledger dealings → coming_to role two ≡ message ∷ left → Ever w → Ever (record { side = side_of role; step = took message } ∷ w)
-  took-on Initiator w two ledger dealings message left j e h =
+  took-on : (role : Role) (w : World) (two : Two) (ledger : Ledger) (exchanges : Exchanges) (message : Message) (left : List Message) → Joint common w two ledger exchanges → coming_to role two ≡ message ∷ left → Ever w → Ever (record { side = side_of role; step = took message } ∷ w)
+  took-on Initiator w two ledger exchanges message left j e h =
       let f = follows-some (readings A w) (messages_in (sendings ends B w)) two.to_a left message (as_read message) e refl (j.follows Initiator) in
       (of-both (record { side = A; step = took message } ∷ w) (more-sent (readings B w) (sendings ends A w) [] (now w h A)) (follows-in-place (readings A w ++ Some (as_read message) ∷ []) (sendings ends B w) left f), h)
-  took-on Responder w two ledger dealings message left j e h =
+  took-on Responder w two ledger exchanges message left j e h =
       let f = follows-some (readings B w) (messages_in (sendings ends A w)) two.to_b left message (as_read message) e refl (j.follows Responder) in
       (of-both (record { side = B; step = took message } ∷ w) (follows-in-place (readings B w ++ Some (as_read message) ∷ []) (sendings ends A w) left f) (more-sent (readings A w) (sendings ends B w) [] (now w h B)), h)
 
-  passed-on : (role : Role) (w : World) (two : Two) (ledger : Ledger) (dealings : Dealings) (message : Message) (left : List Message) → Joint common w two ledger dealings → coming_to role two ≡ message ∷ left → Ever w → Ever (record { side = side_of role; step = passed } ∷ w)
-  passed-on Initiator w two ledger dealings message left j e h =
+  passed-on : (role : Role) (w : World) (two : Two) (ledger : Ledger) (exchanges : Exchanges) (message : Message) (left : List Message) → Joint common w two ledger exchanges → coming_to role two ≡ message ∷ left → Ever w → Ever (record { side = side_of role; step = passed } ∷ w)
+  passed-on Initiator w two ledger exchanges message left j e h =
       let f = follows-none (readings A w) (messages_in (sendings ends B w)) two.to_a left message e (j.follows Initiator) in
       (of-both (record { side = A; step = passed } ∷ w) (more-sent (readings B w) (sendings ends A w) [] (now w h A)) (follows-in-place (readings A w ++ None ∷ []) (sendings ends B w) left f), h)
-  passed-on Responder w two ledger dealings message left j e h =
+  passed-on Responder w two ledger exchanges message left j e h =
       let f = follows-none (readings B w) (messages_in (sendings ends A w)) two.to_b left message e (j.follows Responder) in
       (of-both (record { side = B; step = passed } ∷ w) (follows-in-place (readings B w ++ None ∷ []) (sendings ends A w) left f) (more-sent (readings A w) (sendings ends B w) [] (now w h B)), h)
 
@@ -123,14 +123,14 @@ module _ (common : Common) where
   at-first A = tt
   at-first B = tt
 
-  pub place-keeps : Keeps common (λ w two ledger dealings. Ever w)
+  pub place-keeps : Keeps common (λ w two ledger exchanges. Ever w)
   place-keeps = record {
     begins = at-first;
-    calls = λ role w two ledger dealings call answer j c h. all-on role w (called call (Ok answer) ∷ map sent (due_of (pairs.base_at role common) (end_for common role w).body call (Ok answer))) (tt, sents-none (due_of (pairs.base_at role common) (end_for common role w).body call (Ok answer))) h;
-    acts = λ role w two ledger dealings own j c h. all-on role w (step_of own ∷ []) (own-none own) h;
-    takes = λ role w two ledger dealings message left body answers shown j e r h.
-        all-on role (record { side = side_of role; step = took message } ∷ w) (map (answered message) answers) (answers-none message answers) (took-on role w two ledger dealings message left j e h);
-    passes = λ role w two ledger dealings message left j e r h. passed-on role w two ledger dealings message left j e h;
-    quiet = λ role w two ledger dealings x q h. stepped-on role w x (quiet-none x q) h;
-    breaks = λ w two ledger dealings j h. stepped-on Responder (record { side = A; step = broke } ∷ w) broke tt (stepped-on Initiator w broke tt h);
+    calls = λ role w two ledger exchanges call answer j c h. all-on role w (called call (Ok answer) ∷ map sent (due_of (both_ends.base_at role common) (end_for common role w).body call (Ok answer))) (tt, sents-none (due_of (both_ends.base_at role common) (end_for common role w).body call (Ok answer))) h;
+    acts = λ role w two ledger exchanges own j c h. all-on role w (step_of own ∷ []) (own-none own) h;
+    takes = λ role w two ledger exchanges message left body answers shown j e r h.
+        all-on role (record { side = side_of role; step = took message } ∷ w) (map (answered message) answers) (answers-none message answers) (took-on role w two ledger exchanges message left j e h);
+    passes = λ role w two ledger exchanges message left j e r h. passed-on role w two ledger exchanges message left j e h;
+    quiet = λ role w two ledger exchanges x q h. stepped-on role w x (quiet-none x q) h;
+    breaks = λ w two ledger exchanges j h. stepped-on Responder (record { side = A; step = broke } ∷ w) broke tt (stepped-on Initiator w broke tt h);
   }

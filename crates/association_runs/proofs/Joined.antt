@@ -22,16 +22,16 @@ use Rattle.agreement.specs.Sets.Role.{Initiator, Responder}
 use Rattle.end_model.specs.Requests.{after_called}
 use Rattle.end_model.specs.Sharing.{side_of, shared_all_sent, shared_all_answered}
 use Rattle.end_model.specs.Acting.{apdus_of}
-use Rattle.end_model.specs.Pairs.{Common, base_at, Two, two_new, body_at, coming_to, stepped}
-use Rattle.outcome_laws.specs.reliable_model.Goes.{Ledger, first_ledger, after_sending, after_own, after_taking, own_messages, Goes}
-use Rattle.outcome_laws.specs.reliable_model.Goes as goes_
-use Rattle.outcome_laws.specs.Deals.{Dealings, dealt_of, on_dealt, calls_so, asked_by, gets, stays, takes_so, meets, loses, nothing_dealt, Deals}
-use Rattle.outcome_laws.specs.Deals as deals_
+use Rattle.end_model.specs.BothEnds.{Common, base_at, Two, two_new, body_at, coming_to, stepped}
+use Rattle.outcome_laws.specs.reliable_model.Ledgers.{Ledger, first_ledger, after_sending, after_own, after_taking, own_messages, ReachedWithLedger}
+use Rattle.outcome_laws.specs.reliable_model.Ledgers as ledgers
+use Rattle.outcome_laws.specs.Exchanges.{Exchanges, exchange_of, on_exchange, calls_so, asked_by, gets, stays, takes_so, meets, loses, nothing_exchanged, ReachedWithExchanges}
+use Rattle.outcome_laws.specs.Exchanges as exchanges_
 use Rattle.association_line.specs.association_wire.Written.{written}
 use Rattle.association_line.specs.association_reading.Front.{all_fronts}
 use Rattle.association_worlds.specs.said_words.Calls.{IsCall, Speaks}
 use Rattle.osi_base.specs.Limits.{IsUnitSize}
-use Rattle.association_worlds.specs.Ways.{IsWay, Way}
+use Rattle.association_worlds.specs.InTransit.{IsWay, Way}
 use Rattle.association_worlds.specs.Laws.{IsMeant, IsHeard}
 use Rattle.association_worlds.proofs.Heard.{meant-heard}
 use Rattle.run_laws.specs.Passing.{sendings, readings}
@@ -75,14 +75,14 @@ new-way common = record {
   fronts = ap (λ (f : ReaderProgress). all_fronts f.packets) nothing_read;
 }
 
-pub record Joined (common : Common) (Extra : World → Two → Ledger → Dealings → Type 0) (w : World) : Type 0 where
+pub record Joined (common : Common) (Extra : World → Two → Ledger → Exchanges → Type 0) (w : World) : Type 0 where
   pub two : Two
   pub ledger : Ledger
-  pub dealings : Dealings
-  pub joint : Joint common w two ledger dealings
-  pub extra : Extra w two ledger dealings
+  pub exchanges : Exchanges
+  pub joint : Joint common w two ledger exchanges
+  pub extra : Extra w two ledger exchanges
 
-module _ (common : Common) (m : IsMeant common) (Extra : World → Two → Ledger → Dealings → Type 0) (k : Keeps common Extra) where
+module _ (common : Common) (m : IsMeant common) (Extra : World → Two → Ledger → Exchanges → Type 0) (k : Keeps common Extra) where
   abbrev base : Role → Base
   base role = base_at role common
 
@@ -95,11 +95,11 @@ module _ (common : Common) (m : IsMeant common) (Extra : World → Two → Ledge
   begun = record {
     two = two_new common;
     ledger = first_ledger common;
-    dealings = record { a = nothing_dealt; b = nothing_dealt };
+    exchanges = record { a = nothing_exchanged; b = nothing_exchanged };
     joint =
         record {
-          deals = deals_.begins;
-          speaks = record { goes = goes_.begins; calls = tt };
+          reached_exchanges = exchanges_.begins;
+          speaks = record { goes = ledgers.begins; calls = tt };
           bodies = bodies-so;
           sizes = sizes-so;
           ways = ways-so;
@@ -133,19 +133,19 @@ module _ (common : Common) (m : IsMeant common) (Extra : World → Two → Ledge
       subst (λ (l : List _). Follows l (messages_in (sendings (ends_for common) (side_of (other role)) w)) left)
       (sym (ap (λ (l : List _). readings (side_of role) w ++ l) e ∙ append-nil (readings (side_of role) w))) h
 
-  call-deals : (role : Role) (two : Two) (ledger : Ledger) (dealings : Dealings) (call : Call) (answer : Option ℤ) (b : Body) → b ≡ body_at role two → Deals common two ledger dealings → can_call (base role) b call ≡ Ok answer
-      → Deals common (stepped role (after_called common.mode (base role) b call answer) (coming_to role two) (due_of (base role) b call (Ok answer)) two) (after_sending common role (due_of (base role) b call (Ok answer)) ledger)
-      (on_dealt role (calls_so (apdus_of (base role) b call answer) (asked_by call answer)) (gets (due_of (base role) b call (Ok answer))) dealings)
-  call-deals role two ledger dealings call answer b e d c =
-      subst (λ (b : Body). can_call (base role) b call ≡ Ok answer → Deals common (stepped role (after_called common.mode (base role) b call answer) (coming_to role two) (due_of (base role) b call (Ok answer)) two) (after_sending common role (due_of (base role) b call (Ok answer)) ledger)
-      (on_dealt role (calls_so (apdus_of (base role) b call answer) (asked_by call answer)) (gets (due_of (base role) b call (Ok answer))) dealings)) (sym e)
-      (λ c. deals_.calls two ledger dealings role call answer d c) c
+  call-exchange : (role : Role) (two : Two) (ledger : Ledger) (exchanges : Exchanges) (call : Call) (answer : Option ℤ) (b : Body) → b ≡ body_at role two → ReachedWithExchanges common two ledger exchanges → can_call (base role) b call ≡ Ok answer
+      → ReachedWithExchanges common (stepped role (after_called common.mode (base role) b call answer) (coming_to role two) (due_of (base role) b call (Ok answer)) two) (after_sending common role (due_of (base role) b call (Ok answer)) ledger)
+      (on_exchange role (calls_so (apdus_of (base role) b call answer) (asked_by call answer)) (gets (due_of (base role) b call (Ok answer))) exchanges)
+  call-exchange role two ledger exchanges call answer b e d c =
+      subst (λ (b : Body). can_call (base role) b call ≡ Ok answer → ReachedWithExchanges common (stepped role (after_called common.mode (base role) b call answer) (coming_to role two) (due_of (base role) b call (Ok answer)) two) (after_sending common role (due_of (base role) b call (Ok answer)) ledger)
+      (on_exchange role (calls_so (apdus_of (base role) b call answer) (asked_by call answer)) (gets (due_of (base role) b call (Ok answer))) exchanges)) (sym e)
+      (λ c. exchanges_.calls two ledger exchanges role call answer d c) c
 
   call-speaks : (role : Role) (two : Two) (ledger : Ledger) (call : Call) (answer : Option ℤ) (b : Body) → b ≡ body_at role two → Speaks common two ledger → IsCall call → can_call (base role) b call ≡ Ok answer
       → Speaks common (stepped role (after_called common.mode (base role) b call answer) (coming_to role two) (due_of (base role) b call (Ok answer)) two) (after_sending common role (due_of (base role) b call (Ok answer)) ledger)
   call-speaks role two ledger call answer b e g typed c =
       subst (λ (b : Body). can_call (base role) b call ≡ Ok answer → Speaks common (stepped role (after_called common.mode (base role) b call answer) (coming_to role two) (due_of (base role) b call (Ok answer)) two) (after_sending common role (due_of (base role) b call (Ok answer)) ledger)) (sym e)
-      (λ c. record { goes = goes_.calls two ledger role call answer g.goes c; calls = (typed, g.calls) }) c
+      (λ c. record { goes = ledgers.calls two ledger role call answer g.goes c; calls = (typed, g.calls) }) c
 
   accepted : (role : Role) (w : World) (call : Call) (answer : Option ℤ) → IsCall call → can_call (base role) (end_for common role w).body call ≡ Ok answer → Joined common Extra w
       → Joined common Extra (stepping (side_of role) w (called call (Ok answer) ∷ map sent (due_of (base role) (end_for common role w).body call (Ok answer))))
@@ -154,14 +154,14 @@ module _ (common : Common) (m : IsMeant common) (Extra : World → Two → Ledge
       let j = s.joint in
       let due : List Message = due_of (base role) e.body call (Ok answer) in
       let g = call-speaks role s.two s.ledger call answer e.body (j.bodies role) j.speaks typed c in
-      let d = call-deals role s.two s.ledger s.dealings call answer e.body (j.bodies role) j.deals c in
+      let d = call-exchange role s.two s.ledger s.exchanges call answer e.body (j.bodies role) j.reached_exchanges c in
       record {
         two = _;
         ledger = _;
-        dealings = _;
+        exchanges = _;
         joint =
             moved common heard role w (called call (Ok answer) ∷ map sent due) s.two (after_sending common role due s.ledger) s.ledger
-            (on_dealt role (calls_so (apdus_of (base role) e.body call answer) (asked_by call answer)) (gets due) s.dealings) s.dealings
+            (on_exchange role (calls_so (apdus_of (base role) e.body call answer) (asked_by call answer)) (gets due) s.exchanges) s.exchanges
             (after_called common.mode (base role) e.body call answer) e.line (coming_to role s.two) due j
             (record {
               on = (tt, sents-on due);
@@ -172,10 +172,10 @@ module _ (common : Common) (m : IsMeant common) (Extra : World → Two → Ledge
               way = j.ways role;
               follows = read-nothing role w (called call (Ok answer) ∷ map sent due) (coming_to role s.two) (sents-read due) (j.follows role);
               shared = shared-sents (base role) (side_of role) (shared_at (ends_for common) w) due ∙ ap (shared_all_sent common.mode (side_of role) due) j.shared;
-              deals = d;
+              reached_exchanges = d;
               speaks = g;
             });
-        extra = k.calls role w s.two s.ledger s.dealings call answer j c s.extra;
+        extra = k.calls role w s.two s.ledger s.exchanges call answer j c s.extra;
       }
 
   -- ---- steps that neither send nor take
@@ -195,10 +195,10 @@ module _ (common : Common) (m : IsMeant common) (Extra : World → Two → Ledge
       record {
         two = s.two;
         ledger = s.ledger;
-        dealings = s.dealings;
+        exchanges = s.exchanges;
         joint =
             record {
-              deals = j.deals;
+              reached_exchanges = j.reached_exchanges;
               speaks = j.speaks;
               bodies =
                   both role (λ (r : Role). (end_for common r v).body ≡ body_at r s.two) (ap (λ (e : End). e.body) own ∙ j.bodies role) (ap (λ (e : End). e.body) peer ∙ j.bodies (other role));
@@ -226,7 +226,7 @@ module _ (common : Common) (m : IsMeant common) (Extra : World → Two → Ledge
                   (sym (own-sendings (ends_for common) role w xs on ∙ ap (λ (l : List Message). messages_in (sendings (ends_for common) (side_of role) w) ++ l) none ∙ append-nil (messages_in (sendings (ends_for common) (side_of role) w))))
                   (subst (λ (r : Role). Follows (readings (side_of (other role)) w) (messages_in (sendings (ends_for common) (side_of r) w)) (coming_to (other role) s.two)) (other-other role) (j.follows (other role))))));
             };
-        extra = k.quiet role w s.two s.ledger s.dealings x is_quiet s.extra;
+        extra = k.quiet role w s.two s.ledger s.exchanges x is_quiet s.extra;
       }
 
   pub ended : (role : Role) (w : World) → Joined common Extra w → Joined common Extra (stepping (side_of role) w (feed_end ∷ []))
@@ -240,17 +240,17 @@ module _ (common : Common) (m : IsMeant common) (Extra : World → Two → Ledge
 
   -- ---- what an end does by itself
 
-  own-deals : (role : Role) (two : Two) (ledger : Ledger) (dealings : Dealings) (own : OwnAct) (b : Body) → b ≡ body_at role two → Deals common two ledger dealings → next_own (base role) b ≡ Some own
-      → Deals common (stepped role (after_step (base role) b (step_of own)) (coming_to role two) (own_messages own) two) (after_own common role (body_at role two) own ledger) (on_dealt role stays (gets (own_messages own)) dealings)
-  own-deals role two ledger dealings own b e d c =
-      subst (λ (b : Body). next_own (base role) b ≡ Some own → Deals common (stepped role (after_step (base role) b (step_of own)) (coming_to role two) (own_messages own) two) (after_own common role (body_at role two) own ledger) (on_dealt role stays (gets (own_messages own)) dealings)) (sym e)
-      (λ c. deals_.acts two ledger dealings role own d c) c
+  own-exchange : (role : Role) (two : Two) (ledger : Ledger) (exchanges : Exchanges) (own : OwnAct) (b : Body) → b ≡ body_at role two → ReachedWithExchanges common two ledger exchanges → next_own (base role) b ≡ Some own
+      → ReachedWithExchanges common (stepped role (after_step (base role) b (step_of own)) (coming_to role two) (own_messages own) two) (after_own common role (body_at role two) own ledger) (on_exchange role stays (gets (own_messages own)) exchanges)
+  own-exchange role two ledger exchanges own b e d c =
+      subst (λ (b : Body). next_own (base role) b ≡ Some own → ReachedWithExchanges common (stepped role (after_step (base role) b (step_of own)) (coming_to role two) (own_messages own) two) (after_own common role (body_at role two) own ledger) (on_exchange role stays (gets (own_messages own)) exchanges)) (sym e)
+      (λ c. exchanges_.acts two ledger exchanges role own d c) c
 
   own-speaks : (role : Role) (two : Two) (ledger : Ledger) (own : OwnAct) (b : Body) → b ≡ body_at role two → Speaks common two ledger → next_own (base role) b ≡ Some own
       → Speaks common (stepped role (after_step (base role) b (step_of own)) (coming_to role two) (own_messages own) two) (after_own common role (body_at role two) own ledger)
   own-speaks role two ledger own b e g c =
       subst (λ (b : Body). next_own (base role) b ≡ Some own → Speaks common (stepped role (after_step (base role) b (step_of own)) (coming_to role two) (own_messages own) two) (after_own common role (body_at role two) own ledger)) (sym e)
-      (λ c. record { goes = goes_.acts two ledger role own g.goes c; calls = g.calls }) c
+      (λ c. record { goes = ledgers.acts two ledger role own g.goes c; calls = g.calls }) c
 
   own-on : (own : OwnAct) → AreOn (step_of own ∷ [])
   own-on (SendsNow message) = (tt, tt)
@@ -279,10 +279,10 @@ module _ (common : Common) (m : IsMeant common) (Extra : World → Two → Ledge
       record {
         two = _;
         ledger = _;
-        dealings = _;
+        exchanges = _;
         joint =
             moved common heard role w (step_of own ∷ []) s.two (after_own common role (body_at role s.two) own s.ledger) s.ledger
-            (on_dealt role stays (gets (own_messages own)) s.dealings) s.dealings (after_step (base role) e.body (step_of own)) e.line (coming_to role s.two) (own_messages own) j
+            (on_exchange role stays (gets (own_messages own)) s.exchanges) s.exchanges (after_step (base role) e.body (step_of own)) e.line (coming_to role s.two) (own_messages own) j
             (record {
               on = own-on own;
               sends = own-sends own;
@@ -292,10 +292,10 @@ module _ (common : Common) (m : IsMeant common) (Extra : World → Two → Ledge
               way = j.ways role;
               follows = read-nothing role w (step_of own ∷ []) (coming_to role s.two) (own-reads own) (j.follows role);
               shared = own-shared (base role) (side_of role) (shared_at (ends_for common) w) own ∙ ap (shared_all_sent common.mode (side_of role) (own_messages own)) j.shared;
-              deals = own-deals role s.two s.ledger s.dealings own e.body (j.bodies role) j.deals c;
+              reached_exchanges = own-exchange role s.two s.ledger s.exchanges own e.body (j.bodies role) j.reached_exchanges c;
               speaks = own-speaks role s.two s.ledger own e.body (j.bodies role) j.speaks c;
             });
-        extra = k.acts role w s.two s.ledger s.dealings own j c s.extra;
+        extra = k.acts role w s.two s.ledger s.exchanges own j c s.extra;
       }
 
   pub all-own : (role : Role) (w : World) (b : Body) (own : List Step) → b ≡ (end_for common role w).body → ByItself (base role) b own → Joined common Extra w → Joined common Extra (stepping (side_of role) w own)

@@ -8,13 +8,13 @@ use Rattle.end_model.specs.end_rules.World.{World, shared_at}
 use Rattle.agreement.specs.Sets.{Role, other}
 use Rattle.agreement.specs.Sets.Role.{Initiator, Responder}
 use Rattle.end_model.specs.Sharing.{side_of}
-use Rattle.end_model.specs.Pairs.{Common, base_at, Two, body_at, coming_to, stepped}
-use Rattle.outcome_laws.specs.reliable_model.Goes.{Ledger}
-use Rattle.outcome_laws.specs.Deals.{Dealings, Deals}
+use Rattle.end_model.specs.BothEnds.{Common, base_at, Two, body_at, coming_to, stepped}
+use Rattle.outcome_laws.specs.reliable_model.Ledgers.{Ledger}
+use Rattle.outcome_laws.specs.Exchanges.{Exchanges, ReachedWithExchanges}
 use Rattle.association_worlds.specs.said_words.Calls.{Speaks}
 use Rattle.association_worlds.specs.Lines.{written_all}
 use Rattle.osi_base.specs.Limits.{IsUnitSize}
-use Rattle.association_worlds.specs.Ways.{AreCarried, Way}
+use Rattle.association_worlds.specs.InTransit.{AreCarried, Way}
 use Rattle.association_worlds.specs.Laws.{IsHeard}
 use Rattle.association_worlds.proofs.Kept.{way-sent}
 use Rattle.run_laws.specs.Passing.{sendings, readings}
@@ -57,8 +57,8 @@ WayTo common w role coming = Way common.tables (end_for common role w).line.came
 abbrev pub FollowsAt : Common → World → Role → List Message → Type 0
 FollowsAt common w role coming = Follows (readings (side_of role) w) (messages_in (sendings (ends_for common) (side_of (other role)) w)) coming
 
-pub record Joint (common : Common) (w : World) (two : Two) (ledger : Ledger) (dealings : Dealings) : Type 0 where
-  pub deals : Deals common two ledger dealings
+pub record Joint (common : Common) (w : World) (two : Two) (ledger : Ledger) (exchanges : Exchanges) : Type 0 where
+  pub reached_exchanges : ReachedWithExchanges common two ledger exchanges
   pub speaks : Speaks common two ledger
   pub bodies : (role : Role) → (end_for common role w).body ≡ body_at role two
   pub sizes : (role : Role) → IsUnitSize (end_for common role w).line.size
@@ -68,7 +68,7 @@ pub record Joint (common : Common) (w : World) (two : Two) (ledger : Ledger) (de
 
 module _ (common : Common) (m : IsHeard common) where
   -- what an end did: its body and line now, what is left of what came to it, and what it sent
-  pub record Did (role : Role) (w : World) (xs : List Step) (two : Two) (ledger : Ledger) (dealings : Dealings) (body : Body) (line : Line) (left more : List Message) : Type 0 where
+  pub record Did (role : Role) (w : World) (xs : List Step) (two : Two) (ledger : Ledger) (exchanges : Exchanges) (body : Body) (line : Line) (left more : List Message) : Type 0 where
     pub on : AreOn xs
     pub sends : all_sent_in xs ≡ more
     pub end : after_all (base_at role common) (end_for common role w) xs ≡ record { body = body; line = writing (base_at role common) more line }
@@ -77,11 +77,11 @@ module _ (common : Common) (m : IsHeard common) where
     pub way : Way common.tables line.came (end_for common (other role) w).line.waiting left
     pub follows : Follows (readings (side_of role) w ++ all_read xs) (messages_in (sendings (ends_for common) (side_of (other role)) w)) left
     pub shared : shared_on (base_at role common) (side_of role) (shared_at (ends_for common) w) xs ≡ ledger.shared
-    pub deals : Deals common two ledger dealings
+    pub reached_exchanges : ReachedWithExchanges common two ledger exchanges
     pub speaks : Speaks common two ledger
 
-  module _ (role : Role) (w : World) (xs : List Step) (two : Two) (ledger before : Ledger) (dealings earlier : Dealings) (body : Body) (line : Line) (left more : List Message)
-      (j : Joint common w two before earlier) (d : Did role w xs (stepped role body left more two) ledger dealings body line left more) where
+  module _ (role : Role) (w : World) (xs : List Step) (two : Two) (ledger before : Ledger) (exchanges earlier : Exchanges) (body : Body) (line : Line) (left more : List Message)
+      (j : Joint common w two before earlier) (d : Did role w xs (stepped role body left more two) ledger exchanges body line left more) where
     abbrev later : World
     later = stepping (side_of role) w xs
 
@@ -143,9 +143,9 @@ module _ (common : Common) (m : IsHeard common) where
         (follows-sent (readings (side_of (other role)) w) (messages_in (sendings (ends_for common) (side_of role) w)) (coming_to (other role) two) more
         (subst (λ (r : Role). Follows (readings (side_of (other role)) w) (messages_in (sendings (ends_for common) (side_of r) w)) (coming_to (other role) two)) (other-other role) (j.follows (other role)))))))
 
-    pub moved : Joint common later two_later ledger dealings
+    pub moved : Joint common later two_later ledger exchanges
     moved = record {
-      deals = d.deals;
+      reached_exchanges = d.reached_exchanges;
       speaks = d.speaks;
       bodies = bodies-so;
       sizes = sizes-so;

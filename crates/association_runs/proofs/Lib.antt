@@ -12,9 +12,9 @@ pub mod Carried
 pub mod Holding
 pub mod Holder
 pub mod InPlace
-pub mod Dealt
+pub mod Exchanged
 pub mod Calm
-pub mod Deeds
+pub mod TransferLogs
 pub mod Shown
 pub mod Arriving
 pub mod Reached

@@ -36,7 +36,7 @@ use Rattle.end_model.specs.end_rules.TakesTransport.{shown_of_transport}
 use Rattle.end_model.specs.end_rules.TakesData.{with_parts, values_taken, shown_settled, shown_of_data}
 use Rattle.end_model.specs.end_rules.TakesMarks.{mark_shown, shown_turn, priority_in, shown_plea, shown_please, shown_of_mark}
 use Rattle.end_model.specs.end_rules.TakesActivities.{invocation_in, shown_cut, received, handed_up, shown_of_activity}
-use Rattle.outcome_laws.specs.Deals.{Asked}
+use Rattle.outcome_laws.specs.Exchanges.{Asked}
 use Rattle.outcome_laws.specs.Outcomes.{IsIn as IsAmong, value_of}
 use Rattle.outcome_laws.proofs.Open.{asked_in, Once, Found, found}
 use Rattle.outcome_laws.proofs.Hearing.{no-first, rest-none, head-once}

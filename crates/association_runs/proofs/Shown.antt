@@ -22,9 +22,9 @@ use Rattle.end_model.specs.end_rules.World.{World, Ends, body_at}
 use Rattle.agreement.specs.Sets.{Role, other}
 use Rattle.agreement.specs.Sets.Role.{Initiator, Responder}
 use Rattle.end_model.specs.Sharing.{side_of}
-use Rattle.end_model.specs.Pairs.{Common, Two, base_at}
-use Rattle.outcome_laws.specs.reliable_model.Goes.{Ledger}
-use Rattle.outcome_laws.specs.Deals.{Dealings}
+use Rattle.end_model.specs.BothEnds.{Common, Two, base_at}
+use Rattle.outcome_laws.specs.reliable_model.Ledgers.{Ledger}
+use Rattle.outcome_laws.specs.Exchanges.{Exchanges}
 use Rattle.association_line.specs.association_reading.Front.{Intake, first_in}
 use Rattle.association_line.specs.association_reading.Reacting.{react_to}
 use Rattle.association_worlds.specs.Laws.{IsMeant}
@@ -42,18 +42,18 @@ use Rattle.association_runs.proofs.Taken.{took-so, passed-so, next, reaction, me
 use Rattle.association_runs.proofs.Carried.{carried-a, carried-b, broken, fed-so}
 
 -- nothing else is kept
-abbrev Nothing : World → Two → Ledger → Dealings → Type 0
-Nothing w two ledger dealings = Unit {0}
+abbrev Nothing : World → Two → Ledger → Exchanges → Type 0
+Nothing w two ledger exchanges = Unit {0}
 
 nothing-keeps : (common : Common) → Keeps common Nothing
 nothing-keeps common = record {
   begins = tt;
-  calls = λ role w two ledger dealings call answer j c h. tt;
-  acts = λ role w two ledger dealings own j c h. tt;
-  takes = λ role w two ledger dealings message left body answers shown j e r h. tt;
-  passes = λ role w two ledger dealings message left j e r h. tt;
-  quiet = λ role w two ledger dealings x q h. tt;
-  breaks = λ w two ledger dealings j h. tt;
+  calls = λ role w two ledger exchanges call answer j c h. tt;
+  acts = λ role w two ledger exchanges own j c h. tt;
+  takes = λ role w two ledger exchanges message left body answers shown j e r h. tt;
+  passes = λ role w two ledger exchanges message left j e r h. tt;
+  quiet = λ role w two ledger exchanges x q h. tt;
+  breaks = λ w two ledger exchanges j h. tt;
 }
 
 behind-nothing : (feeds : List (List Indication)) → behind_newest [] feeds ≡ feeds

@@ -14,17 +14,17 @@ use Rattle.spdu_codec.specs.Places.{user_places}
 use Rattle.spdu_codec.specs.Written.{stands_alone}
 use Rattle.agreement.specs.Sets.{Role, other}
 use Rattle.end_model.specs.Sharing.{side_of, shared_all_answered}
-use Rattle.end_model.specs.Pairs.{Common, base_at, Two, body_at, coming_to, stepped}
-use Rattle.outcome_laws.specs.reliable_model.Goes.{Ledger, after_taking, Goes}
-use Rattle.outcome_laws.specs.reliable_model.Goes as goes_
-use Rattle.outcome_laws.specs.Deals.{Dealings, on_dealt, gets, stays, takes_so, meets, Deals}
-use Rattle.outcome_laws.specs.Deals as deals_
+use Rattle.end_model.specs.BothEnds.{Common, base_at, Two, body_at, coming_to, stepped}
+use Rattle.outcome_laws.specs.reliable_model.Ledgers.{Ledger, after_taking, ReachedWithLedger}
+use Rattle.outcome_laws.specs.reliable_model.Ledgers as ledgers
+use Rattle.outcome_laws.specs.Exchanges.{Exchanges, on_exchange, gets, stays, takes_so, meets, ReachedWithExchanges}
+use Rattle.outcome_laws.specs.Exchanges as exchanges_
 use Rattle.association_line.specs.association_wire.Units.{user_octets}
 use Rattle.association_line.specs.association_wire.Written.{with_user, tsdu_of}
 use Rattle.association_line.specs.association_reading.Front.{Intake, first_in, behind_first}
 use Rattle.association_line.specs.association_reading.Reacting.{react_to}
 use Rattle.association_worlds.specs.said_words.Calls.{Speaks}
-use Rattle.association_worlds.specs.Ways.{Way, start_in, front_of}
+use Rattle.association_worlds.specs.InTransit.{Way, start_in, front_of}
 use Rattle.association_worlds.specs.Laws.{IsMeant, IsHeard}
 use Rattle.association_worlds.proofs.Kept.{FirstOf, first-of, heard-so}
 use Rattle.association_worlds.proofs.Heard.{meant-heard}
@@ -41,7 +41,7 @@ use Rattle.association_runs.proofs.Keeps.{Keeps}
 use Rattle.association_runs.proofs.Joint.{moved}
 use Rattle.association_runs.proofs.Joined.{Joined, shared-answers}
 
-module _ (common : Common) (m : IsMeant common) (Extra : World → Two → Ledger → Dealings → Type 0) (k : Keeps common Extra) where
+module _ (common : Common) (m : IsMeant common) (Extra : World → Two → Ledger → Exchanges → Type 0) (k : Keeps common Extra) where
   abbrev base : Role → Base
   base role = base_at role common
 
@@ -90,10 +90,10 @@ module _ (common : Common) (m : IsMeant common) (Extra : World → Two → Ledge
       record {
         two = _;
         ledger = _;
-        dealings = _;
+        exchanges = _;
         joint =
             moved common heard role w (taking message answers) s.two (after_taking common role (body_at role s.two) f.message answers s.ledger) s.ledger
-            (on_dealt role (takes_so (base role) (body_at role s.two) f.message shown) (gets answers) s.dealings) s.dealings body line f.left answers j
+            (on_exchange role (takes_so (base role) (body_at role s.two) f.message shown) (gets answers) s.exchanges) s.exchanges body line f.left answers j
             (record {
               on = (tt, answers-on message answers);
               sends = answers-sent message answers;
@@ -108,13 +108,13 @@ module _ (common : Common) (m : IsMeant common) (Extra : World → Two → Ledge
               shared =
                   shared-answers (base role) (side_of role) (shared_at (ends_for common) w) message answers
                   ∙ (λ n. shared_all_answered (base role) (same n) answers (j.shared n));
-              deals = deals_.takes s.two s.ledger s.dealings role f.message f.left body answers shown j.deals f.is r;
-              speaks = record { goes = goes_.takes s.two s.ledger role f.message f.left body answers shown j.speaks.goes f.is r; calls = j.speaks.calls };
+              reached_exchanges = exchanges_.takes s.two s.ledger s.exchanges role f.message f.left body answers shown j.reached_exchanges f.is r;
+              speaks = record { goes = ledgers.takes s.two s.ledger role f.message f.left body answers shown j.speaks.goes f.is r; calls = j.speaks.calls };
             });
         extra =
             subst (λ (x : Message). Extra (stepping (side_of role) w (taking x answers)) (stepped role body f.left answers s.two) (after_taking common role (body_at role s.two) f.message answers s.ledger)
-            (on_dealt role (takes_so (base role) (body_at role s.two) f.message shown) (gets answers) s.dealings)) (sym same)
-            (k.takes role w s.two s.ledger s.dealings f.message f.left body answers shown j f.is r s.extra);
+            (on_exchange role (takes_so (base role) (body_at role s.two) f.message shown) (gets answers) s.exchanges)) (sym same)
+            (k.takes role w s.two s.ledger s.exchanges f.message f.left body answers shown j f.is r s.extra);
       }
 
   pub passed-so : (role : Role) (w : World) (intake : Intake) → (end_for common role w).line.came ≡ Some intake → react_to (base role) (end_for common role w).body (first_in intake) ≡ Some Passes
@@ -127,9 +127,9 @@ module _ (common : Common) (m : IsMeant common) (Extra : World → Two → Ledge
       record {
         two = _;
         ledger = _;
-        dealings = _;
+        exchanges = _;
         joint =
-            moved common heard role w (passed ∷ []) s.two s.ledger s.ledger (on_dealt role (meets f.message) stays s.dealings) s.dealings (body_at role s.two) (takes_first e.line) f.left [] j
+            moved common heard role w (passed ∷ []) s.two s.ledger s.ledger (on_exchange role (meets f.message) stays s.exchanges) s.exchanges (body_at role s.two) (takes_first e.line) f.left [] j
             (record {
               on = (tt, tt);
               sends = refl;
@@ -139,10 +139,10 @@ module _ (common : Common) (m : IsMeant common) (Extra : World → Two → Ledge
               way = subst (λ (o : Option Intake). Way common.tables (option_map behind_first o) (end_for common (other role) w).line.waiting f.left) (sym c) f.way;
               follows = follows-none (readings (side_of role) w) (messages_in (sendings (ends_for common) (side_of (other role)) w)) (coming_to role s.two) f.left f.message f.is (j.follows role);
               shared = j.shared;
-              deals = deals_.passes s.two s.ledger s.dealings role f.message f.left j.deals f.is r;
-              speaks = record { goes = goes_.passes s.two s.ledger role f.message f.left j.speaks.goes f.is r; calls = j.speaks.calls };
+              reached_exchanges = exchanges_.passes s.two s.ledger s.exchanges role f.message f.left j.reached_exchanges f.is r;
+              speaks = record { goes = ledgers.passes s.two s.ledger role f.message f.left j.speaks.goes f.is r; calls = j.speaks.calls };
             });
-        extra = k.passes role w s.two s.ledger s.dealings f.message f.left j f.is r s.extra;
+        extra = k.passes role w s.two s.ledger s.exchanges f.message f.left j f.is r s.extra;
       }
 
   pub never-fails : (role : Role) (w : World) (intake : Intake) (fault : Fault) (body : Body) (aborts : List Message) (shown : List Indication) → (end_for common role w).line.came ≡ Some intake

@@ -16,7 +16,7 @@ use Rattle.dialogue.specs.declared.event.Entry.{Entry}
 use Rattle.end_model.specs.end_rules.Invoking.{is_linked_to}
 use Rattle.end_model.specs.end_rules.World.{World, Ends, other}
 use Rattle.end_model.proofs.Numbered.{or-first, or-second}
-use Rattle.outcome_laws.specs.Deals.{Asked, outcomes_in, AreDistinct}
+use Rattle.outcome_laws.specs.Exchanges.{Asked, outcomes_in, AreDistinct}
 use Rattle.outcome_laws.specs.Links.{Fits, AllFit, links_in}
 use Rattle.run_laws.specs.Showing.{indications_at, EachCarryShows}
 use Rattle.run_laws.specs.Outcomes.{Invocation, ToldOutcome, id_of, invoked_by, answered_by, invocations, answers, invocation_in, outcome_in, told_invocations, outcomes, IsIn, IsAllowed, IsAnswer, Differ, AreOnce, IsLinkAllowed, OneOutcome}

@@ -8,17 +8,17 @@ use Rattle.end_model.specs.end_rules.TakesActivities.{arrived_now}
 use Rattle.end_model.specs.end_rules.History.{Step, took}
 use Rattle.end_model.specs.end_rules.World.{World, Ends, base_at, body_at, other}
 use Rattle.agreement.specs.Sets.{Role}
-use Rattle.end_model.specs.Pairs.{Common, Two}
-use Rattle.outcome_laws.specs.reliable_model.Goes.{Encoding, Ledger, Goes, deeds_of}
+use Rattle.end_model.specs.BothEnds.{Common, Two}
+use Rattle.outcome_laws.specs.reliable_model.Ledgers.{Encoding, Ledger, ReachedWithLedger, transfer_log_of}
 use Rattle.outcome_laws.specs.reliable_model.Transfers as transfers
 use Rattle.outcome_laws.specs.reliable_model.Transfers.{ArrivesWhole, IsNewest, IsOf, item_of}
-use Rattle.association_runs.specs.Deeds.{deeds_at}
+use Rattle.association_runs.specs.TransferLogs.{transfer_log_at}
 
 pub record IsWhole (ends : Ends) (side : Side) (w : World) : Type 0 where
   pub item : Item
   pub arrived : arrived_now (base_at ends side) (body_at ends side w) ≡ Ok (Whole item)
-  pub encoded : IsNewest (record { activity = (body_at ends side w).receiving.last; id = item.id; pair = Some item.pair; apdu = item.apdu }) (deeds_at ends (other side) w).encoded
-  pub started : IsOf item.apdu (item_of (body_at ends side w).receiving.last (deeds_at ends (other side) w).started)
+  pub encoded : IsNewest (record { activity = (body_at ends side w).receiving.last; id = item.id; pair = Some item.pair; apdu = item.apdu }) (transfer_log_at ends (other side) w).encoded
+  pub started : IsOf item.apdu (item_of (body_at ends side w).receiving.last (transfer_log_at ends (other side) w).started)
 
 -- where its number wasn't handed up before
 abbrev pub UnlessHanded : Bool → Type 0 → Type 0
@@ -35,9 +35,9 @@ EachArrivesWhole ends (m ∷ w) = ArrivesThen ends m.side w m.step × EachArrive
 
 -- so it is of the messages
 abbrev pub TransfersAreWhole : Common → Type 0
-TransfersAreWhole common = (two : Two) (ledger : Ledger) → Goes common two ledger → (role : Role) → transfers.TakesTransferEnd common two role → ArrivesWhole common two ledger role
+TransfersAreWhole common = (two : Two) (ledger : Ledger) → ReachedWithLedger common two ledger → (role : Role) → transfers.TakesTransferEnd common two role → ArrivesWhole common two ledger role
 
 abbrev pub ItemsAreKept : Common → Type 0
 ItemsAreKept common =
-    (two : Two) (ledger : Ledger) → Goes common two ledger → (role : Role) (encoding : Encoding) → IsNewest encoding (deeds_of role ledger.deeds).encoded →
-    IsOf encoding.apdu (item_of encoding.activity (deeds_of role ledger.deeds).started)
+    (two : Two) (ledger : Ledger) → ReachedWithLedger common two ledger → (role : Role) (encoding : Encoding) → IsNewest encoding (transfer_log_of role ledger.transfer_log).encoded →
+    IsOf encoding.apdu (item_of encoding.activity (transfer_log_of role ledger.transfer_log).started)

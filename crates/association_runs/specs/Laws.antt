@@ -10,11 +10,11 @@ use Rattle.end_model.specs.end_rules.World.{World, Ends, body_at, shared_at}
 use Rattle.agreement.specs.Sets.{Role}
 use Rattle.agreement.specs.Sets as roles
 use Rattle.end_model.specs.end_rules.Base.{is_reliable}
-use Rattle.end_model.specs.Pairs as pairs
-use Rattle.end_model.specs.Pairs.{Common, Two}
+use Rattle.end_model.specs.BothEnds as both_ends
+use Rattle.end_model.specs.BothEnds.{Common, Two}
 use Rattle.end_model.specs.Sharing.{side_of}
-use Rattle.outcome_laws.specs.reliable_model.Goes.{Ledger, deeds_of, Goes}
-use Rattle.outcome_laws.specs.Deals.{Dealings, Dealt, dealt_of, Deals, outcomes_in, AreDistinct}
+use Rattle.outcome_laws.specs.reliable_model.Ledgers.{Ledger, transfer_log_of, ReachedWithLedger}
+use Rattle.outcome_laws.specs.Exchanges.{Exchanges, EndExchange, exchange_of, ReachedWithExchanges, outcomes_in, AreDistinct}
 use Rattle.outcome_laws.specs.Outcomes.{AreAllowed, AreAnswers}
 use Rattle.outcome_laws.specs.Links.{AllFit, links_in}
 use Rattle.association_worlds.specs.Laws.{IsMeant}
@@ -22,8 +22,8 @@ use Rattle.run_laws.specs.Passing.{TakenInPlace}
 use Rattle.run_laws.specs.Showing.{EachCarryShows}
 use Rattle.run_laws.specs.Laws.{KeepsLaws, AtEachMoment, NothingFails, OneHolder}
 use Rattle.association_runs.specs.Sides.{ends_for}
-use Rattle.association_runs.specs.Dealings.{Own, own_at}
-use Rattle.association_runs.specs.Deeds.{deeds_at}
+use Rattle.association_runs.specs.OwnExchanges.{Own, own_at}
+use Rattle.association_runs.specs.TransferLogs.{transfer_log_at}
 use Rattle.association_runs.specs.Arriving.{EachArrivesWhole, TransfersAreWhole, ItemsAreKept}
 use Rattle.association_worlds.specs.said_words.Calls.{IsCall, Speaks}
 use Rattle.association_runs.specs.Worlds.{Runs}
@@ -52,21 +52,21 @@ pub record AreSides (a b : Config) : Type 0 where
 
 -- ---- what a run reaches
 
-abbrev pub of_dealt : Dealt → Own
-of_dealt d = record { wrote = d.wrote; asked = d.asked; shown = d.shown }
+abbrev pub of_exchange : EndExchange → Own
+of_exchange d = record { wrote = d.wrote; asked = d.asked; shown = d.shown }
 
--- A run reaches what its messages reach: both ends are as these leave them, and the shared set, the dealings and the transfers that the
+-- A run reaches what its messages reach: both ends are as these leave them, and the shared set, the exchanges and the transfers that the
 -- moments tell are theirs.
 pub record ReachesMessages (common : Common) (w : World) : Type 0 where
   pub two : Two
   pub ledger : Ledger
-  pub dealings : Dealings
-  pub deals : Deals common two ledger dealings
+  pub exchanges : Exchanges
+  pub reached_exchanges : ReachedWithExchanges common two ledger exchanges
   pub speaks : Speaks common two ledger
-  pub bodies : (role : Role) → body_at (ends_for common) (side_of role) w ≡ pairs.body_at role two
+  pub bodies : (role : Role) → body_at (ends_for common) (side_of role) w ≡ both_ends.body_at role two
   pub shared : shared_at (ends_for common) w ≡ ledger.shared
-  pub dealt : (role : Role) → own_at (ends_for common) (side_of role) w ≡ of_dealt (dealt_of role dealings)
-  pub deeds : (role : Role) → deeds_at (ends_for common) (side_of role) w ≡ deeds_of role ledger.deeds
+  pub exchange : (role : Role) → own_at (ends_for common) (side_of role) w ≡ of_exchange (exchange_of role exchanges)
+  pub transfer_log : (role : Role) → transfer_log_at (ends_for common) (side_of role) w ≡ transfer_log_of role ledger.transfer_log
 
 -- this holds of every run of two ends of which each word that is taken means itself and that never fail
 abbrev pub EverInRuns : (Common → World → Type 0) → Type 0
@@ -90,7 +90,7 @@ RunsNeverFail = EverInRuns (λ common w. NothingFails w)
 
 -- at no moment do both ends hold the turn, where so it is of the messages
 abbrev pub AreOneHolder : Common → Type 0
-AreOneHolder common = (two : Two) (ledger : Ledger) → Goes common two ledger → holds_turn two.a ≡ true → holds_turn two.b ≡ true → ⊥
+AreOneHolder common = (two : Two) (ledger : Ledger) → ReachedWithLedger common two ledger → holds_turn two.a ≡ true → holds_turn two.b ≡ true → ⊥
 
 abbrev pub RunsHaveOneHolder : Type 0
 RunsHaveOneHolder = EverInRuns (λ common w. AreOneHolder common → AtEachMoment (OneHolder (ends_for common)) w)

@@ -1,8 +1,8 @@
 pub mod Worlds
 pub mod Octets
 pub mod Sides
-pub mod Dealings
-pub mod Deeds
+pub mod OwnExchanges
+pub mod TransferLogs
 pub mod Arriving
 pub mod Laws
 pub use Rattle.association_line.specs as association_line

@@ -15,7 +15,7 @@ pub fn one_run()
 }
 
 /// Every run of two ends whose lines are octets reaches what the messages reach that these octets
-/// are; the shared set and the dealings are read off its moments. At each moment each message that
+/// are; the shared set and the exchanges are read off its moments. At each moment each message that
 /// was taken is the one that was sent in its place of the connection; each carry shows what the
 /// messages show that are taken in it, and nothing else; no end aborts of itself; and at no moment
 /// do both hold the turn and each transfer arrives whole, where so it is of their messages.

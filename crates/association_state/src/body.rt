@@ -7,7 +7,9 @@ ghost use Rattle.association_pieces.specs.Link.{seen_link};
 ghost use Rattle.association_state.specs.Seen.{seen, base_in};
 
 use crate::basis::Ground;
-use association_pieces::{Awaited, Link, Pieces, Receiving, SavedSets, Sending, Sets, Stage};
+use association_pieces::{
+    Awaited, Link, Receiving, SavedSets, Sending, Sets, Stage, TransferPieces,
+};
 use dialogue::{Mode, Phase};
 use open_invocations::Invocations;
 use osi_base::{Copied, ListOf, NoMemory, Pair, SetItem, SetList, Syntax};
@@ -109,7 +111,7 @@ impl Body {
             },
             receiving: Receiving {
                 last: 0,
-                pieces: Pieces::new(alloc),
+                pieces: TransferPieces::new(alloc),
                 was_handed: false,
                 active: false,
             },

@@ -7,8 +7,8 @@ mod body;
 
 // Passed on: crates above name these through this one.
 pub use association_pieces::{
-    Awaited, Encoded, Link, Piece, Pieces, Progress, Queued, Receiving, SavedSet, SavedSets,
-    Sending, Sets, Stack, Stage, Transfer, association_ground_layer, association_sets_layer,
+    Awaited, Encoded, Link, Piece, Progress, Queued, Receiving, SavedSet, SavedSets, Sending, Sets,
+    Stack, Stage, Transfer, TransferPieces, association_ground_layer, association_sets_layer,
     take_next, take_oldest,
 };
 pub use association_reading::apdu_codec_layer;

@@ -12,7 +12,7 @@ ghost use Rattle.association_takes.specs.ActivityWords.{is_end, invocation_of};
 ghost use Rattle.association_words.specs.Seen.{seen_message, seen_activities, seen_value};
 ghost use Rattle.association_pieces.specs.Seen.{seen_receiving};
 ghost use Rattle.association_hearing.specs.association_state.Seen.{base_in, seen};
-ghost use Rattle.association_hearing.specs.association_answers.Reacted.{TakenAs};
+ghost use Rattle.association_hearing.specs.association_answers.BroughtAs.{TakenAs};
 ghost use Rattle.association_hearing.specs.association_sends.Due.{listed};
 
 use association_hearing::association_answers_layer::{

@@ -8,7 +8,7 @@ ghost use Rattle.end_rules.specs.Faults.{unexpected_ppdu, invalid_ppdu};
 ghost use Rattle.end_rules.specs.TakesData.{alter_fault, answered_fault, after_data, answers_to_data, shown_of_data};
 ghost use Rattle.association_words.specs.Seen.{seen_fault};
 ghost use Rattle.association_hearing.specs.association_state.Seen.{base_in, seen};
-ghost use Rattle.association_hearing.specs.association_answers.Reacted.{TakenAs};
+ghost use Rattle.association_hearing.specs.association_answers.BroughtAs.{TakenAs};
 
 use association_ground::is_reliable;
 use association_hearing::association_answers_layer::{

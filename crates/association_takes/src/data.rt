@@ -5,7 +5,7 @@ ghost use Rattle.end_rules.specs.Messages.{Values as values_word};
 ghost use Rattle.end_rules.specs.TakesData.{data_fault, after_data, answers_to_data, shown_of_data};
 ghost use Rattle.association_words.specs.Seen.{seen_fault, seen_data, seen_values};
 ghost use Rattle.association_hearing.specs.association_state.Seen.{base_in, seen};
-ghost use Rattle.association_hearing.specs.association_answers.Reacted.{TakenAs};
+ghost use Rattle.association_hearing.specs.association_answers.BroughtAs.{TakenAs};
 
 use crate::alterations::{alter_fault, answered_fault, take_alter, take_answers};
 use crate::parts::{take_parts, values_fault};

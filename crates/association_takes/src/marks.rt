@@ -9,7 +9,7 @@ ghost use Rattle.end_rules.specs.State.{Transfer as rule_transfer, on_transfer};
 ghost use Rattle.association_words.specs.Seen.{seen_fault, seen_message, seen_content, seen_values, seen_marks};
 ghost use Rattle.association_takes.specs.Pleas.{plea_of};
 ghost use Rattle.association_hearing.specs.association_state.Seen.{base_in, seen};
-ghost use Rattle.association_hearing.specs.association_answers.Reacted.{TakenAs};
+ghost use Rattle.association_hearing.specs.association_answers.BroughtAs.{TakenAs};
 
 use crate::parts::has_associated;
 use association_hearing::association_answers_layer::{

@@ -8,7 +8,7 @@ ghost use Rattle.end_rules.specs.TakesTransport.{is_size, may_request, may_respo
 ghost use Rattle.association_words.specs.Seen.{seen_fault, seen_message, seen_transport};
 ghost use Rattle.association_pieces.specs.Link.{seen_stage};
 ghost use Rattle.association_hearing.specs.association_state.Seen.{base_in, seen};
-ghost use Rattle.association_hearing.specs.association_answers.Reacted.{TakenAs};
+ghost use Rattle.association_hearing.specs.association_answers.BroughtAs.{TakenAs};
 
 use association_ground::{is_recovering, is_waiting};
 use association_hearing::association_answers_layer::{

@@ -17,14 +17,14 @@ use Rattle.spdu_codec.specs.Places.{user_places}
 use Rattle.spdu_codec.specs.Written.{stands_alone}
 use Rattle.agreement.specs.Sets.{Role}
 use Rattle.agreement.specs.Sets.Role.{Initiator, Responder}
-use Rattle.said_words.specs.end_model.Pairs.{base_at, Two, body_at, coming_to}
-use Rattle.said_words.specs.reliable_model.Goes.{Ledger}
+use Rattle.said_words.specs.end_model.BothEnds.{base_at, Two, body_at, coming_to}
+use Rattle.said_words.specs.reliable_model.Ledgers.{Ledger}
 use Rattle.association_reading.specs.association_wire.Written.{with_user, tsdu_of}
 use Rattle.association_reading.specs.Front.{OfSession}
 use Rattle.association_reading.specs.Meaning.{meaning}
 use Rattle.association_reading.specs.Reacting.{on_meaning, react_to_unit, react_to}
 use Rattle.said_words.specs.Calls.{Speaks}
-use Rattle.association_worlds.specs.Ways.{start_in, front_of}
+use Rattle.association_worlds.specs.InTransit.{start_in, front_of}
 use Rattle.association_worlds.specs.Laws.{MeantIsHeard}
 
 purged-same : (initiator : Bool) (user : Option (List ℕ)) (unit : SessionWord) (awaited : Awaited) → is_purged initiator awaited (with_user user unit) ≡ is_purged initiator awaited unit

@@ -7,7 +7,7 @@ use Rattle.stub_tables.specs.declared.tables.Tables.{Tables}
 use Rattle.dialogue.specs.declared.call.Call.{Call}
 use Rattle.tpkt.specs.declared.packet.Packet.{Packet}
 use Rattle.tpkt.specs.declared.packet.TFault.{TFault}
-use Rattle.tpkt.specs.declared.reader_state.Held.{Held}
+use Rattle.tpkt.specs.declared.reader_state.ReaderState.{ReaderState}
 use Rattle.tpkt.specs.Reader.{ReaderProgress, reading, nothing}
 use Rattle.tpkt.proofs.ReaderLaws.{after_fault}
 use Rattle.tpkt.proofs.StreamLaws.{fed, any_cut, nothing_read}
@@ -22,9 +22,9 @@ use Rattle.association_reading.specs.end_rules.History.{after_step, step_of, aft
 use Rattle.agreement.specs.Sets.{Role, other}
 use Rattle.agreement.specs.Sets.Role.{Initiator, Responder}
 use Rattle.said_words.specs.end_model.Requests.{after_called}
-use Rattle.said_words.specs.end_model.Pairs.{Common, base_at, Two, two_new, body_at, coming_to, stepped, both_broke}
-use Rattle.said_words.specs.reliable_model.Goes.{Ledger, first_ledger, own_messages}
-use Rattle.said_words.specs.reliable_model.Goes as goes
+use Rattle.said_words.specs.end_model.BothEnds.{Common, base_at, Two, two_new, body_at, coming_to, stepped, both_broke}
+use Rattle.said_words.specs.reliable_model.Ledgers.{Ledger, first_ledger, own_messages}
+use Rattle.said_words.specs.reliable_model.Ledgers as ledgers
 use Rattle.association_reading.specs.Front.{Front, Short, Intake, front_held, first_front, first_in, behind_first, without_first, all_fronts, fronts_of}
 use Rattle.association_reading.specs.Reacting.{react_to}
 use Rattle.said_words.specs.Calls.{IsCall, Speaks}
@@ -32,7 +32,7 @@ use Rattle.association_worlds.specs.Lines.{End, written_all, more_came}
 use Rattle.osi_base.specs.Limits.{IsUnitSize}
 use Rattle.association_worlds.specs.Worlds.{LineEnds, ends_new, end_at, with_end, sending, carried, both_cut, Spoken}
 use Rattle.association_worlds.specs.Worlds as spoken
-use Rattle.association_worlds.specs.Ways.{AreCarried, front_of, Sent, text_of, texts, messages_of, fronts_of_sent, AreWritten, IsWay, Way}
+use Rattle.association_worlds.specs.InTransit.{AreCarried, front_of, Sent, text_of, texts, messages_of, fronts_of_sent, AreWritten, IsWay, Way}
 use Rattle.association_worlds.specs.Laws.{IsHeard, IsSpelled, OctetsAreMessages, WholeWaitsForNothing}
 use Rattle.association_worlds.proofs.Streams.{reads-all}
 
@@ -113,18 +113,18 @@ way-moved tables (Some intake) waiting coming n w =
       taken = w.taken;
       sent = w.sent;
       octets = append_assoc w.got (take n waiting) (drop n waiting) ∙ ap (λ (os : List ℕ). w.got ++ os) (take-append-drop n waiting) ∙ w.octets;
-      held = ap (λ (h : Held). (reading h (take n waiting)).held) w.held ∙ sym (ap (λ (f : ReaderProgress). f.held) cut);
+      held = ap (λ (h : ReaderState). (reading h (take n waiting)).held) w.held ∙ sym (ap (λ (f : ReaderProgress). f.held) cut);
       fronts =
           ap (λ (f : ReaderProgress). all_fronts f.packets) cut
           ∙ fronts-append (reading nothing w.got).packets (reading (reading nothing w.got).held (take n waiting)).packets
           ∙ ap (λ (fs : List Front). fs ++ all_fronts (reading (reading nothing w.got).held (take n waiting)).packets) w.fronts
-          ∙ ap (λ (h : Held). (fronts_of_sent tables w.done ++ intake.fronts) ++ all_fronts (reading h (take n waiting)).packets) (sym w.held)
+          ∙ ap (λ (h : ReaderState). (fronts_of_sent tables w.done ++ intake.fronts) ++ all_fronts (reading h (take n waiting)).packets) (sym w.held)
           ∙ append_assoc (fronts_of_sent tables w.done) intake.fronts (all_fronts (reading intake.held (take n waiting)).packets);
     }
 
 -- ---- what stands first
 
-none-fault : (held : Held) (xs : List ℕ) → (reading held xs).held.fault ≡ None → held.fault ≡ None
+none-fault : (held : ReaderState) (xs : List ℕ) → (reading held xs).held.fault ≡ None → held.fault ≡ None
 none-fault held xs e = go held.fault refl
   where
     go : (o : Option TFault) → held.fault ≡ o → held.fault ≡ None
@@ -154,7 +154,7 @@ what-is-ahead tables intake waiting coming w =
     sym (ap (λ (f : ReaderProgress). f.held.fault) cut) ∙ ap (λ (os : List ℕ). (reading nothing os).held.fault) w.octets ∙ r.faultless in record {
       more = x;
       fronts = cancel (fronts_of_sent tables w.done) (fronts_of_sent tables w.ahead) (intake.fronts ++ x) all;
-      faultless = ap (λ (h : Held). h.fault) w.held ∙ none-fault (reading nothing w.got).held waiting end;
+      faultless = ap (λ (h : ReaderState). h.fault) w.held ∙ none-fault (reading nothing w.got).held waiting end;
     }
 
 pub record FirstOf (tables : Tables) (intake : Intake) (waiting : List ℕ) (coming : List Message) : Type 0 where
@@ -246,13 +246,13 @@ module _ (common : Common) (h : IsHeard common) where
       → Goes-on (stepped role (after_called common.mode (base_at role common) b call answer) (coming_to role two) (due_of (base_at role common) b call (Ok answer)) two)
   called-so two ledger role call answer b e g typed c =
       subst (λ (b : Body). can_call (base_at role common) b call ≡ Ok answer → Goes-on (stepped role (after_called common.mode (base_at role common) b call answer) (coming_to role two) (due_of (base_at role common) b call (Ok answer)) two)) (sym e)
-      (λ c. (_, record { goes = goes.calls two ledger role call answer g.goes c; calls = (typed, g.calls) })) c
+      (λ c. (_, record { goes = ledgers.calls two ledger role call answer g.goes c; calls = (typed, g.calls) })) c
 
   acted-so : (two : Two) (ledger : Ledger) (role : Role) (own : OwnAct) (b : Body) → b ≡ body_at role two → Speaks common two ledger → next_own (base_at role common) b ≡ Some own
       → Goes-on (stepped role (after_step (base_at role common) b (step_of own)) (coming_to role two) (own_messages own) two)
   acted-so two ledger role own b e g c =
       subst (λ (b : Body). next_own (base_at role common) b ≡ Some own → Goes-on (stepped role (after_step (base_at role common) b (step_of own)) (coming_to role two) (own_messages own) two)) (sym e)
-      (λ c. (_, record { goes = goes.acts two ledger role own g.goes c; calls = g.calls })) c
+      (λ c. (_, record { goes = ledgers.acts two ledger role own g.goes c; calls = g.calls })) c
 
   -- what stands first is the message that comes next, and is heard as itself
   pub heard-so : (two : Two) (ledger : Ledger) (role : Role) (b : Body) (intake : Intake) (waiting : List ℕ) (r : Reaction) → b ≡ body_at role two → Speaks common two ledger
@@ -329,7 +329,7 @@ module _ (common : Common) (h : IsHeard common) where
   }
 
   begun-so : IsSpelled common (ends_new common)
-  begun-so = record { two = two_new common; ledger = first_ledger common; speaks = record { goes = goes.begins; calls = tt }; bodies = b; ways = w }
+  begun-so = record { two = two_new common; ledger = first_ledger common; speaks = record { goes = ledgers.begins; calls = tt }; bodies = b; ways = w }
     where
       b : (r : Role) → (end_at r (ends_new common)).body ≡ body_at r (two_new common)
       b Initiator = refl
@@ -340,7 +340,7 @@ module _ (common : Common) (h : IsHeard common) where
       w Responder = new-way
 
   broken-so : (ends : LineEnds) → IsSpelled common ends → IsSpelled common (both_cut common ends)
-  broken-so ends s = record { two = both_broke common s.two; ledger = s.ledger; speaks = record { goes = goes.breaks s.two s.ledger s.speaks.goes; calls = s.speaks.calls }; bodies = b; ways = w }
+  broken-so ends s = record { two = both_broke common s.two; ledger = s.ledger; speaks = record { goes = ledgers.breaks s.two s.ledger s.speaks.goes; calls = s.speaks.calls }; bodies = b; ways = w }
     where
       b : (r : Role) → (end_at r (both_cut common ends)).body ≡ body_at r (both_broke common s.two)
       b Initiator = ap (after_broke (base_at Initiator common)) (s.bodies Initiator)
@@ -365,18 +365,18 @@ module _ (common : Common) (h : IsHeard common) where
       let s = spelled-so before so in
       let f = next-so role before intake _ s e t in
       let r = heard-so s.two s.ledger role (end_at role before).body intake _ _ (s.bodies role) s.speaks f t in
-      sent-so role before size body f.left answers (Some (behind_first intake)) _ s z (record { goes = goes.takes s.two s.ledger role f.message f.left body answers shown s.speaks.goes f.is r; calls = s.speaks.calls }) f.way
+      sent-so role before size body f.left answers (Some (behind_first intake)) _ s z (record { goes = ledgers.takes s.two s.ledger role f.message f.left body answers shown s.speaks.goes f.is r; calls = s.speaks.calls }) f.way
   spelled-so ends (spoken.passes before role intake so e t) =
       let s = spelled-so before so in
       let f = next-so role before intake _ s e t in
       let r = heard-so s.two s.ledger role (end_at role before).body intake _ _ (s.bodies role) s.speaks f t in
       sent-so role before 128 (end_at role before).body f.left [] (Some (behind_first intake)) s.ledger s (record { least = omega arith; most = omega arith })
-      (subst (λ (b : Body). Speaks common (stepped role b f.left [] s.two) s.ledger) (sym (s.bodies role)) (record { goes = goes.passes s.two s.ledger role f.message f.left s.speaks.goes f.is r; calls = s.speaks.calls })) f.way
+      (subst (λ (b : Body). Speaks common (stepped role b f.left [] s.two) s.ledger) (sym (s.bodies role)) (record { goes = ledgers.passes s.two s.ledger role f.message f.left s.speaks.goes f.is r; calls = s.speaks.calls })) f.way
   spelled-so ends (spoken.fails before role intake fault body aborts shown size z so e t) =
       let s = spelled-so before so in
       let f = next-so role before intake _ s e t in
       let r = heard-so s.two s.ledger role (end_at role before).body intake _ _ (s.bodies role) s.speaks f t in
-      sent-so role before size body f.left aborts None _ s z (record { goes = goes.fails s.two s.ledger role f.message f.left fault body aborts shown s.speaks.goes f.is r; calls = s.speaks.calls }) tt
+      sent-so role before size body f.left aborts None _ s z (record { goes = ledgers.fails s.two s.ledger role f.message f.left fault body aborts shown s.speaks.goes f.is r; calls = s.speaks.calls }) tt
   spelled-so ends (spoken.closes before role so e) = closed-so role before (spelled-so before so)
   spelled-so ends (spoken.breaks before so) = broken-so before (spelled-so before so)
 

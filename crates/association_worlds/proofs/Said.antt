@@ -2,7 +2,7 @@
 use Rattle.std.proofs.Common.{[], ◌∷◌, inl, inr, None}
 use Rattle.std.specs.Prelude.{◌⊎◌, Some}
 use Rattle.association_reading.specs.end_rules.Messages.{Word, OfAssociation, OfData, OfMarks, OfActivities, Connect, Accept, Refuse, Finish, Disconnect, Abort, AbortAccept, NoData, ProviderReason, UserValues, Mark, MarkAck, Restart, RestartAck, Give, Please, GiveConfirm, GiveAck}
-use Rattle.said_words.specs.end_model.Pairs.{base_at, body_at}
+use Rattle.said_words.specs.end_model.BothEnds.{base_at, body_at}
 use Rattle.association_reading.specs.Laws.{IsOfSession, SessionWordsAreReadBack}
 use Rattle.association_worlds.specs.Laws.{SaidIsMeant}
 

@@ -24,7 +24,7 @@ use Rattle.association_reading.specs.association_wire.Written.{with_user, in_its
 use Rattle.association_reading.specs.Front.{Front, OfSession, OfTransport, fronts_of, fronts_of_units, all_fronts}
 use Rattle.association_reading.specs.Laws.{IsSendable}
 use Rattle.osi_base.specs.Limits.{IsUnitSize}
-use Rattle.association_worlds.specs.Ways.{IsOfTransport, IsCarried, start_in, session_front, front_of, Sent, text_of, texts, fronts_of_sent, AreWritten}
+use Rattle.association_worlds.specs.InTransit.{IsOfTransport, IsCarried, start_in, session_front, front_of, Sent, text_of, texts, fronts_of_sent, AreWritten}
 
 -- what a message adds in front of other units
 record Adds (tables : Tables) (text : List ℕ) (front : Front) (more : List ℕ) (us : List Tpdu) : Type 0 where

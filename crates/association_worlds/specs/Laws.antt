@@ -10,13 +10,13 @@ use Rattle.association_reading.specs.association_wire.Written.{with_user}
 use Rattle.association_reading.specs.Laws.{IsOfSession}
 use Rattle.association_reading.specs.Meaning.{meaning}
 use Rattle.agreement.specs.Sets.{Role, other}
-use Rattle.said_words.specs.end_model.Pairs.{Common, base_at, Two, body_at, coming_to}
-use Rattle.said_words.specs.reliable_model.Goes.{Ledger, Goes}
+use Rattle.said_words.specs.end_model.BothEnds.{Common, base_at, Two, body_at, coming_to}
+use Rattle.said_words.specs.reliable_model.Ledgers.{Ledger, ReachedWithLedger}
 use Rattle.association_reading.specs.Front.{Intake, Short, first_in}
 use Rattle.association_reading.specs.Reacting.{react_to}
 use Rattle.said_words.specs.Calls.{Speaks}
 use Rattle.association_worlds.specs.Worlds.{LineEnds, end_at, Spoken}
-use Rattle.association_worlds.specs.Ways.{AreCarried, front_of, Sent, texts, IsWay, Way}
+use Rattle.association_worlds.specs.InTransit.{AreCarried, front_of, Sent, texts, IsWay, Way}
 
 -- Whatever is on its way may be written, and what comes next to an end is heard as itself: its octets mean it to the end as it
 -- is then.
@@ -29,7 +29,7 @@ pub record IsHeard (common : Common) : Type 0 where
 pub record IsMeant (common : Common) : Type 0 where
   pub associated : is_bare common.mode ≡ false
   pub carried : (two : Two) (ledger : Ledger) → Speaks common two ledger → (role : Role) → AreCarried common.tables (coming_to role two)
-  pub faultless : (two : Two) (ledger : Ledger) → Goes common two ledger → (role : Role) (message : Message) (left : List Message) (fault : Fault) (body : Body) (aborts : List Message) (shown : List Indication)
+  pub faultless : (two : Two) (ledger : Ledger) → ReachedWithLedger common two ledger → (role : Role) (message : Message) (left : List Message) (fault : Fault) (body : Body) (aborts : List Message) (shown : List Indication)
       → coming_to role two ≡ message ∷ left → react (base_at role common) (body_at role two) message ≡ Fails fault body aborts shown → ⊥
   pub meant : (two : Two) (ledger : Ledger) → Speaks common two ledger → (role : Role) (word : Word) (left : List Message) (body : Body) (answers : List Message) (shown : List Indication) (start : ℕ)
       → coming_to role two ≡ Session word ∷ left → react (base_at role common) (body_at role two) (Session word) ≡ Takes body answers shown
@@ -46,7 +46,7 @@ pub record IsSaid (common : Common) : Type 0 where
 -- neither end ever fails
 abbrev pub AreFaultless : Common → Type 0
 AreFaultless common =
-    (two : Two) (ledger : Ledger) → Goes common two ledger → (role : Role) (message : Message) (left : List Message) (fault : Fault) (body : Body) (aborts : List Message) (shown : List Indication) →
+    (two : Two) (ledger : Ledger) → ReachedWithLedger common two ledger → (role : Role) (message : Message) (left : List Message) (fault : Fault) (body : Body) (aborts : List Message) (shown : List Indication) →
     coming_to role two ≡ message ∷ left → react (base_at role common) (body_at role two) message ≡ Fails fault body aborts shown → ⊥
 
 -- A word of the session alone means itself whatever the sets, so that less is to be presumed.

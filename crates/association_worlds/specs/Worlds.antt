@@ -15,8 +15,8 @@ use Rattle.association_reading.specs.end_rules.History.{after_step, step_of, aft
 use Rattle.agreement.specs.Sets.{Role}
 use Rattle.agreement.specs.Sets.Role.{Initiator, Responder}
 use Rattle.said_words.specs.end_model.Requests.{after_called}
-use Rattle.said_words.specs.end_model.Pairs.{Common, base_at}
-use Rattle.said_words.specs.reliable_model.Goes.{own_messages}
+use Rattle.said_words.specs.end_model.BothEnds.{Common, base_at}
+use Rattle.said_words.specs.reliable_model.Ledgers.{own_messages}
 use Rattle.association_reading.specs.Front.{Intake, first_in, behind_first}
 use Rattle.association_reading.specs.Reacting.{react_to}
 use Rattle.said_words.specs.Calls.{IsCall}

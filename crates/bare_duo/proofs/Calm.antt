@@ -37,7 +37,7 @@ use Rattle.agreement.proofs.Interface.{laws}
 use Rattle.end_model.specs.Seen.{Free, phase_seen, awaited_seen, item_seen, apdu_seen, calls_seen, seen}
 use Rattle.end_model.specs.Words.{data_word, IsOurs}
 use Rattle.end_model.specs.Heard.{IsExpected}
-use Rattle.end_model.specs.Pairs.{Common, base_at, Two, body_at, coming_to, setup_of, AreComing, SideOf, ModelOf, bare_pair}
+use Rattle.end_model.specs.BothEnds.{Common, base_at, Two, body_at, coming_to, setup_of, AreComing, SideOf, ModelOf, bare_common}
 use Rattle.end_model.proofs.Hears.{rejects_seen, hears}
 use Rattle.bare_duo.specs.Shows.{value_of, shown_invoke, shown_error, shown_of}
 use Rattle.bare_duo.proofs.BareLive.{accepts-all}
@@ -64,7 +64,7 @@ next_of base message left [] h = absurd h
 next_of base message left (s ∷ ss) h = record { first = s; rest = ss; is_it = refl; ours = h.0 }
 
 -- an outcome of an open invocation is one that its operation has
-expected : (setup : model.Setup) (world : World) (role : Role) (value : model.Value) (state : states.State) → IsRun setup (By role (model_takes (Data value) Nothing) ∷ world) → state_of setup role world ≡ state → IsExpected setup state.calls value.apdu
+expected : (setup : model.ModelSetup) (world : World) (role : Role) (value : model.Value) (state : states.State) → IsRun setup (By role (model_takes (Data value) Nothing) ∷ world) → state_of setup role world ≡ state → IsExpected setup state.calls value.apdu
 expected setup world role value state run now = go value.apdu refl
   where
     go : (apdu : model.Apdu) → value.apdu ≡ apdu → IsExpected setup state.calls apdu
@@ -98,7 +98,7 @@ pub record Calmly (base : Base) (body : Body) (message : Message) : Type 0 where
 
 module _ (free : Free) (tables : Tables) (spellings : Spellings) (a b : Config) where
   abbrev common : Common
-  common = bare_pair tables spellings a b
+  common = bare_common tables spellings a b
 
   reaction : (role : Role) (body : Body) (item : Item) (heard : Heard) → body.link.phase ≡ Up → hear (base_at role common) body.calls item.id (head_of_apdu item.apdu) ≡ heard → heard.reject ≡ None
       → react (base_at role common) body (Session (data_word item)) ≡ Takes (record body { calls = heard.calls }) [] heard.shown
@@ -112,7 +112,7 @@ module _ (free : Free) (tables : Tables) (spellings : Spellings) (a b : Config) 
 
   pub calmly : (role : Role) (two : Two) (message : Message) (left : List Message) → ModelOf free common two → coming_to role two ≡ message ∷ left → (body_at role two).link.phase ≡ Up → Calmly (base_at role common) (body_at role two) message
   calmly role two message left m comes up =
-      let setup : model.Setup = setup_of free common in
+      let setup : model.ModelSetup = setup_of free common in
       let base : Base = base_at role common in
       let body : Body = body_at role two in
       let s = at_side free common role two m in

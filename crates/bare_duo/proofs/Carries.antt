@@ -25,7 +25,7 @@ use Rattle.bare_end.specs.end_wire.Laws.{WrittenIsFirst, OneContent}
 use Rattle.agreement.specs.Sets.Role.{Initiator, Responder}
 use Rattle.end_model.specs.Seen.{Free}
 use Rattle.end_model.specs.Acting.{ReadsBack}
-use Rattle.end_model.specs.Pairs.{base_at, WritesAll, BareModelled}
+use Rattle.end_model.specs.BothEnds.{base_at, WritesAll, BareModelled}
 use Rattle.bare_duo.specs.Shows.{shown_all}
 use Rattle.bare_duo.specs.Worlds.{end_at, stepping, first_octets, Runs, rests, calls, carries, breaks}
 use Rattle.run_laws.specs.Showing.{indications_at}

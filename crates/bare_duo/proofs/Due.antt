@@ -34,9 +34,9 @@ use Rattle.bare_end.specs.end_wire.Values.{bare_spellings}
 use Rattle.agreement.specs.Sets.{Role}
 use Rattle.agreement.specs.Worlds.{Sending}
 use Rattle.agreement.specs.Messages.{Message as ModelMessage}
-use Rattle.end_model.specs.Opens.{IsProper}
+use Rattle.end_model.specs.OpenInvocations.{IsProper}
 use Rattle.end_model.specs.Words.{IsOurs}
-use Rattle.end_model.specs.Pairs.{base_at, bare_pair, AreComing}
+use Rattle.end_model.specs.BothEnds.{base_at, bare_common, AreComing}
 use Rattle.end_model.proofs.Ladder.{passed, called}
 use Rattle.end_model.proofs.InvokeRungs.{invokable, answerable, refusable}
 use Rattle.bare_duo.proofs.Flights.{IsSent, AllSent}
@@ -63,7 +63,7 @@ on_carrier base body (Some id) apdu short never = (plain base body id apdu short
 
 module _ (t : Tables) (ca cb : Config) where
   abbrev at_role : Role → Base
-  at_role role = base_at role (bare_pair t (bare_spellings t) ca cb)
+  at_role role = base_at role (bare_common t (bare_spellings t) ca cb)
 
   due_invoked : (role : Role) (body : Body) (context place : ℕ) (argument : Option Val) (linked : Option ℤ) (answer : Option ℤ) → can_call (at_role role) body (the_calls.Invoke context place argument linked) ≡ Ok answer → AllPlain (at_role role) body.sets.held (due_of (at_role role) body (the_calls.Invoke context place argument linked) (Ok answer))
   due_invoked role body context place argument linked answer h =

@@ -40,7 +40,7 @@ use Rattle.agreement.specs.Worlds.{Sending, flight_to}
 use Rattle.end_model.specs.Seen.{Free}
 use Rattle.end_model.specs.Acting.{ReadsBack, HasBareSet}
 use Rattle.end_model.specs.Requests.{sent_all, after_called}
-use Rattle.end_model.specs.Pairs.{Common, base_at, Two, body_at, coming_to, stepped, both_broke, Reached, calls, takes as reached_takes, breaks, setup_of, AreComing, bare_pair, WritesAll, BareModelled}
+use Rattle.end_model.specs.BothEnds.{Common, base_at, Two, body_at, coming_to, stepped, both_broke, Reached, calls, takes as reached_takes, breaks, setup_of, AreComing, bare_common, WritesAll, BareModelled}
 use Rattle.end_model.proofs.Ladder.{called as called_rungs}
 use Rattle.end_model.proofs.Facts.{is-up}
 use Rattle.bare_duo.proofs.Flights.{AllSent, sent-append, written_all, written-append, next_of, none_faulty}
@@ -176,7 +176,7 @@ AllMight base e (x ∷ xs) = MightTake base.tables e.body.calls x × AllMight ba
 
 module _ (t : Tables) (ca cb : Config) (free : Free) (readable : IsReadable t) (writes : WritesAll free) (modelled : BareModelled) (first_law : WrittenIsFirst) (one_content : OneContent) where
   abbrev pub pair : Common
-  pair = bare_pair t (bare_spellings t) ca cb
+  pair = bare_common t (bare_spellings t) ca cb
 
   abbrev pub at_role : Role → Base
   at_role role = base_at role pair

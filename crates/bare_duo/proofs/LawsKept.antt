@@ -16,7 +16,7 @@ use Rattle.dialogue.specs.declared.config.Phase.{Phase}
 use Rattle.dialogue.specs.declared.config.Phase.TheVariants.{Up, Over}
 use Rattle.end_rules.specs.Calling.{is_dead}
 use Rattle.dialogue.specs.Config.{IsBare}
-use Rattle.dialogue.specs.declared.setup.Setup.{Setup}
+use Rattle.dialogue.specs.declared.bare_setup.BareSetup.{BareSetup}
 use Rattle.dialogue.specs.declared.event.Event.{Event}
 use Rattle.dialogue.specs.declared.event.Entry.{Entry}
 use Rattle.end_rules.specs.Base.{Base}
@@ -31,7 +31,7 @@ use Rattle.bare_end.specs.end_wire.Laws.{WrittenIsFirst, OneContent, ContentSays
 use Rattle.agreement.specs.Sets.Role.{Initiator, Responder}
 use Rattle.end_model.specs.Seen.{Free}
 use Rattle.end_model.specs.Acting.{ReadsBack}
-use Rattle.end_model.specs.Pairs.{base_at, bare_pair, HasCodec, BareModelled, WritesAll}
+use Rattle.end_model.specs.BothEnds.{base_at, bare_common, HasCodec, BareModelled, WritesAll}
 use Rattle.bare_duo.specs.Worlds.{ends_of, end_at, Runs}
 use Rattle.bare_duo.specs.Passing.{sent_in, sent_by, taken_by, as_read, at_sending, values_in, sendings, BeginsWith, TakenAsSent, ShownAsTaken}
 use Rattle.run_laws.specs.Outcomes.{Invocation, ToldOutcome, invocations, answers, told_invocations, outcomes, IsAllowed, Differ}
@@ -120,9 +120,9 @@ module _ (t : Tables) (ends : Ends) (first : (shared_at ends []).set ≡ bare_se
 -- ---- the laws of ends of the model
 
 abbrev model_of : Tables → Config → Config → Ends
-model_of t ca cb = record { a = base_at Initiator (bare_pair t (bare_spellings t) ca cb); b = base_at Responder (bare_pair t (bare_spellings t) ca cb) }
+model_of t ca cb = record { a = base_at Initiator (bare_common t (bare_spellings t) ca cb); b = base_at Responder (bare_common t (bare_spellings t) ca cb) }
 
-module _ (t : Tables) (ca cb : Config) (free : Free) (readable : IsReadable t) (writes : WritesAll free) (modelled : BareModelled) (first_law : WrittenIsFirst) (one_content : OneContent) (back : ReadsBack (base_at Initiator (bare_pair t (bare_spellings t) ca cb))) where
+module _ (t : Tables) (ca cb : Config) (free : Free) (readable : IsReadable t) (writes : WritesAll free) (modelled : BareModelled) (first_law : WrittenIsFirst) (one_content : OneContent) (back : ReadsBack (base_at Initiator (bare_common t (bare_spellings t) ca cb))) where
   model_laws : (all : List Event) (told : List Entry) (w : World) → Runs (model_of t ca cb) [] all told w → KeepsLaws t (model_of t ca cb) told w
   model_laws all told w r =
       let x = runs_keep t ca cb free readable writes modelled first_law one_content back [] w all told r (first_kept t ca cb free readable writes modelled first_law one_content back) in
@@ -215,13 +215,13 @@ module _ (t : Tables) (ca cb : Config) (free : Free) (readable : IsReadable t) (
 
 -- ---- the laws of ends of a setup
 
-initiator_is : (setup : Setup) → setup.a.initiator ≡ true
+initiator_is : (setup : BareSetup) → setup.a.initiator ≡ true
 initiator_is setup = ∥∥₁_elim setup.initiator (Bool-set setup.a.initiator true) (λ (is : IsBare true setup.a). is.side)
 
-responder_is : (setup : Setup) → setup.b.initiator ≡ false
+responder_is : (setup : BareSetup) → setup.b.initiator ≡ false
 responder_is setup = ∥∥₁_elim setup.responder (Bool-set setup.b.initiator false) (λ (is : IsBare false setup.b). is.side)
 
-same_ends : (t : Tables) (setup : Setup) → model_of t setup.a setup.b ≡ ends_of setup t
+same_ends : (t : Tables) (setup : BareSetup) → model_of t setup.a setup.b ≡ ends_of setup t
 same_ends t setup = λ i. record {
   a = record { tables = t; config = setup.a; initiator = sym (initiator_is setup) i; mode = Bare; spellings = bare_spellings t };
   b = record { tables = t; config = setup.b; initiator = sym (responder_is setup) i; mode = Bare; spellings = bare_spellings t };
@@ -229,7 +229,7 @@ same_ends t setup = λ i. record {
 
 pub every_run_keeps_laws : HasCodec → BareModelled → WrittenIsFirst → OneContent → ContentSays → WrittenIsSpelled → EveryRunKeepsLaws
 every_run_keeps_laws codec modelled first_law one_content says spelled tables setup all told w readable =
-    let pair = bare_pair tables (bare_spellings tables) setup.a setup.b in
+    let pair = bare_common tables (bare_spellings tables) setup.a setup.b in
     let back : ReadsBack (base_at Initiator pair) = reads_back tables setup.a (base_at Initiator pair) readable refl refl spelled says in
     subst (λ (e : Ends). Runs e [] all told w → KeepsLaws tables e told w) (same_ends tables setup)
     (model_laws tables setup.a setup.b codec.0 readable codec.1 modelled first_law one_content back all told w)

@@ -3,7 +3,7 @@
 use Rattle.std.proofs.Common.{◌&&◌, not, ◌≡◌, ℕ, suc, ◌<◌, ◌≤◌, Bool, true, false, ◌||◌, nat_eq, nat_lt, if◌then◌else◌, length, List, [], ◌∷◌, ◌++◌, refl, sym, ap, ◌∙◌, arith, true≢false, subst, eqb-true}
 use Rattle.std.specs.Prelude.{Option, Some, None}
 use Rattle.std.proofs.lemmas.Bool.Decides.{nat_tests}
-use Rattle.agreement.specs.Messages.{Apdu, Value, Setup, Invocation, Calls}
+use Rattle.agreement.specs.Messages.{Apdu, Value, ModelSetup, Invocation, Calls}
 use Rattle.agreement.specs.Messages.Apdu.{Invoke, Outcome, Reject}
 use Rattle.agreement.specs.Calls.{is_link_allowed, is_open, close, opened, MayHandIn, handed_in, has_room, is_accepted, accepted}
 use Rattle.agreement.proofs.Order.{by_test}
@@ -12,25 +12,25 @@ use Rattle.agreement.proofs.Answered.{answers-open}
 
 -- ---- what hearing leaves
 
-abbrev pub hear_all : Setup → Calls → List Value → Calls
+abbrev pub hear_all : ModelSetup → Calls → List Value → Calls
 hear_all setup calls [] = calls
 hear_all setup calls (v ∷ vs) = hear_all setup (accepted setup calls v.identifier v.apdu) vs
 
 -- an invocation or an outcome is accepted; rejects there are none
-abbrev pub IsTaken : Setup → Calls → Apdu → Type 0
+abbrev pub IsTaken : ModelSetup → Calls → Apdu → Type 0
 IsTaken setup calls (Invoke number operation link argument) = is_accepted setup calls (Invoke number operation link argument) ≡ true
 IsTaken setup calls (Outcome number content) = is_accepted setup calls (Outcome number content) ≡ true
 IsTaken setup calls (Reject number problem) = ⊥
 
-abbrev pub AllTaken : Setup → Calls → List Value → Type 0
+abbrev pub AllTaken : ModelSetup → Calls → List Value → Type 0
 AllTaken setup calls [] = Unit {0}
 AllTaken setup calls (v ∷ vs) = IsTaken setup calls v.apdu × AllTaken setup (accepted setup calls v.identifier v.apdu) vs
 
-hear-append : (setup : Setup) (calls : Calls) (vs : List Value) (v : Value) → hear_all setup calls (vs ++ (v ∷ [])) ≡ accepted setup (hear_all setup calls vs) v.identifier v.apdu
+hear-append : (setup : ModelSetup) (calls : Calls) (vs : List Value) (v : Value) → hear_all setup calls (vs ++ (v ∷ [])) ≡ accepted setup (hear_all setup calls vs) v.identifier v.apdu
 hear-append setup calls [] v = refl
 hear-append setup calls (w ∷ vs) v = hear-append setup (accepted setup calls w.identifier w.apdu) vs v
 
-taken-append : (setup : Setup) (calls : Calls) (vs : List Value) (v : Value) → AllTaken setup calls vs → IsTaken setup (hear_all setup calls vs) v.apdu → AllTaken setup calls (vs ++ (v ∷ []))
+taken-append : (setup : ModelSetup) (calls : Calls) (vs : List Value) (v : Value) → AllTaken setup calls vs → IsTaken setup (hear_all setup calls vs) v.apdu → AllTaken setup calls (vs ++ (v ∷ []))
 taken-append setup calls [] v h t = (t, tt)
 taken-append setup calls (w ∷ vs) v h t = (h.0, taken-append setup (accepted setup calls w.identifier w.apdu) vs v h.1 t)
 
@@ -75,7 +75,7 @@ open-still n call calls h = go (nat_eq call.number n)
     go true = refl
     go false = h
 
-link-open : (setup : Setup) (calls : List Invocation) (operation parent : ℕ) → is_link_allowed setup calls operation (Some parent) ≡ true → is_open parent calls ≡ true
+link-open : (setup : ModelSetup) (calls : List Invocation) (operation parent : ℕ) → is_link_allowed setup calls operation (Some parent) ≡ true → is_open parent calls ≡ true
 link-open setup [] operation parent h = absurd (true≢false (sym h))
 link-open setup (call ∷ calls) operation parent h = go (link-open setup calls operation parent) (nat_eq call.number parent) refl h
   where
@@ -101,7 +101,7 @@ open-joins : (n : ℕ) (silent : Bool) (call : Invocation) (calls : List Invocat
 open-joins n true call calls h = h
 open-joins n false call calls h = open-still n call calls h
 
-link-joins : (setup : Setup) (silent : Bool) (call : Invocation) (calls : List Invocation) (operation : ℕ) (link : Option ℕ) → ((n : ℕ) → is_open n calls ≡ true → nat_eq call.number n ≡ false) → is_link_allowed setup calls operation link ≡ true → is_link_allowed setup (joins silent call calls) operation link ≡ true
+link-joins : (setup : ModelSetup) (silent : Bool) (call : Invocation) (calls : List Invocation) (operation : ℕ) (link : Option ℕ) → ((n : ℕ) → is_open n calls ≡ true → nat_eq call.number n ≡ false) → is_link_allowed setup calls operation link ≡ true → is_link_allowed setup (joins silent call calls) operation link ≡ true
 link-joins setup silent call calls operation None d h = refl
 link-joins setup true call calls operation (Some parent) d h = h
 link-joins setup false call calls operation (Some parent) d h =
@@ -113,23 +113,23 @@ close-joins n false call calls e = ap (λ b. if b then close n calls else call �
 
 -- ---- an end says an invocation: it is open here before the others, and what comes is taken as before
 
-record MoreOwn (setup : Setup) (silent : Bool) (call : Invocation) (calls later : Calls) (vs : List Value) : Type 0 where
+record MoreOwn (setup : ModelSetup) (silent : Bool) (call : Invocation) (calls later : Calls) (vs : List Value) : Type 0 where
   all : AllTaken setup later vs
   peers : (hear_all setup later vs).peer_open ≡ (hear_all setup calls vs).peer_open
   owns : (hear_all setup later vs).own_open ≡ joins silent call (hear_all setup calls vs).own_open
 
-abbrev OwnRest : Setup → Bool → Invocation → Calls → Calls → Value → List Value → Apdu → Type 0
+abbrev OwnRest : ModelSetup → Bool → Invocation → Calls → Calls → Value → List Value → Apdu → Type 0
 OwnRest setup silent call calls later v vs a =
     IsTaken setup later a × MoreOwn setup silent call (accepted setup calls v.identifier a) (accepted setup later v.identifier a) vs
 
-abbrev OwnStep : Setup → Bool → Invocation → ℕ → List Value → Calls → Calls → Type 0
+abbrev OwnStep : ModelSetup → Bool → Invocation → ℕ → List Value → Calls → Calls → Type 0
 OwnStep setup silent call made vs calls later =
     later.peer_open ≡ calls.peer_open → later.own_open ≡ joins silent call calls.own_open → AllUpTo made calls.own_open → AllTaken setup calls vs → MoreOwn setup silent call calls later vs
 
 own-other : (call : Invocation) (made : ℕ) (calls : List Invocation) → made < call.number → AllUpTo made calls → (n : ℕ) → is_open n calls ≡ true → nat_eq call.number n ≡ false
 own-other call made calls l u n e = let b = open-upto n made calls u e in grind (arith, nat_tests)
 
-own-by : (setup : Setup) (silent : Bool) (call : Invocation) (made : ℕ) (calls later : Calls) (v : Value) (vs : List Value) (a : Apdu) → made < call.number → ((c d : Calls) → OwnStep setup silent call made vs c d) → later.peer_open ≡ calls.peer_open → later.own_open ≡ joins silent call calls.own_open → AllUpTo made calls.own_open → IsTaken setup calls a → AllTaken setup (accepted setup calls v.identifier a) vs → OwnRest setup silent call calls later v vs a
+own-by : (setup : ModelSetup) (silent : Bool) (call : Invocation) (made : ℕ) (calls later : Calls) (v : Value) (vs : List Value) (a : Apdu) → made < call.number → ((c d : Calls) → OwnStep setup silent call made vs c d) → later.peer_open ≡ calls.peer_open → later.own_open ≡ joins silent call calls.own_open → AllUpTo made calls.own_open → IsTaken setup calls a → AllTaken setup (accepted setup calls v.identifier a) vs → OwnRest setup silent call calls later v vs a
 own-by setup silent call made calls later v vs (Invoke n operation link argument) l ih p o u t r =
     let both = left-true (not (is_open n calls.peer_open) && has_room setup operation calls.peer_open) (is_link_allowed setup calls.own_open operation link) t in
     let linked = right-true (not (is_open n calls.peer_open) && has_room setup operation calls.peer_open) (is_link_allowed setup calls.own_open operation link) t in
@@ -146,7 +146,7 @@ own-by setup silent call made calls later v vs (Outcome n content) l ih p o u t 
 )
 own-by setup silent call made calls later v vs (Reject n problem) l ih p o u t r = absurd t
 
-more-own : (setup : Setup) (silent : Bool) (call : Invocation) (made : ℕ) (calls later : Calls) (vs : List Value) → made < call.number → OwnStep setup silent call made vs calls later
+more-own : (setup : ModelSetup) (silent : Bool) (call : Invocation) (made : ℕ) (calls later : Calls) (vs : List Value) → made < call.number → OwnStep setup silent call made vs calls later
 more-own setup silent call made calls later [] l p o u h = record { all = tt; peers = p; owns = o }
 more-own setup silent call made calls later (v ∷ vs) l p o u h =
     let k = own-by setup silent call made calls later v vs v.apdu l (λ c d. more-own setup silent call made c d vs l) p o u h.0 h.1 in
@@ -154,12 +154,12 @@ more-own setup silent call made calls later (v ∷ vs) l p o u h =
 
 -- ---- an end says an outcome: an invocation of the peer closes here, and what comes is taken as before
 
-record FewerPeer (setup : Setup) (n : ℕ) (calls later : Calls) (vs : List Value) : Type 0 where
+record FewerPeer (setup : ModelSetup) (n : ℕ) (calls later : Calls) (vs : List Value) : Type 0 where
   all : AllTaken setup later vs
   owns : (hear_all setup later vs).own_open ≡ (hear_all setup calls vs).own_open
   peers : (hear_all setup later vs).peer_open ≡ close n (hear_all setup calls vs).peer_open
 
-abbrev PeerRest : Setup → ℕ → Calls → Calls → Value → List Value → Apdu → Type 0
+abbrev PeerRest : ModelSetup → ℕ → Calls → Calls → Value → List Value → Apdu → Type 0
 PeerRest setup n calls later v vs a =
     IsTaken setup later a × FewerPeer setup n (accepted setup calls v.identifier a) (accepted setup later v.identifier a) vs
 
@@ -168,16 +168,16 @@ room-fewer : (most : ℕ) (silent : Bool) (m n : ℕ) → n ≤ m → (silent ||
 room-fewer most true m n l r = refl
 room-fewer most false m n l r = grind (arith, nat_tests)
 
-abbrev PeerStep : Setup → ℕ → List Value → Calls → Calls → Type 0
+abbrev PeerStep : ModelSetup → ℕ → List Value → Calls → Calls → Type 0
 PeerStep setup n vs calls later =
     later.own_open ≡ calls.own_open → later.peer_open ≡ close n calls.peer_open → is_open n calls.peer_open ≡ true → AllTaken setup calls vs → FewerPeer setup n calls later vs
 
-room-closed : (setup : Setup) (n operation : ℕ) (calls later : Calls) → later.peer_open ≡ close n calls.peer_open → has_room setup operation calls.peer_open ≡ true → has_room setup operation later.peer_open ≡ true
+room-closed : (setup : ModelSetup) (n operation : ℕ) (calls later : Calls) → later.peer_open ≡ close n calls.peer_open → has_room setup operation calls.peer_open ≡ true → has_room setup operation later.peer_open ≡ true
 room-closed setup n operation calls later p r =
     room-fewer setup.most_open (setup.silent operation) (length calls.peer_open) (length later.peer_open)
     (subst (λ (xs : List Invocation). length xs ≤ length calls.peer_open) (sym p) (length-close n calls.peer_open)) r
 
-peer-by : (setup : Setup) (n : ℕ) (calls later : Calls) (v : Value) (vs : List Value) (a : Apdu) → ((c d : Calls) → PeerStep setup n vs c d) → later.own_open ≡ calls.own_open → later.peer_open ≡ close n calls.peer_open → is_open n calls.peer_open ≡ true → IsTaken setup calls a → AllTaken setup (accepted setup calls v.identifier a) vs → PeerRest setup n calls later v vs a
+peer-by : (setup : ModelSetup) (n : ℕ) (calls later : Calls) (v : Value) (vs : List Value) (a : Apdu) → ((c d : Calls) → PeerStep setup n vs c d) → later.own_open ≡ calls.own_open → later.peer_open ≡ close n calls.peer_open → is_open n calls.peer_open ≡ true → IsTaken setup calls a → AllTaken setup (accepted setup calls v.identifier a) vs → PeerRest setup n calls later v vs a
 peer-by setup n calls later v vs (Invoke k operation link argument) ih o p t a r =
     let both = left-true (not (is_open k calls.peer_open) && has_room setup operation calls.peer_open) (is_link_allowed setup calls.own_open operation link) a in
     let linked = right-true (not (is_open k calls.peer_open) && has_room setup operation calls.peer_open) (is_link_allowed setup calls.own_open operation link) a in
@@ -198,7 +198,7 @@ peer-by setup n calls later v vs (Outcome k content) ih o p t a r = (
 )
 peer-by setup n calls later v vs (Reject k problem) ih o p t a r = absurd a
 
-fewer-peer : (setup : Setup) (n : ℕ) (calls later : Calls) (vs : List Value) → PeerStep setup n vs calls later
+fewer-peer : (setup : ModelSetup) (n : ℕ) (calls later : Calls) (vs : List Value) → PeerStep setup n vs calls later
 fewer-peer setup n calls later [] o p t h = record { all = tt; owns = o; peers = p }
 fewer-peer setup n calls later (v ∷ vs) o p t h =
     let k = peer-by setup n calls later v vs v.apdu (λ c d. fewer-peer setup n c d vs) o p t h.0 h.1 in
@@ -206,16 +206,16 @@ fewer-peer setup n calls later (v ∷ vs) o p t h =
 
 -- ---- what hearing keeps
 
-record Kept (setup : Setup) (made : ℕ) (calls : Calls) (vs : List Value) : Type 0 where
+record Kept (setup : ModelSetup) (made : ℕ) (calls : Calls) (vs : List Value) : Type 0 where
   upto : AllUpTo made (hear_all setup calls vs).own_open
   fewer : length (hear_all setup calls vs).own_open ≤ length calls.own_open
   links : (operation : ℕ) (link : Option ℕ) → is_link_allowed setup calls.peer_open operation link ≡ true → is_link_allowed setup (hear_all setup calls vs).peer_open operation link ≡ true
   opens : (n : ℕ) → is_open n calls.peer_open ≡ true → is_open n (hear_all setup calls vs).peer_open ≡ true
 
-abbrev KeptStep : Setup → ℕ → List Value → Calls → Type 0
+abbrev KeptStep : ModelSetup → ℕ → List Value → Calls → Type 0
 KeptStep setup made vs calls = AllUpTo made calls.own_open → AllTaken setup calls vs → Kept setup made calls vs
 
-kept-by : (setup : Setup) (made : ℕ) (calls : Calls) (v : Value) (vs : List Value) (a : Apdu) → ((c : Calls) → KeptStep setup made vs c) → AllUpTo made calls.own_open → IsTaken setup calls a → AllTaken setup (accepted setup calls v.identifier a) vs → Kept setup made calls (record v { apdu = a } ∷ vs)
+kept-by : (setup : ModelSetup) (made : ℕ) (calls : Calls) (v : Value) (vs : List Value) (a : Apdu) → ((c : Calls) → KeptStep setup made vs c) → AllUpTo made calls.own_open → IsTaken setup calls a → AllTaken setup (accepted setup calls v.identifier a) vs → Kept setup made calls (record v { apdu = a } ∷ vs)
 kept-by setup made calls v vs (Invoke k operation link argument) ih u a r =
     let both = left-true (not (is_open k calls.peer_open) && has_room setup operation calls.peer_open) (is_link_allowed setup calls.own_open operation link) a in
     let two = both-true (is_open k calls.peer_open) (has_room setup operation calls.peer_open) both in
@@ -234,14 +234,14 @@ kept-by setup made calls v vs (Outcome k content) ih u a r =
     record { upto = next.upto; fewer = omega arith; links = next.links; opens = next.opens }
 kept-by setup made calls v vs (Reject k problem) ih u a r = absurd a
 
-kept : (setup : Setup) (made : ℕ) (calls : Calls) (vs : List Value) → KeptStep setup made vs calls
+kept : (setup : ModelSetup) (made : ℕ) (calls : Calls) (vs : List Value) → KeptStep setup made vs calls
 kept setup made calls [] u h = record { upto = u; fewer = omega arith; links = λ operation link l. l; opens = λ n o. o }
 kept setup made calls (v ∷ vs) u h = kept-by setup made calls v vs v.apdu (λ c. kept setup made c vs) u h.0 h.1
 
 -- ---- two ends
 
 -- What comes to each is taken; and once all is taken, what one has open the other knows of.
-pub record Live (setup : Setup) (x y : Calls) (to_x to_y : List Value) : Type 0 where
+pub record Live (setup : ModelSetup) (x y : Calls) (to_x to_y : List Value) : Type 0 where
   pub here : AllTaken setup x to_x
   pub there : AllTaken setup y to_y
   pub of_y : (hear_all setup x to_x).peer_open ≡ (hear_all setup y to_y).own_open
@@ -249,11 +249,11 @@ pub record Live (setup : Setup) (x y : Calls) (to_x to_y : List Value) : Type 0 
   pub made_x : AllUpTo x.made x.own_open
   pub made_y : AllUpTo y.made y.own_open
 
-pub live-swapped : (setup : Setup) (x y : Calls) (f g : List Value) → Live setup x y f g → Live setup y x g f
+pub live-swapped : (setup : ModelSetup) (x y : Calls) (f g : List Value) → Live setup x y f g → Live setup y x g f
 live-swapped setup x y f g l = record { here = l.there; there = l.here; of_y = l.of_x; of_x = l.of_y; made_x = l.made_y; made_y = l.made_x }
 
 -- the first that comes is taken
-pub live-took : (setup : Setup) (x y : Calls) (v : Value) (f g : List Value) → Live setup x y (v ∷ f) g → (is_accepted setup x v.apdu ≡ true) × Live setup (accepted setup x v.identifier v.apdu) y f g
+pub live-took : (setup : ModelSetup) (x y : Calls) (v : Value) (f g : List Value) → Live setup x y (v ∷ f) g → (is_accepted setup x v.apdu ≡ true) × Live setup (accepted setup x v.identifier v.apdu) y f g
 live-took setup x y v f g l = go v.apdu l.here.0 l.here.1 l.of_y l.of_x
   where
     go : (a : Apdu) → IsTaken setup x a → AllTaken setup (accepted setup x v.identifier a) f → (hear_all setup (accepted setup x v.identifier a) f).peer_open ≡ (hear_all setup y g).own_open → (hear_all setup y g).peer_open ≡ (hear_all setup (accepted setup x v.identifier a) f).own_open → (is_accepted setup x a ≡ true) × Live setup (accepted setup x v.identifier a) y f g
@@ -265,11 +265,11 @@ joined-upto : (silent : Bool) (call : Invocation) (made : ℕ) (calls : List Inv
 joined-upto true call made calls e h = upto-more made calls h
 joined-upto false call made calls e h = (e, upto-more made calls h)
 
-abbrev SaidLive : Setup → Calls → Calls → Value → List Value → List Value → Apdu → Type 0
+abbrev SaidLive : ModelSetup → Calls → Calls → Value → List Value → List Value → Apdu → Type 0
 SaidLive setup x y v f g a = Live setup (handed_in setup x v.identifier a) y f (g ++ (record v { apdu = a } ∷ []))
 
 -- an end says a value: nothing is due
-pub live-said : (setup : Setup) (x y : Calls) (v : Value) (f g : List Value) → Live setup x y f g → MayHandIn setup x [] v.apdu → Live setup (handed_in setup x v.identifier v.apdu) y f (g ++ (v ∷ []))
+pub live-said : (setup : ModelSetup) (x y : Calls) (v : Value) (f g : List Value) → Live setup x y f g → MayHandIn setup x [] v.apdu → Live setup (handed_in setup x v.identifier v.apdu) y f (g ++ (v ∷ []))
 live-said setup x y v f g l may = go v.apdu may
   where
     k : Kept setup x.made x f

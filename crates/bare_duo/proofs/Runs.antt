@@ -6,7 +6,7 @@ use Rattle.stub_tables.specs.declared.tables.Tables.{Tables}
 use Rattle.stub_tables.specs.Readable.{IsReadable}
 use Rattle.dialogue.specs.declared.call.Call.{Call}
 use Rattle.dialogue.specs.declared.config.Config.{Config}
-use Rattle.dialogue.specs.declared.setup.Setup.{Setup}
+use Rattle.dialogue.specs.declared.bare_setup.BareSetup.{BareSetup}
 use Rattle.dialogue.specs.declared.event.Event.{Event}
 use Rattle.dialogue.specs.declared.event.Event.TheVariants as events
 use Rattle.dialogue.specs.declared.event.Entry.{Entry}
@@ -79,7 +79,7 @@ same_octets : (most : Option ℕ) (octets : List ℕ) → passed_octets most oct
 same_octets None octets = refl
 same_octets (Some most) octets = refl
 
-module _ (setup : Setup) (t : Tables) where
+module _ (setup : BareSetup) (t : Tables) where
   -- an end that made steps stands for its history with them
   made_steps : (side : Side) (w : World) (e f : EndView) (steps : List Step) → StandsAt setup t side w e → Stepped e f steps → StandsAt setup t side (stepping side w steps) f
   made_steps side w e f steps s m = record {
@@ -215,7 +215,7 @@ runs_all a b all told a1 b1 (one_more {all = before} {told = shown} {a_then = a2
 -- ---- the whole run, told
 
 pub run_told : (all : List Event) (transcript : Transcript) (a b a1 b1 : EndView) → RunsOn all transcript.entries a b a1 b1 → transcript.mode ≡ a.config.mode → transcript.a ≡ a1.phase → transcript.b ≡ b1.phase
-    → (setup : Setup) (t : Tables) (w : World) → Stand setup t w a b → Told setup t w all transcript a1 b1
+    → (setup : BareSetup) (t : Tables) (w : World) → Stand setup t w a b → Told setup t w all transcript a1 b1
 run_told all transcript a b a1 b1 runs m p q setup t w s =
     let r = runs setup t w s in
     record {
@@ -227,7 +227,7 @@ run_told all transcript a b a1 b1 runs m p q setup t w s =
 
 -- a run from the start is one of these
 pub from_start : EveryRunKeepsLaws → (all : List Event) (transcript : Transcript) (a b a1 b1 : EndView) → IsReadable a.tables → RunsOn all transcript.entries a b a1 b1 → transcript.mode ≡ a.config.mode → transcript.a ≡ a1.phase → transcript.b ≡ b1.phase
-    → (setup : Setup) → Stand setup a.tables [] a b → RanFromStart setup a.tables all transcript a1 b1
+    → (setup : BareSetup) → Stand setup a.tables [] a b → RanFromStart setup a.tables all transcript a1 b1
 from_start keeps all transcript a b a1 b1 readable runs m p q setup s =
     let t : Told setup a.tables [] all transcript a1 b1 = run_told all transcript a b a1 b1 runs m p q setup a.tables [] s in
     record { readable = readable; told = t; laws = keeps a.tables setup all transcript.entries t.ran.world readable t.ran.runs }

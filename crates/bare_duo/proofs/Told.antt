@@ -31,7 +31,7 @@ use Rattle.end_rules.specs.Requesting.{due_of, after_call, due_invoke, after_inv
 use Rattle.bare_end.specs.end_wire.Values.{bare_spellings}
 use Rattle.agreement.specs.Sets.{Role}
 use Rattle.end_model.specs.Acting.{HasBareSet}
-use Rattle.end_model.specs.Pairs.{base_at, bare_pair}
+use Rattle.end_model.specs.BothEnds.{base_at, bare_common}
 use Rattle.end_model.proofs.Ladder.{passed, called}
 use Rattle.end_model.proofs.InvokeRungs.{invokable, answerable, refusable}
 use Rattle.end_model.proofs.HandingRows.{next-is}
@@ -102,7 +102,7 @@ has-carrier t held own context e f =
 
 module _ (t : Tables) (ca cb : Config) where
   abbrev at_role : Role → Base
-  at_role role = base_at role (bare_pair t (bare_spellings t) ca cb)
+  at_role role = base_at role (bare_common t (bare_spellings t) ca cb)
 
   abbrev Called : Role → Body → Call → Reply → Type 0
   Called role body call reply = CalledSo t body (after_call (at_role role) body call reply) call reply (due_of (at_role role) body call reply)

@@ -30,7 +30,7 @@ use Rattle.end_rules.specs.Base.{Spellings}
 use Rattle.bare_end.specs.end_wire.Heads.{head_at}
 use Rattle.bare_end.specs.end_wire.Values.{bare_spellings}
 use Rattle.bare_end.specs.end_wire.Laws.{ContentSays}
-use Rattle.end_model.specs.Opens.{IsNumber, IsNamed, IsProper, fits_argument, fits_result, fits_parameter, operation_of_code, error_of_code, FitsReturned}
+use Rattle.end_model.specs.OpenInvocations.{IsNumber, IsNamed, IsProper, fits_argument, fits_result, fits_parameter, operation_of_code, error_of_code, FitsReturned}
 use Rattle.end_model.specs.Acting.{IsSaidBack, ReadsBack}
 
 -- ---- numbers

@@ -26,7 +26,7 @@ operation_in tables (Some o) = operation_at tables o.operation
 
 -- ---- an invocation
 
--- it is linked to none, or to an open one of the end that takes it, whose operation has this one linked (X.880 8.3)
+-- it is linked to none, or to an open one of the end that takes it, whose operation has this one linked (X.880 8.2.6)
 abbrev pub may_link : Tables → Calls → ℕ → Option ℤ → Bool
 may_link tables calls place None = true
 may_link tables calls place (Some linked) = is_linked_to (operation_in tables (opened_with true linked calls.opens)) place

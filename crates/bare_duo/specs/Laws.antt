@@ -3,7 +3,7 @@ use Rattle.std.specs.Prelude.{◌≡◌, List, [], ◌∷◌, false}
 use Rattle.osi_base.specs.declared.layer_words.Side.{Side}
 use Rattle.stub_tables.specs.declared.tables.Tables.{Tables}
 use Rattle.stub_tables.specs.Readable.{IsReadable}
-use Rattle.dialogue.specs.declared.setup.Setup.{Setup}
+use Rattle.dialogue.specs.declared.bare_setup.BareSetup.{BareSetup}
 use Rattle.dialogue.specs.declared.event.Event.{Event}
 use Rattle.dialogue.specs.declared.event.Entry.{Entry}
 use Rattle.end_rules.specs.State.{passes_over}
@@ -70,7 +70,7 @@ pub record KeepsLaws (tables : Tables) (ends : Ends) (told : List Entry) (w : Wo
 -- run, the laws hold before and after each event.
 abbrev pub EveryRunKeepsLaws : Type 0
 EveryRunKeepsLaws =
-    (tables : Tables) (setup : Setup) (all : List Event) (told : List Entry) (w : World) → IsReadable tables → Runs (ends_of setup tables) [] all told w
+    (tables : Tables) (setup : BareSetup) (all : List Event) (told : List Entry) (w : World) → IsReadable tables → Runs (ends_of setup tables) [] all told w
     → KeepsLaws tables (ends_of setup tables) told w
 
 -- ---- one run
@@ -78,5 +78,5 @@ EveryRunKeepsLaws =
 -- From one world, events make the same entries and lead to the same world, whoever runs them.
 abbrev pub OneRun : Type 0
 OneRun =
-    (tables : Tables) (setup : Setup) (w v x : World) (all : List Event) (told later : List Entry) → IsReadable tables
+    (tables : Tables) (setup : BareSetup) (w v x : World) (all : List Event) (told later : List Entry) → IsReadable tables
     → Runs (ends_of setup tables) w all told v → Runs (ends_of setup tables) w all later x → (told ≡ later) × (v ≡ x)

@@ -1,7 +1,7 @@
 -- How an end of bare mode acts in a run.
 use Rattle.std.specs.Prelude.{List, [], ◌∷◌}
 use Rattle.stub_tables.specs.declared.tables.Tables.{Tables}
-use Rattle.dialogue.specs.declared.setup.Setup.{Setup}
+use Rattle.dialogue.specs.declared.bare_setup.BareSetup.{BareSetup}
 use Rattle.dialogue.specs.declared.event.Event.{Event}
 use Rattle.dialogue.specs.declared.event.Entry.{Entry}
 use Rattle.end_rules.specs.Calling.{can_call}
@@ -24,4 +24,4 @@ conduct = record {
 
 -- From every world for which the ends stand, the events ran.
 abbrev pub RunsOn : List Event → List Entry → EndView → EndView → EndView → EndView → Type 0
-RunsOn all told a b a_after b_after = (setup : Setup) (tables : Tables) (w : World) → Stand setup tables w a b → Ran setup tables w all told a_after b_after
+RunsOn all told a b a_after b_after = (setup : BareSetup) (tables : Tables) (w : World) → Stand setup tables w a b → Ran setup tables w all told a_after b_after

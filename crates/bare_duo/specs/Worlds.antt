@@ -5,7 +5,7 @@ use Rattle.osi_base.specs.declared.layer_words.Side.{Side}
 use Rattle.osi_base.specs.declared.layer_words.Side.TheVariants.{A, B}
 use Rattle.stub_tables.specs.declared.tables.Tables.{Tables}
 use Rattle.dialogue.specs.declared.config.Config.{Config}
-use Rattle.dialogue.specs.declared.setup.Setup.{Setup}
+use Rattle.dialogue.specs.declared.bare_setup.BareSetup.{BareSetup}
 use Rattle.dialogue.specs.declared.event.Event.{Event}
 use Rattle.dialogue.specs.declared.event.Event.TheVariants as events
 use Rattle.dialogue.specs.declared.event.Entry.{Entry}
@@ -18,12 +18,12 @@ use Rattle.bare_end.specs.end_wire.Bare.{bare_base}
 use Rattle.bare_end.specs.end_wire.Line.{End, end_of}
 use Rattle.bare_end.specs.end_wire.Feeding.{Feeds}
 
-abbrev pub config_at : Setup → Side → Config
+abbrev pub config_at : BareSetup → Side → Config
 config_at setup A = setup.a
 config_at setup B = setup.b
 
 -- two ends of bare mode with these tables and the configurations of a setup
-abbrev pub ends_of : Setup → Tables → Ends
+abbrev pub ends_of : BareSetup → Tables → Ends
 ends_of setup tables = record { a = bare_base tables setup.a; b = bare_base tables setup.b }
 
 -- what the moments say of one end

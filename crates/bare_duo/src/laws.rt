@@ -5,7 +5,7 @@ ghost use Rattle.bare_duo.specs.Laws.{EveryRunKeepsLaws, OneRun};
 
 use apdu_spelling::written_apdu_is_spelled;
 use bare_end::end_wire_layer::{content_says, one_content, written_is_first};
-use end_model::bare_pairs_are_modelled;
+use end_model::bare_ends_are_modelled;
 
 /// Every run of two ends in bare mode keeps the laws. What is taken is what was sent, each value
 /// under its pair at the sending, and might be taken then. Each invocation gets at most one
@@ -15,7 +15,7 @@ use end_model::bare_pairs_are_modelled;
 pub fn every_run_keeps_laws()
     ensures { EveryRunKeepsLaws }
 {
-    bare_pairs_are_modelled();
+    bare_ends_are_modelled();
     written_is_first();
     one_content();
     content_says();

@@ -16,8 +16,8 @@ use Rattle.end_rules.specs.State.{bare_set}
 use Rattle.end_wire.specs.Line.{End, after, after_all}
 use Rattle.end_wire.specs.Feeding.{Reads, passes, waits, takes, fails, taking}
 use Rattle.bare_end.specs.View.{EndView, base, body, seen, Stepped, Keeps, with_calls}
-use Rattle.stream_front.specs.declared.front.Front as fronts
-use Rattle.stream_front.specs.declared.front.Front.TheVariants as found
+use Rattle.stream_front.specs.declared.first_value.FirstValue as fronts
+use Rattle.stream_front.specs.declared.first_value.FirstValue.TheVariants as found
 use Rattle.bare_end.specs.First.{IsShortFirst, IsWholeFirst, IsFirst}
 use Rattle.bare_end.specs.Feed.{TookOne, ReadAll, Fed, Begins, nothing_taken, one_taken, KeepsDue, DiedFed}
 use Rattle.bare_end.proofs.Histories.{same_base, stands_on, stepped_on}
@@ -50,13 +50,13 @@ failed old new before after place up bad s f = record {
 }
 
 -- as the code comes by them
-pub read_short : (old : EndView) (before : List Indication) (front : fronts.Front) → passes_over old.phase ≡ false → IsFirst old.rest front → front ≡ found.Short → ReadAll old old before before
+pub read_short : (old : EndView) (before : List Indication) (front : fronts.FirstValue) → passes_over old.phase ≡ false → IsFirst old.rest front → front ≡ found.Short → ReadAll old old before before
 read_short old before front up first is = waited old before up (subst (IsFirst old.rest) is first)
 
-pub whole_first : (octets : List ℕ) (front : fronts.Front) (used : ℕ) → IsFirst octets front → front ≡ found.Whole used → IsWholeFirst octets used
+pub whole_first : (octets : List ℕ) (front : fronts.FirstValue) (used : ℕ) → IsFirst octets front → front ≡ found.Whole used → IsWholeFirst octets used
 whole_first octets front used first is = subst (IsFirst octets) is first
 
-pub read_faulty : (old new : EndView) (before after : List Indication) (front : fronts.Front) (place : ℕ) → passes_over old.phase ≡ false → IsFirst old.rest front → front ≡ found.Faulty place
+pub read_faulty : (old new : EndView) (before after : List Indication) (front : fronts.FirstValue) (place : ℕ) → passes_over old.phase ≡ false → IsFirst old.rest front → front ≡ found.Faulty place
     → Stepped old new (fault Rose place 0 ∷ feed_end ∷ []) → after ≡ before ++ shown_at_fault (body old) (fault_at Rose place 0) → ReadAll old new before after
 read_faulty old new before after front place up first is s f = failed old new before after place up (subst (IsFirst old.rest) is first) s f
 

@@ -12,7 +12,7 @@ use Rattle.ber_spelling.proofs.WholeValues.{read_is_spelled, spelled_is_read}
 use Rattle.stub_tables.specs.Heads.{head_rows, any_row}
 use Rattle.stub_tables.specs.Apdus.{IsShort}
 use Rattle.stub_tables.proofs.Readings.{heads_sound, nothing_short}
-use Rattle.stream_front.specs.declared.front.Front.{Front}
+use Rattle.stream_front.specs.declared.first_value.FirstValue.{FirstValue}
 use Rattle.stream_front.specs.Fronts.{front_at, front_of}
 use Rattle.end_wire.specs.Bare.{first_of, first_at}
 use Rattle.bare_end.specs.First.{IsFirst}
@@ -56,6 +56,6 @@ module _ (octets : List ℕ) (are : AreOctets octets) where
   by_read (Err faults.NoMemory) e = absurd (fault_is_first head_rows any_row false 262144 octets faults.NoMemory (λ q. cc) e).1
 
   -- what the scanner says of octets is what stands first in them
-  pub first_found : (front : Front) → front ≡ front_at false octets → IsFirst octets front
+  pub first_found : (front : FirstValue) → front ≡ front_at false octets → IsFirst octets front
   unfolding front_at
   first_found front e = subst (IsFirst octets) (sym e) (by_read (read_any octets) refl)

@@ -23,7 +23,7 @@ use Rattle.end_wire.specs.apdu_codec.HeadsRead.{HasFields, HasNone}
 use Rattle.rose_roles.specs.Heads.{Carries, HeadCarries, said_by}
 use Rattle.end_rules.specs.Base.{Carried, Absent, Spelled, Unspelled, HeardHead}
 use Rattle.end_rules.specs.Messages.{Unread}
-use Rattle.end_wire.specs.Heads.{whole_value, value_at, typed_at, carried_at, value_or_lack, said, refused, said_or_refused, head_at, apdu_of}
+use Rattle.end_wire.specs.Heads.{whole_value, value_at, typed_at, carried_at, value_or_lack, heard_head, refused, heard_or_refused, head_at, apdu_of}
 use Rattle.end_wire.specs.Values.{IsContent, content_of, content_at}
 use Rattle.end_wire.proofs.HeadLaws.{head_read, no_head}
 use Rattle.end_wire.proofs.ValueLaws.{carried_is, carried_spelled}
@@ -87,7 +87,7 @@ pub record HeadSays (tables : Tables) (fields : ApduHead) (head : HeardHead) : T
   pub says : said_by fields carried ≡ head
 
 module _ (tables : Tables) (readable : IsReadable tables) where
-  says_so : (h : heads.Head) → HoldsOctets (fields_in Ber h).rest → HeadSays tables (fields_in Ber h) (said tables Ber h)
+  says_so : (h : heads.Head) → HoldsOctets (fields_in Ber h).rest → HeadSays tables (fields_in Ber h) (heard_head tables Ber h)
   says_so (heads.invoke id linked code octets) are =
       let used : Option Use = option_map argument_of (operation_coded tables code) in
       record { carried = carried_at Ber tables.types 262144 used octets; carries = carries_at tables.types readable.types 262144 used octets are; says = refl }
@@ -114,9 +114,9 @@ module _ (tables : Tables) (readable : IsReadable tables) (text : List ℕ) wher
     at_fields : HoldsOctets (fields_in Ber p.head).rest
     at_fields = subst (λ (f : ApduHead). HoldsOctets f.rest) p.are os
 
-    head_is : said tables Ber p.head ≡ head_at tables Ber text
+    head_is : heard_head tables Ber p.head ≡ head_at tables Ber text
     unfolding head_at
-    head_is = sym (ap (said_or_refused tables Ber text) (head_read Ber text p.head p.spells))
+    head_is = sym (ap (heard_or_refused tables Ber text) (head_read Ber text p.head p.spells))
 
     pub fields_say : HeadSays tables fields (head_at tables Ber text)
     fields_say =
@@ -132,7 +132,7 @@ module _ (tables : Tables) (readable : IsReadable tables) (text : List ℕ) wher
   module _ (are : AreOctets text) (none : HasNone Ber text) where
     pub refused_read : (f : HeadFault) → refusal_of Ber text ≡ f → refused f ≡ head_at tables Ber text
     unfolding head_at
-    refused_read f e = ap refused (sym e) ∙ sym (ap (said_or_refused tables Ber text) (no_head Ber text are none))
+    refused_read f e = ap refused (sym e) ∙ sym (ap (heard_or_refused tables Ber text) (no_head Ber text are none))
 
     kept : (f : HeadFault) → content_of text (apdu_of tables (refused f)) ≡ Unread text
     kept (fault.General number) = refl

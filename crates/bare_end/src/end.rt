@@ -5,7 +5,7 @@ ghost use Rattle.std.specs.Prelude.{◌≡◌, ◌≢◌, ℕ, List, [], ◌∷�
 use crate::intake::Intake;
 use crate::phases::broken;
 use association_ground::is_up;
-use dialogue::{Config, ConfigRefusal, Phase, check_config};
+use dialogue::{Config, ConfigRefusal, Phase, check_bare_config};
 use end_wire::apdu_codec_layer::Heads;
 use open_invocations::Invocations;
 use osi_base::{Copied, OctetQueue, Pair, Syntax, copy_front};
@@ -61,7 +61,7 @@ impl<'t> End<'t> {
     ghost use Rattle.bare_end.specs.View.{EndView, body, Stepped, StandsFor};
 
     /// An end of bare mode with these tables and this configuration, up at once. Refused is what
-    /// `check_config` refuses, and want of memory. Ends of the other modes are those of
+    /// `check_bare_config` refuses, and want of memory. Ends of the other modes are those of
     /// `association_end`.
     pub fn new(alloc: Global, tables: &'t Tables, config: Config) -> Result<End<'t>, ConfigRefusal>
         requires bare { config.mode ≡ modes.Bare }
@@ -78,7 +78,7 @@ impl<'t> End<'t> {
         ensures refused { IfErr result (λ refusal. (refusal ≢ config_refusals.NoMemory) →
             config_refusal config ≡ Some refusal) }
     {
-        check_config(alloc, &config)?;
+        check_bare_config(alloc, &config)?;
         let Ok(heads) = Heads::new(alloc) else {
             return Err(ConfigRefusal::NoMemory);
         };

@@ -20,11 +20,11 @@ use association_ground::passes_over;
 use dialogue::{Indication, Indications, Phase};
 use open_invocations::tell_cuts;
 use osi_base::{Layer, ListOf, NoMemory};
-use stream_front::Front;
+use stream_front::FirstValue;
 
 impl<'t> End<'t> {
     /// What stands first in what came.
-    fn front(&mut self) -> Front
+    fn front(&mut self) -> FirstValue
         ensures first { IsFirst self.old.rest result }
         ensures same { self.new ≡ self.old }
     {
@@ -62,7 +62,7 @@ impl<'t> End<'t> {
             (fault_at Rose place 0)) }
         ensures err { OnErr result (Keeps self.old self.new) }
     {
-        let opens = self.invocations.opens()?;
+        let opens = self.invocations.open_calls()?;
         tell_cuts(self.alloc, opens.as_slice(), shown)?;
         shown.push(Indication::Aborted {
             own: true,
@@ -77,19 +77,19 @@ impl<'t> End<'t> {
     }
 
     /// Does what is to be done with what stands first, and answers whether more may follow.
-    fn read(&mut self, front: Front, shown: &mut Indications) -> Result<bool, NoMemory>
+    fn read(&mut self, front: FirstValue, shown: &mut Indications) -> Result<bool, NoMemory>
         requires first { IsFirst self.old.rest front }
         requires up { passes_over self.old.phase ≡ false }
         ensures { MatchResult result (λ more. Goes more self.old self.new shown.old shown.new)
             (λ _. Keeps self.old self.new) }
     {
         match front {
-            Front::Short => Ok(false),
-            Front::Whole(used) => {
+            FirstValue::Short => Ok(false),
+            FirstValue::Whole(used) => {
                 self.take(used, shown)?;
                 Ok(true)
             }
-            Front::Faulty(place) => {
+            FirstValue::Faulty(place) => {
                 self.abort(place, shown)?;
                 Ok(false)
             }

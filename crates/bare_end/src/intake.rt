@@ -7,7 +7,7 @@ use ber_spelling::are_octets;
 use osi_base::{NoMemory, OctetQueue};
 use std::alloc::Global;
 use std::marker::Model;
-use stream_front::{Front, Scanner};
+use stream_front::{FirstValue, Scanner};
 
 /// Octets that came and weren't taken yet, with a scanner that looks at each of them once, however
 /// they are cut.
@@ -55,7 +55,7 @@ impl Intake {
     }
 
     /// What stands first. It looks at what came since it was asked last.
-    pub fn first(&mut self) -> Front
+    pub fn first(&mut self) -> FirstValue
         ensures first { IsFirst self.old result }
         ensures same { self.new ≡ self.old }
     {

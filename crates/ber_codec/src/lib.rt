@@ -7,7 +7,7 @@ pub use asn1_types::{
     Class, Item, MaybeVals, Named, Node, Part, Parts, RowRefusal, TextKind, TypeId, TypeRow,
     TypeTable, Val, Vals, has_default_value, is_whole, may_be_absent,
 };
-pub use ber_reading::{LIMIT, Read, ReadFault, ber_read, ber_read_within, der_read};
+pub use ber_reading::{MOST_VALUE_OCTETS, Read, ReadFault, ber_read, ber_read_within, der_read};
 pub use ber_spelling::{
     beginning_is_short, der_is_ber, der_is_ber_in_form, der_is_whole, der_is_written,
     fault_is_first, fault_stays, none_begins, one_of_three, read_is_spelled, read_stays,

@@ -10,7 +10,7 @@ use Rattle.ber_spelling.specs.declared.spot.Scope.{Scope}
 use Rattle.ber_spelling.specs.Octets.{AreOctets}
 use Rattle.ber_spelling.specs.Reading.{Spot, Opened, Reading, ◌>>=◌, refuse}
 use Rattle.ber_spelling.specs.Fields.{extent_at, contents_at}
-use Rattle.ber_spelling.specs.Rules.{is_opened, expect_at, judge, form_at, primitive_at, constructed_at}
+use Rattle.ber_spelling.specs.Rules.{is_opened, expect_at, some_or_refuse, form_at, primitive_at, constructed_at}
 use Rattle.ber_spelling.proofs.Identifiers.{IsIn, done}
 use Rattle.ber_spelling.proofs.Steady.{RunOf, opened_as, expected, octets_left, octets_right}
 use Rattle.ber_spelling.proofs.Constructed.{BodyOf}
@@ -122,7 +122,7 @@ clash true e h = absurd cc
 clash false e h = absurd cc
 
 abbrev behind_rule : {A : Type 0} → Scope → ℕ → Bool → Spot → Option A → Reading (A × Spot)
-behind_rule scope at canonical to o = judge at (λ x. x) o >>= λ found. form_at scope at canonical >>= λ _. Ok (found, to)
+behind_rule scope at canonical to o = some_or_refuse at (λ x. x) o >>= λ found. form_at scope at canonical >>= λ _. Ok (found, to)
 
 module _ {A : Type 0} (rule : List ℕ → Option A) (canonical : List ℕ → Bool) (P : Bool → List ℕ → Type 0)
     (right : (strict : Bool) (c : List ℕ) (v : A) → AreOctets c → rule c ≡ Some v → (strict ≡ true → canonical c ≡ true) → P strict c)

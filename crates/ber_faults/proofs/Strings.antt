@@ -10,7 +10,7 @@ use Rattle.ber_spelling.specs.declared.spot.Gathered.{Gathered}
 use Rattle.ber_spelling.specs.Octets.{AreOctets}
 use Rattle.ber_spelling.specs.Reading.{Spot, Opened, Reading, ◌>>=◌, refuse}
 use Rattle.ber_spelling.specs.Fields.{extent_at}
-use Rattle.ber_spelling.specs.Rules.{judge, form_at, always, all_items_at, segment_tag, nothing, segment_rule, segment_at, segmented_at, string_rule, string_at}
+use Rattle.ber_spelling.specs.Rules.{some_or_refuse, form_at, always, all_items_at, segment_tag, nothing, segment_rule, segment_at, segmented_at, string_rule, string_at}
 use Rattle.ber_spelling.specs.Spelling.{SegmentIs}
 use Rattle.ber_spelling.proofs.Identifiers.{IsIn, in_before, done}
 use Rattle.ber_spelling.proofs.Steady.{OfTag}
@@ -69,7 +69,7 @@ abbrev segments : StringKind → BodyOf Gathered
 segments kind = all_items_at (segment_at kind 32) every_state nothing
 
 abbrev together : (Gathered → Option Value) → ℕ → Gathered × Spot → Reading (Value × Spot)
-together whole place g = judge place (λ (v : Value). v) (whole g.0) >>= λ v. done {A = Value × Spot} (v, g.1)
+together whole place g = some_or_refuse place (λ (v : Value). v) (whole g.0) >>= λ v. done {A = Value × Spot} (v, g.1)
 
 abbrev judged : StringKind → (Gathered → Option Value) → ℕ → BodyOf Value
 judged kind whole place x b = segments kind x b >>= together whole place
@@ -89,12 +89,12 @@ segments_tells kind = all_tells (segment_at kind 32) every_state (SegmentIs kind
 judged_err : (whole : Gathered → Option Value) (place : ℕ) (g : Gathered) (to : Spot) (f : ReadFault) → together whole place (g, to) ≡ Err f → (whole g ≡ None) × IsAt place Content f
 judged_err whole place g to f e =
     elim (option_cases (whole g)) [
-      | inl t ↦ (t, refusal_is {A = Value × Spot} place Content f (sym (ap (λ (o : Option Value). judge place (λ (v : Value). v) o >>= λ v. done {A = Value × Spot} (v, to)) t) ∙ e))
-      | inr t ↦ absurd (not_err {A = Value × Spot} (t.0, to) f (sym (ap (λ (o : Option Value). judge place (λ (v : Value). v) o >>= λ v. done {A = Value × Spot} (v, to)) t.1) ∙ e))
+      | inl t ↦ (t, refusal_is {A = Value × Spot} place Content f (sym (ap (λ (o : Option Value). some_or_refuse place (λ (v : Value). v) o >>= λ v. done {A = Value × Spot} (v, to)) t) ∙ e))
+      | inr t ↦ absurd (not_err {A = Value × Spot} (t.0, to) f (sym (ap (λ (o : Option Value). some_or_refuse place (λ (v : Value). v) o >>= λ v. done {A = Value × Spot} (v, to)) t.1) ∙ e))
     ]
 
 judged_fails : (whole : Gathered → Option Value) (place : ℕ) (g : Gathered) (to : Spot) (f : ReadFault) → whole g ≡ None → IsAt place Content f → together whole place (g, to) ≡ Err f
-judged_fails whole place g to f none is = ap (λ (o : Option Value). judge place (λ (v : Value). v) o >>= λ v. done {A = Value × Spot} (v, to)) none ∙ refused {A = Value × Spot} place Content f is
+judged_fails whole place g to f none is = ap (λ (o : Option Value). some_or_refuse place (λ (v : Value). v) o >>= λ v. done {A = Value × Spot} (v, to)) none ∙ refused {A = Value × Spot} place Content f is
 
 string_body_finds : (kind : StringKind) (whole : Gathered → Option Value) (place : ℕ) → BodyFinds (judged kind whole place) (SegmentsFault kind whole place)
 string_body_finds kind whole place = record {

@@ -21,7 +21,7 @@ use Rattle.ber_spelling.specs.declared.spot.Scope.{Scope}
 use Rattle.ber_spelling.specs.declared.spot.Spot as codes
 use Rattle.ber_spelling.specs.Reading.{spot_of, Spot, Opened, begun, ◌>>=◌, is_past, within, Reading}
 use Rattle.ber_spelling.specs.Fields.{is_end, opened_at, identifier_at, announced_at, definite_at, contents_at, look_at}
-use Rattle.ber_spelling.specs.Rules.{Reader, always, integer_rule, primitive_at, choice_at, reads, bare, plain, is_other, expect_at, judge, form_at}
+use Rattle.ber_spelling.specs.Rules.{Reader, always, integer_rule, primitive_at, choice_at, reads, bare, plain, is_other, expect_at, some_or_refuse, form_at}
 use Rattle.ber_spelling.proofs.Growing.{within_is}
 use Rattle.ber_reading.specs.ShortParts.{IsReach, integer_tag, integer_opened, behind}
 use Rattle.ber_reading.specs.Parts.{part_from}
@@ -97,7 +97,7 @@ unfolding primitive_at
 prim_other rule other t scope o s v to e named =
     let b1 = bind_ok (expect_at t false o) _ (v, to) e in
     let b2 = bind_ok (contents_at scope s.place s.rest) _ (v, to) b1.2 in
-    let b3 = bind_ok (judge b2.0.0 (λ (x : Value). x) (rule b2.0.1)) _ (v, to) b2.2 in
+    let b3 = bind_ok (some_or_refuse b2.0.0 (λ (x : Value). x) (rule b2.0.1)) _ (v, to) b2.2 in
     let b4 = bind_ok (form_at scope b2.0.0 (always b2.0.1)) _ (v, to) b3.2 in
     let same = ok_is {A = Value × Spot} (b3.0, b2.0.2) (v, to) b4.2 in
     let ruled : rule b2.0.1 ≡ Some v = judge_is b2.0.0 (rule b2.0.1) b3.0 b3.1 ∙ ap (λ (x : Value × Spot). Some x.0) same in

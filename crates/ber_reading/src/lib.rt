@@ -11,4 +11,4 @@ mod whole_values;
 pub use ber_spelling::ReadFault;
 pub use contents::any_value;
 pub use reading::value;
-pub use whole_values::{LIMIT, Read, ber_read, ber_read_within, der_read};
+pub use whole_values::{MOST_VALUE_OCTETS, Read, ber_read, ber_read_within, der_read};

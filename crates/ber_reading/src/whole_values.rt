@@ -18,7 +18,7 @@ use ber_spelling::{Opened, ReadFault, Scope, Spot, Tag, identifier_octets};
 use std::alloc::Global;
 
 /// How many octets a value may have.
-pub const LIMIT: u32 = 262_144;
+pub const MOST_VALUE_OCTETS: u32 = 262_144;
 
 /// A value that was read, and how many octets spelled it.
 #[derive(Debug, Drop)]
@@ -48,7 +48,7 @@ pub fn ber_read(
     ensures exact { Gives (λ r. (r.value, r.used)) result
         (read_at table.now of.0 false most_octets bytes.now) }
 {
-    read_whole(alloc, table, of, bytes, LIMIT, false)
+    read_whole(alloc, table, of, bytes, MOST_VALUE_OCTETS, false)
 }
 
 /// As `ber_read`, with at most `most` octets.
@@ -86,7 +86,7 @@ pub fn der_read(
     ensures exact { Gives (λ r. (r.value, r.used)) result
         (read_at table.now of.0 true most_octets bytes.now) }
 {
-    read_whole(alloc, table, of, bytes, LIMIT, true)
+    read_whole(alloc, table, of, bytes, MOST_VALUE_OCTETS, true)
 }
 
 #[tactic(auto, unfolding(ber_spelling::specs::Rules::read_at, ber_spelling::specs::Rules::value_at))]

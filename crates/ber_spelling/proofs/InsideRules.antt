@@ -20,7 +20,7 @@ use Rattle.ber_spelling.specs.declared.spot.Gathered.{Gathered}
 use Rattle.ber_spelling.specs.Order.{Filled}
 use Rattle.ber_spelling.specs.Reading.{Spot, Opened, Ahead, ended, begun, Reading, ◌>>=◌}
 use Rattle.ber_spelling.specs.Fields.{extent_at, contents_at, look_at}
-use Rattle.ber_spelling.specs.Rules.{Reader, is_opened, expect_at, judge, form_at, primitive_at, always, boolean_rule, is_strict_boolean, integer_rule, enumerated_rule, null_rule, object_id_rule, constructed_at, finish, item_at, items_at, all_items_at, segment_tag, nothing, segment_rule, segment_at, segmented_at, string_rule, string_at, whole_octets, whole_text, whole_bits, has_zero_bits, list_item_at, list_done, list_at, first_of, last_of, open_at, close_at, explicit_at, present_at, part_at, parts_at, sequence_at, nothing_filled, set_done, ordered_at, is_free, fill_at, slot_at, choice_at, anew, sized_at, marked_at, whole_at, any_at, dead, or_explicit, read_by, Guise, bare, plain, under, is_other, set_item_at, set_of_done, set_of_at}
+use Rattle.ber_spelling.specs.Rules.{Reader, is_opened, expect_at, some_or_refuse, form_at, primitive_at, always, boolean_rule, is_strict_boolean, integer_rule, enumerated_rule, null_rule, object_id_rule, constructed_at, finish, item_at, items_at, all_items_at, segment_tag, nothing, segment_rule, segment_at, segmented_at, string_rule, string_at, whole_octets, whole_text, whole_bits, has_zero_bits, list_item_at, list_done, list_at, first_of, last_of, open_at, close_at, explicit_at, present_at, part_at, parts_at, sequence_at, nothing_filled, set_done, ordered_at, is_free, fill_at, slot_at, choice_at, anew, sized_at, marked_at, whole_at, any_at, dead, or_explicit, read_by, Guise, bare, plain, under, is_other, set_item_at, set_of_done, set_of_at}
 use Rattle.ber_spelling.proofs.Steady.{Run, RunOf}
 use Rattle.ber_spelling.proofs.Constructed.{BodyOf}
 use Rattle.ber_spelling.proofs.Inside.{EndsAt, Inside, Inside-bind, Inside-cond, nowhere, second, Begun, Contained, Looked, extent_inside, contents_inside, look_inside}
@@ -46,7 +46,7 @@ formed Q scope place canonical end f le h = Inside-bind nowhere Q end (form_at s
 abbrev anything : {A : Type 0} → A → Type 0
 anything x = Unit {0}
 
-judge_inside : {A B : Type 0} (place : ℕ) (made : A → B) (found : Option A) (end : ℕ) → place ≤ end → Inside anything end (judge place made found)
+judge_inside : {A B : Type 0} (place : ℕ) (made : A → B) (found : Option A) (end : ℕ) → place ≤ end → Inside anything end (some_or_refuse place made found)
 judge_inside place made None end le = le
 judge_inside place made (Some x) end le = tt
 
@@ -58,7 +58,7 @@ prim_inside {A} rule canonical tag = record {
   each = λ end scope o s le e.
       expected (second end) tag false o end _ le
       (Inside-bind (Contained end) (second end) end (contents_at scope s.place s.rest) _ (contents_inside scope s.place s.rest end e) (λ c k.
-      Inside-bind anything (second end) end (judge c.0 (λ (x : A). x) (rule c.1)) _ (judge_inside c.0 (λ (x : A). x) (rule c.1) end k.0) (λ found u.
+      Inside-bind anything (second end) end (some_or_refuse c.0 (λ (x : A). x) (rule c.1)) _ (judge_inside c.0 (λ (x : A). x) (rule c.1) end k.0) (λ found u.
       formed (second end) scope c.0 (canonical c.1) end _ k.0 k.1)));
 }
 
@@ -113,7 +113,7 @@ segmented_inside kind whole tag = record {
       (formed (second end) scope o.start.place false end _ le
       (Inside-bind (second end) (second end) end (extent_at scope s.place s.rest) _ (extent_inside scope s.place s.rest end e) (λ x k.
       Inside-bind (second end) (second end) end (all_items_at (segment_at kind 32) some_gathered nothing x.0 x.1) _ ((all_inside (segment_at kind 32) some_gathered (λ a. segment_inside kind 32 a) nothing).each end x.0 x.1 k) (λ g l.
-      Inside-bind anything (second end) end (judge o.start.place (λ (v : Value). v) (whole g.0)) _ (judge_inside o.start.place (λ (v : Value). v) (whole g.0) end le) (λ v u. l)))));
+      Inside-bind anything (second end) end (some_or_refuse o.start.place (λ (v : Value). v) (whole g.0)) _ (judge_inside o.start.place (λ (v : Value). v) (whole g.0) end le) (λ v u. l)))));
 }
 
 string_inside : (kind : StringKind) (whole : Gathered → Option Value) (canonical : List ℕ → Bool) (tag : tags.Tag) → InsideRun (string_at kind whole canonical tag)

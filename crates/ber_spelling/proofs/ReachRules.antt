@@ -24,7 +24,7 @@ use Rattle.ber_spelling.specs.declared.spot.Gathered.{Gathered}
 use Rattle.ber_spelling.specs.Order.{Filled}
 use Rattle.ber_spelling.specs.Reading.{Spot, Opened, Ahead, ended, begun, Reading, ◌>>=◌}
 use Rattle.ber_spelling.specs.Fields.{extent_at, contents_at, look_at}
-use Rattle.ber_spelling.specs.Rules.{Reader, is_opened, expect_at, judge, form_at, primitive_at, always, boolean_rule, is_strict_boolean, integer_rule, enumerated_rule, null_rule, object_id_rule, constructed_at, finish, item_at, items_at, all_items_at, segment_tag, nothing, segment_rule, segment_at, segmented_at, string_rule, string_at, whole_octets, whole_text, whole_bits, has_zero_bits, list_item_at, list_done, list_at, first_of, last_of, open_at, close_at, explicit_at, present_at, part_at, parts_at, sequence_at, nothing_filled, set_done, ordered_at, is_free, fill_at, slot_at, choice_at, anew, sized_at, marked_at, whole_at, any_at, dead, or_explicit, read_by, Guise, bare, plain, under, is_other, set_item_at, set_of_done, set_of_at}
+use Rattle.ber_spelling.specs.Rules.{Reader, is_opened, expect_at, some_or_refuse, form_at, primitive_at, always, boolean_rule, is_strict_boolean, integer_rule, enumerated_rule, null_rule, object_id_rule, constructed_at, finish, item_at, items_at, all_items_at, segment_tag, nothing, segment_rule, segment_at, segmented_at, string_rule, string_at, whole_octets, whole_text, whole_bits, has_zero_bits, list_item_at, list_done, list_at, first_of, last_of, open_at, close_at, explicit_at, present_at, part_at, parts_at, sequence_at, nothing_filled, set_done, ordered_at, is_free, fill_at, slot_at, choice_at, anew, sized_at, marked_at, whole_at, any_at, dead, or_explicit, read_by, Guise, bare, plain, under, is_other, set_item_at, set_of_done, set_of_at}
 use Rattle.ber_spelling.proofs.Steady.{Run, RunOf}
 use Rattle.ber_spelling.proofs.Constructed.{BodyOf}
 use Rattle.ber_spelling.proofs.Reach.{Bounded, Bounded-bind, Bounded-cond, Stands, later, StandsIn, second, third, Looked, extent_bounded, contents_bounded, look_bounded}
@@ -79,7 +79,7 @@ expect_sure tag constructed o = cond_sure (is_opened tag constructed o) tt o.sta
 form_sure : (scope : Scope) (place : ℕ) (canonical : Bool) → Sure (form_at scope place canonical)
 form_sure scope place canonical = cond_not_sure (scope.strict && not canonical) tt place Form
 
-judge_sure : {A B : Type 0} (place : ℕ) (made : A → B) (found : Option A) → Sure (judge place made found)
+judge_sure : {A B : Type 0} (place : ℕ) (made : A → B) (found : Option A) → Sure (some_or_refuse place made found)
 judge_sure place made None = tt
 judge_sure place made (Some x) = tt
 
@@ -96,7 +96,7 @@ prim_bounded {A} rule canonical tag = record {
       let Q : A × Spot → Type 0 = second limit end s.place in
       surely Q limit end (expect_at tag false o) _ (expect_sure tag false o) (λ u.
       Bounded-bind (third limit end s.place) Q limit end (contents_at scope s.place s.rest) _ (contents_bounded limit end scope s.place s.rest same h.short h.ends) (λ c k.
-      surely Q limit end (judge c.0 (λ (x : A). x) (rule c.1)) _ (judge_sure c.0 (λ (x : A). x) (rule c.1)) (λ found.
+      surely Q limit end (some_or_refuse c.0 (λ (x : A). x) (rule c.1)) _ (judge_sure c.0 (λ (x : A). x) (rule c.1)) (λ found.
       surely Q limit end (form_at scope c.0 (canonical c.1)) _ (form_sure scope c.0 (canonical c.1)) (λ v. k))));
 }
 
@@ -159,7 +159,7 @@ segmented_bounded kind whole tag = record {
       surely Q limit end (form_at scope o.start.place false) _ (form_sure scope o.start.place false) (λ f.
       Bounded-bind (StandsIn limit end s.place) Q limit end (extent_at scope s.place s.rest) _ (extent_bounded limit end scope s.place s.rest same k.short k.ends) (λ x l.
       Bounded-bind (second limit end x.1.place) Q limit end (all_items_at (segment_at kind 32) some_gathered nothing x.0 x.1) _ ((all_bounded (segment_at kind 32) some_gathered (λ a. segment_bounded kind 32 a) nothing).each limit end x.0 x.1 l.same (own limit end s.place x.1 l.spot)) (λ g m.
-      surely Q limit end (judge o.start.place (λ (v : Value). v) (whole g.0)) _ (judge_sure o.start.place (λ (v : Value). v) (whole g.0)) (λ v. later limit end s.place x.1.place g.1 l.spot.onward m)))));
+      surely Q limit end (some_or_refuse o.start.place (λ (v : Value). v) (whole g.0)) _ (judge_sure o.start.place (λ (v : Value). v) (whole g.0)) (λ v. later limit end s.place x.1.place g.1 l.spot.onward m)))));
 }
 
 string_bounded : (kind : StringKind) (whole : Gathered → Option Value) (canonical : List ℕ → Bool) (tag : tags.Tag) → BoundedRun (string_at kind whole canonical tag)

@@ -11,7 +11,7 @@ use Rattle.ber_spelling.specs.declared.spot.StringKind.TheVariants.{OfOctets, Of
 use Rattle.ber_spelling.specs.declared.spot.Gathered.{Gathered}
 use Rattle.ber_spelling.specs.Reading.{Spot, Opened, ◌>>=◌}
 use Rattle.ber_spelling.specs.Fields.{extent_at, contents_at}
-use Rattle.ber_spelling.specs.Rules.{Reader, expect_at, judge, form_at, primitive_at, always, constructed_at, all_items_at, segment_tag, nothing, segment_rule, segment_at, segmented_at, string_rule, string_at, list_item_at, list_done, list_at, plain, set_item_at, set_of_done, set_of_at}
+use Rattle.ber_spelling.specs.Rules.{Reader, expect_at, some_or_refuse, form_at, primitive_at, always, constructed_at, all_items_at, segment_tag, nothing, segment_rule, segment_at, segmented_at, string_rule, string_at, list_item_at, list_done, list_at, plain, set_item_at, set_of_done, set_of_at}
 use Rattle.ber_spelling.specs.Spelling.{Spelled, IsConstructed, ItemsAre, SegmentIs, StringIs, ListStep, ListIs, SetItemStep, SetOfIs}
 use Rattle.ber_spelling.proofs.Identifiers.{bind_ok, chosen_ok, ok_is}
 use Rattle.ber_spelling.proofs.Steady.{RunOf, RelationOf, ReadAs, Found, ReadBack, Only, OfTag, opened_as, judge_is, form_lax, form_passes, prim_found, prim_only, form_ok}
@@ -110,7 +110,7 @@ segmented_is kind whole tag scope o s v to e =
     let b2 = bind_ok (form_at scope o.start.place false) _ (v, to) b1.2 in
     let b3 = bind_ok (extent_at scope s.place s.rest) _ (v, to) b2.2 in
     let b4 = bind_ok (segments_body kind b3.0.0 b3.0.1) _ (v, to) b3.2 in
-    let b5 = bind_ok (judge o.start.place (λ (x : Value). x) (whole b4.0.0)) _ (v, to) b4.2 in
+    let b5 = bind_ok (some_or_refuse o.start.place (λ (x : Value). x) (whole b4.0.0)) _ (v, to) b4.2 in
     let same = ok_is {A = Value × Spot} (b5.0, b4.0.1) (v, to) b5.2 in
     let read : constructed_at (segments_body kind) tag scope o s ≡ Ok (b4.0.0, b4.0.1) =
     bind_is (expect_at tag true o) (λ _. extent_at scope s.place s.rest >>= λ x. segments_body kind x.0 x.1) b1.0 b1.1 ∙ bind_is (extent_at scope s.place s.rest) (λ x. segments_body kind x.0 x.1) b3.0 b3.1 ∙ b4.1 in
@@ -131,7 +131,7 @@ segmented_again kind whole tag scope o s g v to lax is e =
     ∙ bind_is (form_at scope o.start.place false) _ tt (form_passes scope o.start.place false (λ k. absurd (let wrong : false ≡ true = sym lax ∙ k in cc)))
     ∙ bind_is (extent_at scope s.place s.rest) _ b2.0 b2.1
     ∙ bind_is (segments_body kind b2.0.0 b2.0.1) _ (g, to) b2.2
-    ∙ bind_is (judge o.start.place (λ (x : Value). x) (whole g)) _ v (ap (judge o.start.place (λ (x : Value). x)) is)
+    ∙ bind_is (some_or_refuse o.start.place (λ (x : Value). x) (whole g)) _ v (ap (some_or_refuse o.start.place (λ (x : Value). x)) is)
 
 pub string_found : (kind : StringKind) (whole : Gathered → Option Value) (canonical : List ℕ → Bool) (tag : tags.Tag) → Found (string_at kind whole canonical tag) (StringIs kind whole canonical tag)
 unfolding string_at
@@ -230,7 +230,7 @@ prim_grows {A} rule canonical tag = record {
   grows = λ scope o s more.
       Grows-same (with_spot more) (expect_at tag false o) _ _ (λ u e.
       Grows-bind (with_contents more) (with_spot more) (contents_at scope s.place s.rest) (contents_at scope s.place (s.rest ++ more)) _ _ (contents_grow scope s.place s.rest more) (λ c e.
-      Grows-same (with_spot more) (judge c.0 (λ (x : A). x) (rule c.1)) _ _ (λ v e.
+      Grows-same (with_spot more) (some_or_refuse c.0 (λ (x : A). x) (rule c.1)) _ _ (λ v e.
       Grows-same (with_spot more) (form_at scope c.0 (canonical c.1)) _ _ (λ f e. refl))));
 }
 
@@ -253,7 +253,7 @@ string_grows kind whole canonical tag = record {
       Grows-same (with_spot more) (form_at scope o.start.place false) _ _ (λ f e.
       Grows-bind (with_spot more) (with_spot more) (extent_at scope s.place s.rest) (extent_at scope s.place (s.rest ++ more)) _ _ (extent_grows scope s.place s.rest more) (λ x e.
       Grows-bind (with_spot more) (with_spot more) (segments_body kind x.0 x.1) (segments_body kind x.0 (grown more x.1)) _ _ ((all_grow (segment_at kind 32) some_gathered (segment_grows kind 32) nothing).grows x.0 x.1 more) (λ g e.
-      Grows-same (with_spot more) (judge o.start.place (λ (y : Value). y) (whole g.0)) _ _ (λ v e. refl))))))
+      Grows-same (with_spot more) (some_or_refuse o.start.place (λ (y : Value). y) (whole g.0)) _ _ (λ v e. refl))))))
       (λ t. (prim_grows (string_rule kind whole) canonical tag).grows scope o s more);
 }
 

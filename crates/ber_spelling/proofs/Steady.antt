@@ -15,7 +15,7 @@ use Rattle.asn1_types.specs.Tags.{capped, leading}
 use Rattle.ber_spelling.specs.Octets.{AreOctets}
 use Rattle.ber_spelling.specs.Reading.{Spot, Opened, Reading, refuse}
 use Rattle.ber_spelling.specs.Fields.{identifier_at, contents_at}
-use Rattle.ber_spelling.specs.Rules.{is_opened, expect_at, judge, form_at, primitive_at}
+use Rattle.ber_spelling.specs.Rules.{is_opened, expect_at, some_or_refuse, form_at, primitive_at}
 use Rattle.ber_spelling.specs.Spelling.{IsIdentifier, IsPrimitive}
 use Rattle.ber_spelling.proofs.Identifiers.{IsIn, in_before, Taken, bind_ok, chosen_ok, ok_is, done, identifier_found, identifier_again}
 use Rattle.ber_spelling.proofs.Lengths.{contents_found, contents_again}
@@ -170,7 +170,7 @@ head_some class constructed number (first ∷ others) tagged (inr h) = record { 
 
 -- ---- primitive values
 
-pub judge_is : {B : Type 0} (place : ℕ) (o : Option B) (v : B) → judge place (λ (x : B). x) o ≡ Ok v → o ≡ Some v
+pub judge_is : {B : Type 0} (place : ℕ) (o : Option B) (v : B) → some_or_refuse place (λ (x : B). x) o ≡ Ok v → o ≡ Some v
 judge_is place None v e = absurd cc
 judge_is place (Some x) v e = ap (λ y. Some y) (ok_is x v e)
 
@@ -220,7 +220,7 @@ prim_found {A} rule canonical tag P sound = record {
       let is = opened_as tag false o b1.0 b1.1 in
       let b2 = bind_ok (contents_at scope s.place s.rest) _ (v, to) b1.2 in
       let c = contents_found scope s.place s.rest b2.0.0 b2.0.1 b2.0.2 b2.1 in
-      let b3 = bind_ok (judge b2.0.0 (λ (x : A). x) (rule b2.0.1)) _ (v, to) b2.2 in
+      let b3 = bind_ok (some_or_refuse b2.0.0 (λ (x : A). x) (rule b2.0.1)) _ (v, to) b2.2 in
       let b4 = bind_ok (form_at scope b2.0.0 (canonical b2.0.1)) _ (v, to) b3.2 in
       let same = ok_is {A = A × Spot} (b3.0, b2.0.2) (v, to) b4.2 in
       let v-is : b3.0 ≡ v = ap (λ (x : A × Spot). x.0) same in

@@ -24,7 +24,7 @@ use Rattle.ber_spelling.specs.declared.spot.Gathered.{Gathered}
 use Rattle.ber_spelling.specs.Order.{Filled}
 use Rattle.ber_spelling.specs.Reading.{Spot, Opened, Ahead, ended, begun, Reading, ◌>>=◌, refuse}
 use Rattle.ber_spelling.specs.Fields.{extent_at, contents_at, look_at}
-use Rattle.ber_spelling.specs.Rules.{Reader, is_opened, expect_at, judge, form_at, primitive_at, always, boolean_rule, is_strict_boolean, integer_rule, enumerated_rule, null_rule, object_id_rule, constructed_at, finish, item_at, items_at, all_items_at, segment_tag, nothing, segment_rule, segment_at, segmented_at, string_rule, string_at, whole_octets, whole_text, whole_bits, has_zero_bits, list_item_at, list_done, list_at, first_of, last_of, open_at, close_at, explicit_at, is_part, present_at, part_at, parts_at, sequence_at, nothing_filled, set_done, alone, cut_behind, late_kind, late_at, ordered_at, is_free, fill_at, slot_at, choice_at, anew, sized_at, marked_at, whole_at, any_at, dead, or_explicit, read_by, Guise, bare, plain, under, is_other, set_item_at, set_of_done, set_of_at}
+use Rattle.ber_spelling.specs.Rules.{Reader, is_opened, expect_at, some_or_refuse, form_at, primitive_at, always, boolean_rule, is_strict_boolean, integer_rule, enumerated_rule, null_rule, object_id_rule, constructed_at, finish, item_at, items_at, all_items_at, segment_tag, nothing, segment_rule, segment_at, segmented_at, string_rule, string_at, whole_octets, whole_text, whole_bits, has_zero_bits, list_item_at, list_done, list_at, first_of, last_of, open_at, close_at, explicit_at, is_part, present_at, part_at, parts_at, sequence_at, nothing_filled, set_done, alone, cut_behind, late_kind, late_at, ordered_at, is_free, fill_at, slot_at, choice_at, anew, sized_at, marked_at, whole_at, any_at, dead, or_explicit, read_by, Guise, bare, plain, under, is_other, set_item_at, set_of_done, set_of_at}
 use Rattle.ber_spelling.proofs.Steady.{Run, RunOf}
 use Rattle.ber_spelling.proofs.Constructed.{BodyOf}
 use Rattle.ber_spelling.proofs.Strict.{lax, Formal, same, Formal-bind, Formal-same, Formal-cond, Formal-asked, Formal-refl, lax_extent, extent_lax, contents_lax, look_lax, NoTag, NoTag-bind, extent_no_tag, contents_no_tag}
@@ -47,7 +47,7 @@ prim_formal {A} rule canonical tag = record {
   each = λ scope o s.
       Formal-same same (expect_at tag false o) _ _ (λ u.
       Formal-bind same same (contents_at scope s.place s.rest) (contents_at (lax scope) s.place s.rest) _ _ (contents_lax scope s.place s.rest) (λ c.
-      Formal-same same (judge c.0 (λ (x : A). x) (rule c.1)) _ _ (λ found.
+      Formal-same same (some_or_refuse c.0 (λ (x : A). x) (rule c.1)) _ _ (λ found.
       Formal-bind same same (form_at scope c.0 (canonical c.1)) (form_at (lax scope) c.0 (canonical c.1)) _ _ (form_formal scope c.0 (canonical c.1)) (λ u. refl))));
 }
 
@@ -91,7 +91,7 @@ segment_formal kind (suc depth) before = record {
 
 -- behind the length of a string in segments
 abbrev segments_then : StringKind → (Gathered → Option Value) → ℕ → Scope × Spot → Reading (Value × Spot)
-segments_then kind whole place x = all_items_at (segment_at kind 32) some_gathered nothing x.0 x.1 >>= λ g. judge place (λ (v : Value). v) (whole g.0) >>= λ v. Ok (v, g.1)
+segments_then kind whole place x = all_items_at (segment_at kind 32) some_gathered nothing x.0 x.1 >>= λ g. some_or_refuse place (λ (v : Value). v) (whole g.0) >>= λ v. Ok (v, g.1)
 
 segmented_formal : (kind : StringKind) (whole : Gathered → Option Value) (tag : tags.Tag) → FormalRun (segmented_at kind whole tag)
 unfolding segmented_at
@@ -101,7 +101,7 @@ segmented_formal kind whole tag = record {
       Formal-bind same same (form_at scope o.start.place false) (form_at (lax scope) o.start.place false) _ _ (form_formal scope o.start.place false) (λ u.
       Formal-bind lax_extent same (extent_at scope s.place s.rest) (extent_at (lax scope) s.place s.rest) (segments_then kind whole o.start.place) (segments_then kind whole o.start.place) (extent_lax scope s.place s.rest) (λ x.
       Formal-bind same same (all_items_at (segment_at kind 32) some_gathered nothing x.0 x.1) (all_items_at (segment_at kind 32) some_gathered nothing (lax x.0) x.1) _ _ ((all_formal (segment_at kind 32) some_gathered (λ a. segment_formal kind 32 a) nothing).each x.0 x.1) (λ g.
-      Formal-same same (judge o.start.place (λ (v : Value). v) (whole g.0)) _ _ (λ v. refl)))));
+      Formal-same same (some_or_refuse o.start.place (λ (v : Value). v) (whole g.0)) _ _ (λ v. refl)))));
 }
 
 string_formal : (kind : StringKind) (whole : Gathered → Option Value) (canonical : List ℕ → Bool) (tag : tags.Tag) → FormalRun (string_at kind whole canonical tag)

@@ -12,7 +12,7 @@ use Rattle.ber_spelling.specs.declared.spot.StringKind.{StringKind}
 use Rattle.ber_spelling.specs.declared.spot.Gathered.{Gathered}
 use Rattle.ber_spelling.specs.Reading.{Spot, Opened, ended, begun, Reading, ◌>>=◌, FailsWith, refuse}
 use Rattle.ber_spelling.specs.Fields.{extent_at, look_at}
-use Rattle.ber_spelling.specs.Rules.{expect_at, judge, form_at, item_at, items_at, all_items_at, constructed_at, primitive_at, always, segment_tag, nothing, segment_rule, segment_at, segmented_at, anew, sized_at, marked_at, whole_at}
+use Rattle.ber_spelling.specs.Rules.{expect_at, some_or_refuse, form_at, item_at, items_at, all_items_at, constructed_at, primitive_at, always, segment_tag, nothing, segment_rule, segment_at, segmented_at, anew, sized_at, marked_at, whole_at}
 use Rattle.ber_spelling.proofs.Steps.{FailsWith-bind, FailsWith-same}
 use Rattle.ber_spelling.proofs.Steady.{form_passes}
 
@@ -63,7 +63,7 @@ bind_is r f x e = ap (λ y. y >>= f) e
 
 pub segmented_gives : (kind : StringKind) (whole : Gathered → Option Value) (tag : tags.Tag) (scope x : Scope) (o : Opened) (s m after : Spot) (u : Unit {0}) (g : Gathered) → expect_at tag true o ≡ Ok u → scope.strict ≡ false
     → extent_at scope s.place s.rest ≡ Ok (x, m) → all_items_at (segment_at kind 32) (λ (h : Gathered). Some h) nothing x m ≡ Ok (g, after)
-    → (judge o.start.place (λ (v : Value). v) (whole g) >>= λ v. Ok (v, after)) ≡ segmented_at kind whole tag scope o s
+    → (some_or_refuse o.start.place (λ (v : Value). v) (whole g) >>= λ v. Ok (v, after)) ≡ segmented_at kind whole tag scope o s
 unfolding segmented_at
 segmented_gives kind whole tag scope x o s m after u g expected lax extent gathered =
     sym (bind_is (expect_at tag true o) _ u expected

@@ -25,7 +25,7 @@ use Rattle.ber_spelling.specs.declared.spot.Gathered.{Gathered}
 use Rattle.ber_spelling.specs.Order.{Filled}
 use Rattle.ber_spelling.specs.Reading.{Spot, Opened, Ahead, ended, begun, Reading, ◌>>=◌, refuse}
 use Rattle.ber_spelling.specs.Fields.{extent_at, contents_at, look_at}
-use Rattle.ber_spelling.specs.Rules.{Reader, expect_at, judge, form_at, primitive_at, always, boolean_rule, is_strict_boolean, integer_rule, enumerated_rule, null_rule, object_id_rule, constructed_at, finish, item_at, items_at, all_items_at, segment_tag, nothing, segment_rule, segment_at, segmented_at, string_rule, string_at, whole_octets, whole_text, whole_bits, has_zero_bits, list_item_at, list_done, list_at, first_of, last_of, open_at, close_at, explicit_at, is_part, present_at, part_at, parts_at, sequence_at, nothing_filled, set_done, alone, cut_behind, late_kind, late_at, ordered_at, is_free, fill_at, slot_at, choice_at, anew, whole_at, any_at, dead, or_explicit, read_by, Guise, bare, plain, under, is_other, set_item_at, set_of_done, set_of_at}
+use Rattle.ber_spelling.specs.Rules.{Reader, expect_at, some_or_refuse, form_at, primitive_at, always, boolean_rule, is_strict_boolean, integer_rule, enumerated_rule, null_rule, object_id_rule, constructed_at, finish, item_at, items_at, all_items_at, segment_tag, nothing, segment_rule, segment_at, segmented_at, string_rule, string_at, whole_octets, whole_text, whole_bits, has_zero_bits, list_item_at, list_done, list_at, first_of, last_of, open_at, close_at, explicit_at, is_part, present_at, part_at, parts_at, sequence_at, nothing_filled, set_done, alone, cut_behind, late_kind, late_at, ordered_at, is_free, fill_at, slot_at, choice_at, anew, whole_at, any_at, dead, or_explicit, read_by, Guise, bare, plain, under, is_other, set_item_at, set_of_done, set_of_at}
 use Rattle.ber_spelling.proofs.Steady.{Run, RunOf}
 use Rattle.ber_spelling.proofs.Constructed.{BodyOf}
 use Rattle.ber_spelling.proofs.Identifiers.{bind_ok, ok_is}
@@ -38,7 +38,7 @@ some_gathered g = Some g
 
 -- behind the length of a string in segments
 abbrev segments_then : StringKind → (Gathered → Option Value) → ℕ → Scope × Spot → Reading (Value × Spot)
-segments_then kind whole place x = all_items_at (segment_at kind 32) some_gathered nothing x.0 x.1 >>= λ g. judge place (λ (v : Value). v) (whole g.0) >>= λ v. Ok (v, g.1)
+segments_then kind whole place x = all_items_at (segment_at kind 32) some_gathered nothing x.0 x.1 >>= λ g. some_or_refuse place (λ (v : Value). v) (whole g.0) >>= λ v. Ok (v, g.1)
 
 -- the octets that one whole value took
 abbrev any_of : List ℕ → Unit {0} × Spot → Reading (Value × Spot)
@@ -76,7 +76,7 @@ module _ (m : ℕ) where
     each = λ scope o s le.
         Wider-same same (expect_at tag false o) _ _ (λ u.
         Wider-bind same same (contents_at scope s.place s.rest) (contents_at (wide m scope) s.place s.rest) _ _ (contents_wide m scope s.place s.rest le) (λ c e.
-        Wider-same same (judge c.0 (λ (x : A). x) (rule c.1)) _ _ (λ found.
+        Wider-same same (some_or_refuse c.0 (λ (x : A). x) (rule c.1)) _ _ (λ found.
         Wider-same same (form_at scope c.0 (canonical c.1)) _ _ (λ v. refl))));
   }
 
@@ -125,7 +125,7 @@ module _ (m : ℕ) where
         Wider-bind (wide_extent m) same (extent_at scope s.place s.rest) (extent_at (wide m scope) s.place s.rest) (segments_then kind whole o.start.place) (segments_then kind whole o.start.place) (extent_wide m scope s.place s.rest le) (λ x e.
         Wider-bind same same (all_items_at (segment_at kind 32) some_gathered nothing x.0 x.1) (all_items_at (segment_at kind 32) some_gathered nothing (wide m x.0) x.1) _ _
         ((all_wide (segment_at kind 32) some_gathered (λ a. segment_wide kind 32 a) nothing).each x.0 x.1 (kept m scope s.place s.rest x le e)) (λ g f.
-        Wider-same same (judge o.start.place (λ (v : Value). v) (whole g.0)) _ _ (λ v. refl)))));
+        Wider-same same (some_or_refuse o.start.place (λ (v : Value). v) (whole g.0)) _ _ (λ v. refl)))));
   }
 
   string_wide : (kind : StringKind) (whole : Gathered → Option Value) (canonical : List ℕ → Bool) (tag : tags.Tag) → WideRun m (string_at kind whole canonical tag)

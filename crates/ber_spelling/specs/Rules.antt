@@ -61,9 +61,9 @@ expect_at tag constructed opened = if is_opened tag constructed opened then Ok t
 
 -- ---- primitive values
 
-abbrev pub judge : {A B : Type 0} → ℕ → (A → B) → Option A → Reading B
-judge place made None = refuse place Content
-judge place made (Some x) = Ok (made x)
+abbrev pub some_or_refuse : {A B : Type 0} → ℕ → (A → B) → Option A → Reading B
+some_or_refuse place made None = refuse place Content
+some_or_refuse place made (Some x) = Ok (made x)
 
 -- what DER alone refuses
 abbrev pub form_at : Scope → ℕ → Bool → Reading (Unit {0})
@@ -74,7 +74,7 @@ unfoldable pub primitive_at : {A : Type 0} → (List ℕ → Option A) → (List
 primitive_at {A} rule canonical tag scope opened spot = do
   _ ← expect_at tag false opened
   c ← contents_at scope spot.place spot.rest
-  found ← judge c.0 (λ (x : A). x) (rule c.1)
+  found ← some_or_refuse c.0 (λ (x : A). x) (rule c.1)
   _ ← form_at scope c.0 (canonical c.1)
   Ok (found, c.2)
 
@@ -196,7 +196,7 @@ segmented_at kind whole tag scope opened spot = do
   _ ← form_at scope opened.start.place false
   x ← extent_at scope spot.place spot.rest
   g ← all_items_at (segment_at kind most_levels) (λ (g : Gathered). Some g) nothing x.0 x.1
-  v ← judge opened.start.place (λ (v : Value). v) (whole g.0)
+  v ← some_or_refuse opened.start.place (λ (v : Value). v) (whole g.0)
   Ok (v, g.1)
 
 abbrev pub and_whole : (Gathered → Option Value) → Option Gathered → Option Value

@@ -5,18 +5,18 @@ use Rattle.dialogue.specs.declared.event.Event.{Event}
 use Rattle.dialogue.specs.declared.event.Entry.{Entry}
 use Rattle.stub_tables.specs.declared.tables.Tables.{Tables}
 use Rattle.end_rules.specs.World.{World, Ends, other}
-use Rattle.association_runs.specs.Dealings.{own_at}
-use Rattle.outcome_laws.specs.Deals.{AreDistinct, outcomes_in}
+use Rattle.association_runs.specs.OwnExchanges.{own_at}
+use Rattle.outcome_laws.specs.Exchanges.{AreDistinct, outcomes_in}
 use Rattle.outcome_laws.specs.Outcomes.{AreAllowed, AreAnswers}
 use Rattle.agreement.specs.Sets.Role.{Initiator, Responder}
 use Rattle.osi_base.specs.declared.layer_words.Side.{Side}
 use Rattle.osi_base.specs.declared.layer_words.Side.TheVariants.{A, B}
-use Rattle.end_model.specs.Pairs.{HasCodec}
+use Rattle.end_model.specs.BothEnds.{HasCodec}
 use Rattle.end_rules.specs.Base.{Spellings}
 use Rattle.end_laws.specs.end_wire.Values.{spellings_with}
 use Rattle.end_model.specs.Acting.{ReadsBack}
-use Rattle.end_model.specs.Pairs.{base_at}
-use Rattle.end_model.specs.DirectPairs.{ProposesRightly}
+use Rattle.end_model.specs.BothEnds.{base_at}
+use Rattle.end_model.specs.DirectEnds.{ProposesRightly}
 use Rattle.end_laws.specs.Codecs.{IsDirect}
 use Rattle.end_laws.proofs.Premises.{direct-back, rightly}
 use Rattle.transfer_laws.proofs.Configs.{identifiers-right}

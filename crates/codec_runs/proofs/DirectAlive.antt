@@ -22,8 +22,8 @@ use Rattle.end_rules.specs.World.{World, Ends, is_side}
 use Rattle.agreement.specs.Sets.Role.{Initiator, Responder}
 use Rattle.end_model.specs.Seen.{Free}
 use Rattle.end_model.specs.Acting.{ReadsBack}
-use Rattle.end_model.specs.Pairs.{Common, base_at, WritesAll}
-use Rattle.end_model.specs.DirectPairs.{direct_pair, ProposesRightly}
+use Rattle.end_model.specs.BothEnds.{Common, base_at, WritesAll}
+use Rattle.end_model.specs.DirectEnds.{direct_common, ProposesRightly}
 use Rattle.end_model.specs.Sharing.{side_of}
 use Rattle.end_model.proofs.DirectOpening.{At}
 use Rattle.end_model.proofs.DirectWords.{Stands, IsOver}
@@ -110,7 +110,7 @@ at-alive phase stage body h e = ap is_dead h.phase_is ∙ e
 
 module _ (free : Free) (tables : Tables) (spellings : Spellings) (a b : Config) where
   abbrev common : Common
-  common = direct_pair tables spellings a b
+  common = direct_common tables spellings a b
 
   abbrev ends : Ends
   ends = ends_for common
@@ -140,29 +140,29 @@ module _ (free : Free) (tables : Tables) (spellings : Spellings) (a b : Config) 
   opened-alive x y f g (Standing s t) = (side-alive x f s, side-alive y g t)
 
   module _ (writes : WritesAll free) (back : ReadsBack (base_at Initiator common)) (right : ProposesRightly common) (contexts : ProposesContexts common) where
-    ends-keep : Keeps common (λ w two ledger dealings. NoEnds w)
+    ends-keep : Keeps common (λ w two ledger exchanges. NoEnds w)
     ends-keep = record {
       begins = tt;
-      calls = λ role w two ledger dealings call answer j c h.
+      calls = λ role w two ledger exchanges call answer j c h.
           let due : List Message = due_of (base_at role common) (end_for common role w).body call (Ok answer) in
           none-stepping (side_of role) w (called call (Ok answer) ∷ map sent due) (tt, sents-end due) h;
-      acts = λ role w two ledger dealings own j c h. none-stepping (side_of role) w (step_of own ∷ []) (act-end own) h;
-      takes = λ role w two ledger dealings message left body answers shown j e r h.
+      acts = λ role w two ledger exchanges own j c h. none-stepping (side_of role) w (step_of own ∷ []) (act-end own) h;
+      takes = λ role w two ledger exchanges message left body answers shown j e r h.
           none-stepping (side_of role) w (took message ∷ map (answered message) answers)
           (message-end (base_at Initiator common) (base_at Responder common) message (first-said free tables spellings a b writes back right contexts two ledger j.speaks role message left e), answers-end message answers) h;
-      passes = λ role w two ledger dealings message left j e r h. (tt, h);
-      quiet = λ role w two ledger dealings x q h. (quiet-end x q, h);
-      breaks = λ w two ledger dealings j h. (tt, (tt, h));
+      passes = λ role w two ledger exchanges message left j e r h. (tt, h);
+      quiet = λ role w two ledger exchanges x q h. (quiet-end x q, h);
+      breaks = λ w two ledger exchanges j h. (tt, (tt, h));
     }
 
     module _ (m : IsMeant common) (w : World) (all : List Event) (told : List Entry) (typed : AreEvents all) (r : Runs ends [] all told w) where
       pub nothing-transferred : OneTransfer ends w
-      nothing-transferred = none-transferred ends w (from-start common m (λ w two ledger dealings. NoEnds w) ends-keep w all told typed r).extra
+      nothing-transferred = none-transferred ends w (from-start common m (λ w two ledger exchanges. NoEnds w) ends-keep w all told typed r).extra
 
       pub nobody-dead : NobodyIsDead ends w
-      nobody-dead = go (from-start common m (λ w two ledger dealings. NoEnds w) ends-keep w all told typed r)
+      nobody-dead = go (from-start common m (λ w two ledger exchanges. NoEnds w) ends-keep w all told typed r)
         where
-          go : Joined common (λ w two ledger dealings. NoEnds w) w → NobodyIsDead ends w
+          go : Joined common (λ w two ledger exchanges. NoEnds w) w → NobodyIsDead ends w
           go s A =
               let o = opened-alive s.two.a s.two.b s.two.to_a s.two.to_b (kept-in free tables spellings a b writes back right s.two s.ledger s.joint.speaks.goes).opened in
               ap (λ (y : Body). is_dead y.link.phase) (body-for common Initiator w ∙ s.joint.bodies Initiator) ∙ o.0

@@ -44,8 +44,8 @@ use Rattle.agreement.specs.Sets.{Role, is_initiator}
 use Rattle.agreement.specs.Sets.Role.{Initiator, Responder}
 use Rattle.end_model.specs.Rows.{at}
 use Rattle.end_model.specs.Requests.{sent_all, after_called}
-use Rattle.end_model.specs.Pairs.{Common, base_at}
-use Rattle.end_model.specs.DirectPairs.{direct_pair, ProposesRightly}
+use Rattle.end_model.specs.BothEnds.{Common, base_at}
+use Rattle.end_model.specs.DirectEnds.{direct_common, ProposesRightly}
 use Rattle.end_model.specs.Sharing.{shared_all_sent, shared_all_answered}
 use Rattle.end_model.proofs.Ladder.{called}
 use Rattle.reliable_model.proofs.Fixed.{AreIdentifiers, others-altered, unnamed-unharmed, fixed-unharmed, unproposed, among-first, among-second}
@@ -300,7 +300,7 @@ module _ (base : Base) (side : Side) (body : Body) (shared : Shared) where
 
 module _ (tables : Tables) (spellings : Spellings) (a b : Config) where
   abbrev common : Common
-  common = direct_pair tables spellings a b
+  common = direct_common tables spellings a b
 
   abbrev base : Role → Base
   base role = base_at role common

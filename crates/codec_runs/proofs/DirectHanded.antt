@@ -41,12 +41,12 @@ use Rattle.agreement.specs.Sets.{Role, is_initiator}
 use Rattle.agreement.specs.Sets.Role.{Initiator, Responder}
 use Rattle.end_model.specs.Rows.{at}
 use Rattle.end_model.specs.Requests.{sent_all, after_called}
-use Rattle.end_model.specs.Pairs.{Common, base_at}
-use Rattle.end_model.specs.DirectPairs.{direct_pair}
+use Rattle.end_model.specs.BothEnds.{Common, base_at}
+use Rattle.end_model.specs.DirectEnds.{direct_common}
 use Rattle.end_model.proofs.Ladder.{called, passed}
 use Rattle.end_model.proofs.InvokeRungs.{invokable}
 use Rattle.end_model.proofs.HandingRows.{next-is}
-use Rattle.outcome_laws.specs.Deals.{Asked, asked_by}
+use Rattle.outcome_laws.specs.Exchanges.{Asked, asked_by}
 use Rattle.said_words.specs.Words.{value_of_item, IsWord, IsUnit}
 use Rattle.said_words.proofs.TransferEnds.{is_early}
 use Rattle.run_laws.specs.Outcomes.{Invocation, ToldOutcome, returned, failed, invoked_by, answered_by}
@@ -324,7 +324,7 @@ quiet body later message answers shown r p m e = record { rejects = r; ids = inl
 
 module _ (tables : Tables) (spellings : Spellings) (a b : Config) where
   abbrev common : Common
-  common = direct_pair tables spellings a b
+  common = direct_common tables spellings a b
 
   abbrev base : Role → Base
   base role = base_at role common

@@ -31,12 +31,12 @@ use Rattle.agreement.specs.Sets.Role.{Initiator, Responder}
 use Rattle.end_model.specs.Seen.{Free}
 use Rattle.end_model.specs.Acting.{ReadsBack}
 use Rattle.end_model.specs.Requests.{after_called}
-use Rattle.end_model.specs.Pairs.{Common, base_at, Two, body_at, coming_to, stepped, two_new, both_broke, WritesAll}
-use Rattle.end_model.specs.DirectPairs.{direct_pair, ProposesRightly}
+use Rattle.end_model.specs.BothEnds.{Common, base_at, Two, body_at, coming_to, stepped, two_new, both_broke, WritesAll}
+use Rattle.end_model.specs.DirectEnds.{direct_common, ProposesRightly}
 use Rattle.end_model.specs.Sharing.{side_of, shared_all_sent, shared_all_answered, SetsSent, sets_to, sets_stepped, before, none_sent, Shares}
 use Rattle.end_model.specs.Sharing as sharing
 use Rattle.end_model.proofs.DirectLaws.{direct-as_sent}
-use Rattle.reliable_model.specs.Goes.{Ledger}
+use Rattle.reliable_model.specs.Ledgers.{Ledger}
 use Rattle.reliable_model.proofs.FirmSteps.{in-place, nothing-above}
 use Rattle.reliable_model.proofs.OnWay.{took-unit}
 use Rattle.reliable_model.proofs.Fixed.{AreIdentifiers, listed-identifiers}
@@ -189,7 +189,7 @@ peer-sets Responder left more sets = refl
 
 module _ (free : Free) (tables : Tables) (spellings : Spellings) (a b : Config) where
   abbrev common : Common
-  common = direct_pair tables spellings a b
+  common = direct_common tables spellings a b
 
   abbrev base : Role → Base
   base role = base_at role common
@@ -582,22 +582,22 @@ module _ (free : Free) (tables : Tables) (spellings : Spellings) (a b : Config) 
     at-first A = tt
     at-first B = tt
 
-    pub sent-keeps : Keeps common (λ w two ledger dealings. Sent w two ledger.shared × Ever w)
+    pub sent-keeps : Keeps common (λ w two ledger exchanges. Sent w two ledger.shared × Ever w)
     sent-keeps = record {
       begins = (begun, at-first);
-      calls = λ role w two ledger dealings call answer j c h. (
+      calls = λ role w two ledger exchanges call answer j c h. (
         called-so role w two ledger.shared call answer (end_for common role w).body (j.bodies role) c j.shared h.0,
         all-on role w (called call (Ok answer) ∷ map sent (due_of (base role) (end_for common role w).body call (Ok answer))) (tt, sents-none (due_of (base role) (end_for common role w).body call (Ok answer))) h.1,
       );
-      acts = λ role w two ledger dealings own j c h. let none : None ≡ Some own = sym (no-own free tables spellings a b role (end_for common role w).body) ∙ c in absurd cc;
-      takes = λ role w two ledger dealings message left body answers shown j e r h. (
+      acts = λ role w two ledger exchanges own j c h. let none : None ≡ Some own = sym (no-own free tables spellings a b role (end_for common role w).body) ∙ c in absurd cc;
+      takes = λ role w two ledger exchanges message left body answers shown j e r h. (
         taken-so role w two ledger message left body answers shown j.speaks j.shared e r h.0,
         all-on role (record { side = side_of role; step = took message } ∷ w) (map (answered message) answers) (answers-none message answers) (took-on role w two ledger message left body answers shown j.speaks e r h.0 h.1),
       );
-      passes = λ role w two ledger dealings message left j e r h. (passed-so role w two ledger.shared message left e r h.0, passed-on role w two ledger.shared message left e h.0 h.1);
-      quiet = λ role w two ledger dealings x q h. (quiet-so role w two ledger.shared x q h.0, stepped-on role w x (quiet-none x q) h.1);
-      breaks = λ w two ledger dealings j h. (broke-so w two ledger.shared h.0, stepped-on Responder (record { side = A; step = broke } ∷ w) broke tt (stepped-on Initiator w broke tt h.1));
+      passes = λ role w two ledger exchanges message left j e r h. (passed-so role w two ledger.shared message left e r h.0, passed-on role w two ledger.shared message left e h.0 h.1);
+      quiet = λ role w two ledger exchanges x q h. (quiet-so role w two ledger.shared x q h.0, stepped-on role w x (quiet-none x q) h.1);
+      breaks = λ w two ledger exchanges j h. (broke-so w two ledger.shared h.0, stepped-on Responder (record { side = A; step = broke } ∷ w) broke tt (stepped-on Initiator w broke tt h.1));
     }
 
     pub taken-as-sent : IsMeant common → (w : World) (all : List Event) (told : List Entry) → AreEvents all → Runs ends [] all told w → Ever w
-    taken-as-sent m w all told typed r = (from-start common m (λ w two ledger dealings. Sent w two ledger.shared × Ever w) sent-keeps w all told typed r).extra.1
+    taken-as-sent m w all told typed r = (from-start common m (λ w two ledger exchanges. Sent w two ledger.shared × Ever w) sent-keeps w all told typed r).extra.1

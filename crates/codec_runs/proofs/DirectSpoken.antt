@@ -7,10 +7,10 @@ use Rattle.end_rules.specs.State.{Body, holds_turn}
 use Rattle.end_rules.specs.ByItself.{next_own}
 use Rattle.agreement.specs.Sets.{Role}
 use Rattle.agreement.specs.Sets.Role.{Initiator, Responder}
-use Rattle.end_model.specs.Pairs.{Common, base_at, Two, body_at, Reached, HasCodec}
-use Rattle.end_model.specs.Pairs as pairs
-use Rattle.reliable_model.specs.Goes.{Ledger, Goes}
-use Rattle.reliable_model.specs.Goes as goes
+use Rattle.end_model.specs.BothEnds.{Common, base_at, Two, body_at, Reached, HasCodec}
+use Rattle.end_model.specs.BothEnds as both_ends
+use Rattle.reliable_model.specs.Ledgers.{Ledger, ReachedWithLedger}
+use Rattle.reliable_model.specs.Ledgers as ledgers
 use Rattle.association_worlds.specs.Laws.{IsMeant, SaidIsMeant}
 use Rattle.association_worlds.proofs.Heard.{meant-heard}
 use Rattle.association_worlds.proofs.Kept.{spelled}
@@ -28,14 +28,14 @@ module _ (tables : Tables) (transfers : Transfers) (a b : Config) where
   no-own Initiator body = refl
   no-own Responder body = refl
 
-  pub reached : (two : Two) (ledger : Ledger) → Goes (direct_ends tables transfers a b) two ledger → Reached (direct_ends tables transfers a b) two
-  reached two ledger goes.begins = pairs.begins
-  reached two ledger (goes.calls before l role call answer g c) = pairs.calls before role call answer (reached before l g) c
-  reached two ledger (goes.acts before l role own g c) = let none : None ≡ Some own = sym (no-own role (body_at role before)) ∙ c in absurd cc
-  reached two ledger (goes.takes before l role message left body answers shown g e r) = pairs.takes before role message left body answers shown (reached before l g) e r
-  reached two ledger (goes.passes before l role message left g e r) = pairs.passes before role message left (reached before l g) e r
-  reached two ledger (goes.fails before l role message left fault body aborts shown g e r) = pairs.fails before role message left fault body aborts shown (reached before l g) e r
-  reached two ledger (goes.breaks before l g) = pairs.breaks before (reached before l g)
+  pub reached : (two : Two) (ledger : Ledger) → ReachedWithLedger (direct_ends tables transfers a b) two ledger → Reached (direct_ends tables transfers a b) two
+  reached two ledger ledgers.begins = both_ends.begins
+  reached two ledger (ledgers.calls before l role call answer g c) = both_ends.calls before role call answer (reached before l g) c
+  reached two ledger (ledgers.acts before l role own g c) = let none : None ≡ Some own = sym (no-own role (body_at role before)) ∙ c in absurd cc
+  reached two ledger (ledgers.takes before l role message left body answers shown g e r) = both_ends.takes before role message left body answers shown (reached before l g) e r
+  reached two ledger (ledgers.passes before l role message left g e r) = both_ends.passes before role message left (reached before l g) e r
+  reached two ledger (ledgers.fails before l role message left fault body aborts shown g e r) = both_ends.fails before role message left fault body aborts shown (reached before l g) e r
+  reached two ledger (ledgers.breaks before l g) = both_ends.breaks before (reached before l g)
 
 module _ (law : SaidIsMeant) (take : DirectEndsTake) (codec : HasCodec) (is_said : DirectIsSaid) (tables : Tables) (transfers : Transfers) (a b : Config) (e : AreEnds tables a b) where
   pub direct : IsDirect a

@@ -27,17 +27,17 @@ use Rattle.agreement.specs.Sets.Role.{Initiator, Responder}
 use Rattle.end_model.specs.Seen.{Free}
 use Rattle.end_model.specs.Acting.{ReadsBack, apdus_of}
 use Rattle.end_model.specs.Requests.{after_called}
-use Rattle.end_model.specs.Pairs as pairs
-use Rattle.end_model.specs.Pairs.{Common, base_at, Two, coming_to, stepped, two_new, both_broke, WritesAll}
-use Rattle.end_model.specs.DirectPairs.{direct_pair, ProposesRightly}
+use Rattle.end_model.specs.BothEnds as both_ends
+use Rattle.end_model.specs.BothEnds.{Common, base_at, Two, coming_to, stepped, two_new, both_broke, WritesAll}
+use Rattle.end_model.specs.DirectEnds.{direct_common, ProposesRightly}
 use Rattle.end_model.specs.Sharing.{side_of}
 use Rattle.end_model.proofs.DirectMachine as machine
 use Rattle.end_model.proofs.DirectMachine.{Fresh, Calling, Confirming, Connecting, Accepting, Refusing, Deaf, Gone, Standing}
 use Rattle.end_model.proofs.DirectWords.{AreOwn, Stands, IsOver}
 use Rattle.dialogue.specs.declared.config.Phase.TheVariants.{Over}
-use Rattle.reliable_model.specs.Goes.{Ledger}
+use Rattle.reliable_model.specs.Ledgers.{Ledger}
 use Rattle.reliable_model.proofs.FirmSteps.{in-place}
-use Rattle.outcome_laws.specs.Deals.{Asked, asked_by, Dealings, Deals, dealt_of, on_dealt, calls_so, gets, stays, takes_so, meets, loses, nothing_dealt, still_after}
+use Rattle.outcome_laws.specs.Exchanges.{Asked, asked_by, Exchanges, ReachedWithExchanges, exchange_of, on_exchange, calls_so, gets, stays, takes_so, meets, loses, nothing_exchanged, still_after}
 use Rattle.outcome_laws.proofs.Once.{keeps, still-keeps, once}
 use Rattle.outcome_laws.proofs.Links.{links-are-allowed}
 use Rattle.outcome_laws.proofs.Transferred.{shown_of, shows-so}
@@ -69,7 +69,7 @@ use Rattle.codec_runs.proofs.DirectHanded.{AllHold, all-on, hold-append, Holds, 
 use Rattle.codec_runs.proofs.DirectSent.{took-word, first-said}
 
 -- ---- what is kept of one end: what it made itself, what the other made and gave, all that it was shown, its body, how many invocations
--- the other made, what comes to it, and its dealings since its association began
+-- the other made, what comes to it, and its exchanges since its association began
 
 pub record Facts (tables : Tables) (own made : List Invocation) (given : List ToldOutcome) (seen : List Indication) (body : Body) (count : ℕ) (coming : List Message) (asked : List Asked) (shown : List Indication) : Type 0 where
   pub coming_so : AllHold tables made given coming
@@ -227,7 +227,7 @@ changed tables own own_now made made_now given given_now seen seen_now body coun
 
 module _ (free : Free) (tables : Tables) (spellings : Spellings) (a b : Config) where
   abbrev common : Common
-  common = direct_pair tables spellings a b
+  common = direct_common tables spellings a b
 
   abbrev base : Role → Base
   base role = base_at role common
@@ -241,9 +241,9 @@ module _ (free : Free) (tables : Tables) (spellings : Spellings) (a b : Config) 
   abbrev pub given : Role → World → List ToldOutcome
   given role w = calls_at answered_by (side_of role) w
 
-  abbrev pub Told : Role → World → Two → Dealings → Type 0
-  Told role w two dealings =
-      Facts tables (made role w) (made (other role) w) (given (other role) w) (seen_at ends (side_of role) w) (pairs.body_at role two) (pairs.body_at (other role) two).calls.made (coming_to role two) (dealt_of role dealings).asked (dealt_of role dealings).shown
+  abbrev pub Told : Role → World → Two → Exchanges → Type 0
+  Told role w two exchanges =
+      Facts tables (made role w) (made (other role) w) (given (other role) w) (seen_at ends (side_of role) w) (both_ends.body_at role two) (both_ends.body_at (other role) two).calls.made (coming_to role two) (exchange_of role exchanges).asked (exchange_of role exchanges).shown
 
   -- ---- what steps add to what was made and given
 
@@ -257,7 +257,7 @@ module _ (free : Free) (tables : Tables) (spellings : Spellings) (a b : Config) 
 
   module _ (writes : WritesAll free) (back : ReadsBack (base Initiator)) (right : ProposesRightly common) (contexts : ProposesContexts common) where
     -- an opening is taken before an association stands
-    connect-early : (two : Two) (ledger : Ledger) → Speaks common two ledger → (role : Role) (message : Message) (left : List Message) (body : Body) (answers : List Message) (shown : List Indication) → coming_to role two ≡ message ∷ left → react (base role) (pairs.body_at role two) message ≡ Takes body answers shown → IsConnect message → is_early (pairs.body_at role two).link.phase ≡ true
+    connect-early : (two : Two) (ledger : Ledger) → Speaks common two ledger → (role : Role) (message : Message) (left : List Message) (body : Body) (answers : List Message) (shown : List Indication) → coming_to role two ≡ message ∷ left → react (base role) (both_ends.body_at role two) message ≡ Takes body answers shown → IsConnect message → is_early (both_ends.body_at role two).link.phase ≡ true
     connect-early two ledger s role (Transport unit) left body answers shown e r c = absurd c
     connect-early two ledger s role (Session (OfData word)) left body answers shown e r c = absurd c
     connect-early two ledger s role (Session (OfMarks word)) left body answers shown e r c = absurd c
@@ -338,27 +338,27 @@ module _ (free : Free) (tables : Tables) (spellings : Spellings) (a b : Config) 
     heard-holds role body own outcomes (Session (OfActivities word)) h = absurd h
 
     -- what is shown is what the other end handed in
-    now-noted : (role : Role) (w : World) (two : Two) (ledger : Ledger) (dealings : Dealings) (message : Message) (left : List Message) (body : Body) (answers : List Message) (shown : List Indication) → Joint common w two ledger dealings → coming_to role two ≡ message ∷ left → react (base role) (pairs.body_at role two) message ≡ Takes body answers shown → Told role w two dealings
+    now-noted : (role : Role) (w : World) (two : Two) (ledger : Ledger) (exchanges : Exchanges) (message : Message) (left : List Message) (body : Body) (answers : List Message) (shown : List Indication) → Joint common w two ledger exchanges → coming_to role two ≡ message ∷ left → react (base role) (both_ends.body_at role two) message ≡ Takes body answers shown → Told role w two exchanges
         → AreNoted tables (made role w) (made (other role) w) (given (other role) w) shown
-    now-noted role w two ledger dealings message left body answers shown j e r x =
+    now-noted role w two ledger exchanges message left body answers shown j e r x =
         let h = first-holds tables _ _ _ _ _ _ _ _ _ x message left e in
-        subst (AreNoted tables (made role w) (made (other role) w) (given (other role) w)) (sym (shows-so (base role) (pairs.body_at role two) message body answers shown r))
-        (message-noted (base role) (made role w) (made (other role) w) (given (other role) w) (dealt_of role dealings).asked (pairs.body_at role two) message (dealt_of role dealings).shown x.asked_so (once common two ledger dealings j.deals role) (heard-holds role (pairs.body_at role two) (made (other role) w) (given (other role) w) message h.0))
+        subst (AreNoted tables (made role w) (made (other role) w) (given (other role) w)) (sym (shows-so (base role) (both_ends.body_at role two) message body answers shown r))
+        (message-noted (base role) (made role w) (made (other role) w) (given (other role) w) (exchange_of role exchanges).asked (both_ends.body_at role two) message (exchange_of role exchanges).shown x.asked_so (once common two ledger exchanges j.reached_exchanges role) (heard-holds role (both_ends.body_at role two) (made (other role) w) (given (other role) w) message h.0))
 
-    abbrev pub BothTold : World → Two → Ledger → Dealings → Type 0
-    BothTold w two ledger dealings = (r : Role) → Told r w two dealings
+    abbrev pub BothTold : World → Two → Ledger → Exchanges → Type 0
+    BothTold w two ledger exchanges = (r : Role) → Told r w two exchanges
 
     -- ---- all steps
 
-    called-told : (role : Role) (w : World) (two : Two) (ledger : Ledger) (dealings : Dealings) (call : Call) (answer : Option ℤ) (y : Body) → y ≡ pairs.body_at role two → can_call (base role) y call ≡ Ok answer → BothTold w two ledger dealings
+    called-told : (role : Role) (w : World) (two : Two) (ledger : Ledger) (exchanges : Exchanges) (call : Call) (answer : Option ℤ) (y : Body) → y ≡ both_ends.body_at role two → can_call (base role) y call ≡ Ok answer → BothTold w two ledger exchanges
         → (r : Role) → Told r (stepping (side_of role) w (called call (Ok answer) ∷ map sent (due_of (base role) y call (Ok answer)))) (stepped role (after_called Direct (base role) y call answer) (coming_to role two) (due_of (base role) y call (Ok answer)) two)
-        (on_dealt role (calls_so (apdus_of (base role) y call answer) (asked_by call answer)) (gets (due_of (base role) y call (Ok answer))) dealings)
-    called-told role w two ledger dealings call answer y e c x r =
+        (on_exchange role (calls_so (apdus_of (base role) y call answer) (asked_by call answer)) (gets (due_of (base role) y call (Ok answer))) exchanges)
+    called-told role w two ledger exchanges call answer y e c x r =
         subst (λ (z : Body). can_call (base role) z call ≡ Ok answer → Told r (stepping (side_of role) w (called call (Ok answer) ∷ map sent (due_of (base role) z call (Ok answer)))) (stepped role (after_called Direct (base role) z call answer) (coming_to role two) (due_of (base role) z call (Ok answer)) two)
-        (on_dealt role (calls_so (apdus_of (base role) z call answer) (asked_by call answer)) (gets (due_of (base role) z call (Ok answer))) dealings)) (sym e) (here role r) c
+        (on_exchange role (calls_so (apdus_of (base role) z call answer) (asked_by call answer)) (gets (due_of (base role) z call (Ok answer))) exchanges)) (sym e) (here role r) c
       where
-        here : (role r : Role) → can_call (base role) (pairs.body_at role two) call ≡ Ok answer → Told r (stepping (side_of role) w (called call (Ok answer) ∷ map sent (due_of (base role) (pairs.body_at role two) call (Ok answer)))) (stepped role (after_called Direct (base role) (pairs.body_at role two) call answer) (coming_to role two) (due_of (base role) (pairs.body_at role two) call (Ok answer)) two)
-            (on_dealt role (calls_so (apdus_of (base role) (pairs.body_at role two) call answer) (asked_by call answer)) (gets (due_of (base role) (pairs.body_at role two) call (Ok answer))) dealings)
+        here : (role r : Role) → can_call (base role) (both_ends.body_at role two) call ≡ Ok answer → Told r (stepping (side_of role) w (called call (Ok answer) ∷ map sent (due_of (base role) (both_ends.body_at role two) call (Ok answer)))) (stepped role (after_called Direct (base role) (both_ends.body_at role two) call answer) (coming_to role two) (due_of (base role) (both_ends.body_at role two) call (Ok answer)) two)
+            (on_exchange role (calls_so (apdus_of (base role) (both_ends.body_at role two) call answer) (asked_by call answer)) (gets (due_of (base role) (both_ends.body_at role two) call (Ok answer))) exchanges)
         here Initiator Initiator c =
             let due : List Message = due_of (base Initiator) two.a call (Ok answer) in
             let xs : List Step = called call (Ok answer) ∷ map sent due in
@@ -380,35 +380,35 @@ module _ (free : Free) (tables : Tables) (spellings : Spellings) (a b : Config) 
             changed tables _ _ _ _ _ _ _ _ _ _ _ _ _ (peer-calls invoked_by B w xs) (calls-more invoked_by Responder w call answer due) (calls-more answered_by Responder w call answer due) (peer-same ends B w xs)
             (peer-called tables _ _ _ _ _ _ _ _ _ (x Initiator) (base Responder) two.b call answer refl refl (call-hands (base Responder) two.b call answer c))
 
-    shown-so : (role : Role) (w : World) (two : Two) (ledger : Ledger) (dealings : Dealings) (message : Message) (body : Body) (answers : List Message) (shown : List Indication) → Joint common w two ledger dealings → react (base role) (pairs.body_at role two) message ≡ Takes body answers shown → shown_in (react (base role) (sides.body_at ends (side_of role) w) message) ≡ shown
-    shown-so role w two ledger dealings message body answers shown j r =
+    shown-so : (role : Role) (w : World) (two : Two) (ledger : Ledger) (exchanges : Exchanges) (message : Message) (body : Body) (answers : List Message) (shown : List Indication) → Joint common w two ledger exchanges → react (base role) (both_ends.body_at role two) message ≡ Takes body answers shown → shown_in (react (base role) (sides.body_at ends (side_of role) w) message) ≡ shown
+    shown-so role w two ledger exchanges message body answers shown j r =
         ap (λ (y : Body). shown_in (react (base role) y message)) (body-for common role w ∙ j.bodies role) ∙ ap shown_in r
 
-    taken-told : (role : Role) (w : World) (two : Two) (ledger : Ledger) (dealings : Dealings) (message : Message) (left : List Message) (body : Body) (answers : List Message) (shown : List Indication) → Joint common w two ledger dealings → coming_to role two ≡ message ∷ left → react (base role) (pairs.body_at role two) message ≡ Takes body answers shown → BothTold w two ledger dealings
-        → (r : Role) → Told r (stepping (side_of role) w (took message ∷ map (answered message) answers)) (stepped role body left answers two) (on_dealt role (takes_so (base role) (pairs.body_at role two) message shown) (gets answers) dealings)
-    taken-told Initiator w two ledger dealings message left body answers shown j e r x Initiator =
+    taken-told : (role : Role) (w : World) (two : Two) (ledger : Ledger) (exchanges : Exchanges) (message : Message) (left : List Message) (body : Body) (answers : List Message) (shown : List Indication) → Joint common w two ledger exchanges → coming_to role two ≡ message ∷ left → react (base role) (both_ends.body_at role two) message ≡ Takes body answers shown → BothTold w two ledger exchanges
+        → (r : Role) → Told r (stepping (side_of role) w (took message ∷ map (answered message) answers)) (stepped role body left answers two) (on_exchange role (takes_so (base role) (both_ends.body_at role two) message shown) (gets answers) exchanges)
+    taken-told Initiator w two ledger exchanges message left body answers shown j e r x Initiator =
         let i = first-said free tables spellings a b writes back right contexts two ledger j.speaks Initiator message left e in
         let h = hands Initiator two.a message body answers shown i r in
         let xs : List Step = took message ∷ map (answered message) answers in
         changed tables _ _ _ _ _ _ _ _ _ _ _ _ _ (calls-same invoked_by Initiator w xs (answers-call invoked_by message answers)) (peer-calls invoked_by A w xs) (peer-calls answered_by A w xs)
-        (took-seen Initiator w message answers ∙ ap (λ (l : List Indication). seen_at ends A w ++ l) (shown-so Initiator w two ledger dealings message body answers shown j r))
+        (took-seen Initiator w message answers ∙ ap (λ (l : List Indication). seen_at ends A w ++ l) (shown-so Initiator w two ledger exchanges message body answers shown j r))
         (own-took tables _ _ _ _ _ _ _ _ _ (x Initiator) (base Initiator) message left body answers shown e (connect-early two ledger j.speaks Initiator message left body answers shown e r)
-        (now-noted Initiator w two ledger dealings message left body answers shown j e r (x Initiator)) h)
-    taken-told Initiator w two ledger dealings message left body answers shown j e r x Responder =
+        (now-noted Initiator w two ledger exchanges message left body answers shown j e r (x Initiator)) h)
+    taken-told Initiator w two ledger exchanges message left body answers shown j e r x Responder =
         let i = first-said free tables spellings a b writes back right contexts two ledger j.speaks Initiator message left e in
         let h = hands Initiator two.a message body answers shown i r in
         let xs : List Step = took message ∷ map (answered message) answers in
         changed tables _ _ _ _ _ _ _ _ _ _ _ _ _ (peer-calls invoked_by A w xs) (calls-same invoked_by Initiator w xs (answers-call invoked_by message answers)) (calls-same answered_by Initiator w xs (answers-call answered_by message answers)) (peer-same ends A w xs)
         (peer-took tables _ _ _ _ _ _ _ _ _ (x Responder) body.calls.made answers (h.counted (λ c. ((x Initiator).young (connect-early two ledger j.speaks Initiator message left body answers shown e r c)).1)) h.rejects)
-    taken-told Responder w two ledger dealings message left body answers shown j e r x Responder =
+    taken-told Responder w two ledger exchanges message left body answers shown j e r x Responder =
         let i = first-said free tables spellings a b writes back right contexts two ledger j.speaks Responder message left e in
         let h = hands Responder two.b message body answers shown i r in
         let xs : List Step = took message ∷ map (answered message) answers in
         changed tables _ _ _ _ _ _ _ _ _ _ _ _ _ (calls-same invoked_by Responder w xs (answers-call invoked_by message answers)) (peer-calls invoked_by B w xs) (peer-calls answered_by B w xs)
-        (took-seen Responder w message answers ∙ ap (λ (l : List Indication). seen_at ends B w ++ l) (shown-so Responder w two ledger dealings message body answers shown j r))
+        (took-seen Responder w message answers ∙ ap (λ (l : List Indication). seen_at ends B w ++ l) (shown-so Responder w two ledger exchanges message body answers shown j r))
         (own-took tables _ _ _ _ _ _ _ _ _ (x Responder) (base Responder) message left body answers shown e (connect-early two ledger j.speaks Responder message left body answers shown e r)
-        (now-noted Responder w two ledger dealings message left body answers shown j e r (x Responder)) h)
-    taken-told Responder w two ledger dealings message left body answers shown j e r x Initiator =
+        (now-noted Responder w two ledger exchanges message left body answers shown j e r (x Responder)) h)
+    taken-told Responder w two ledger exchanges message left body answers shown j e r x Initiator =
         let i = first-said free tables spellings a b writes back right contexts two ledger j.speaks Responder message left e in
         let h = hands Responder two.b message body answers shown i r in
         let xs : List Step = took message ∷ map (answered message) answers in
@@ -416,24 +416,24 @@ module _ (free : Free) (tables : Tables) (spellings : Spellings) (a b : Config) 
         (peer-took tables _ _ _ _ _ _ _ _ _ (x Initiator) body.calls.made answers (h.counted (λ c. ((x Responder).young (connect-early two ledger j.speaks Responder message left body answers shown e r c)).1)) h.rejects)
 
     -- one step that neither calls nor takes
-    step-told : (role : Role) (w : World) (two later : Two) (ledger : Ledger) (dealings after : Dealings) (x : Step) → TakesNone x → all_calls invoked_by (x ∷ []) ≡ [] → all_calls answered_by (x ∷ []) ≡ []
-        → (r : Role) → Facts tables (made r w) (made (other r) w) (given (other r) w) (seen_at ends (side_of r) w) (pairs.body_at r later) (pairs.body_at (other r) later).calls.made (coming_to r later) (dealt_of r after).asked (dealt_of r after).shown
+    step-told : (role : Role) (w : World) (two later : Two) (ledger : Ledger) (exchanges after : Exchanges) (x : Step) → TakesNone x → all_calls invoked_by (x ∷ []) ≡ [] → all_calls answered_by (x ∷ []) ≡ []
+        → (r : Role) → Facts tables (made r w) (made (other r) w) (given (other r) w) (seen_at ends (side_of r) w) (both_ends.body_at r later) (both_ends.body_at (other r) later).calls.made (coming_to r later) (exchange_of r after).asked (exchange_of r after).shown
         → Told r (record { side = side_of role; step = x } ∷ w) later after
-    step-told Initiator w two later ledger dealings after x n e f Initiator h =
+    step-told Initiator w two later ledger exchanges after x n e f Initiator h =
         changed tables _ _ _ _ _ _ _ _ _ _ _ _ _ (calls-same invoked_by Initiator w (x ∷ []) e) (peer-calls invoked_by A w (x ∷ [])) (peer-calls answered_by A w (x ∷ [])) (own-same ends A w (x ∷ []) (n, tt)) h
-    step-told Initiator w two later ledger dealings after x n e f Responder h =
+    step-told Initiator w two later ledger exchanges after x n e f Responder h =
         changed tables _ _ _ _ _ _ _ _ _ _ _ _ _ (peer-calls invoked_by A w (x ∷ [])) (calls-same invoked_by Initiator w (x ∷ []) e) (calls-same answered_by Initiator w (x ∷ []) f) (peer-same ends A w (x ∷ [])) h
-    step-told Responder w two later ledger dealings after x n e f Responder h =
+    step-told Responder w two later ledger exchanges after x n e f Responder h =
         changed tables _ _ _ _ _ _ _ _ _ _ _ _ _ (calls-same invoked_by Responder w (x ∷ []) e) (peer-calls invoked_by B w (x ∷ [])) (peer-calls answered_by B w (x ∷ [])) (own-same ends B w (x ∷ []) (n, tt)) h
-    step-told Responder w two later ledger dealings after x n e f Initiator h =
+    step-told Responder w two later ledger exchanges after x n e f Initiator h =
         changed tables _ _ _ _ _ _ _ _ _ _ _ _ _ (peer-calls invoked_by B w (x ∷ [])) (calls-same invoked_by Responder w (x ∷ []) e) (calls-same answered_by Responder w (x ∷ []) f) (peer-same ends B w (x ∷ [])) h
 
-    passed-told : (role : Role) (w : World) (two : Two) (ledger : Ledger) (dealings : Dealings) (message : Message) (left : List Message) → coming_to role two ≡ message ∷ left → BothTold w two ledger dealings
-        → (r : Role) → Told r (record { side = side_of role; step = passed } ∷ w) (stepped role (pairs.body_at role two) left [] two) (on_dealt role (meets message) stays dealings)
-    passed-told Initiator w two ledger dealings message left e x Initiator = step-told Initiator w two (stepped Initiator two.a left [] two) ledger dealings (on_dealt Initiator (meets message) stays dealings) passed tt refl refl Initiator (own-passed tables _ _ _ _ _ _ _ _ _ (x Initiator) message left e)
-    passed-told Initiator w two ledger dealings message left e x Responder = step-told Initiator w two (stepped Initiator two.a left [] two) ledger dealings (on_dealt Initiator (meets message) stays dealings) passed tt refl refl Responder (peer-took tables _ _ _ _ _ _ _ _ _ (x Responder) two.a.calls.made [] refl tt)
-    passed-told Responder w two ledger dealings message left e x Responder = step-told Responder w two (stepped Responder two.b left [] two) ledger dealings (on_dealt Responder (meets message) stays dealings) passed tt refl refl Responder (own-passed tables _ _ _ _ _ _ _ _ _ (x Responder) message left e)
-    passed-told Responder w two ledger dealings message left e x Initiator = step-told Responder w two (stepped Responder two.b left [] two) ledger dealings (on_dealt Responder (meets message) stays dealings) passed tt refl refl Initiator (peer-took tables _ _ _ _ _ _ _ _ _ (x Initiator) two.b.calls.made [] refl tt)
+    passed-told : (role : Role) (w : World) (two : Two) (ledger : Ledger) (exchanges : Exchanges) (message : Message) (left : List Message) → coming_to role two ≡ message ∷ left → BothTold w two ledger exchanges
+        → (r : Role) → Told r (record { side = side_of role; step = passed } ∷ w) (stepped role (both_ends.body_at role two) left [] two) (on_exchange role (meets message) stays exchanges)
+    passed-told Initiator w two ledger exchanges message left e x Initiator = step-told Initiator w two (stepped Initiator two.a left [] two) ledger exchanges (on_exchange Initiator (meets message) stays exchanges) passed tt refl refl Initiator (own-passed tables _ _ _ _ _ _ _ _ _ (x Initiator) message left e)
+    passed-told Initiator w two ledger exchanges message left e x Responder = step-told Initiator w two (stepped Initiator two.a left [] two) ledger exchanges (on_exchange Initiator (meets message) stays exchanges) passed tt refl refl Responder (peer-took tables _ _ _ _ _ _ _ _ _ (x Responder) two.a.calls.made [] refl tt)
+    passed-told Responder w two ledger exchanges message left e x Responder = step-told Responder w two (stepped Responder two.b left [] two) ledger exchanges (on_exchange Responder (meets message) stays exchanges) passed tt refl refl Responder (own-passed tables _ _ _ _ _ _ _ _ _ (x Responder) message left e)
+    passed-told Responder w two ledger exchanges message left e x Initiator = step-told Responder w two (stepped Responder two.b left [] two) ledger exchanges (on_exchange Responder (meets message) stays exchanges) passed tt refl refl Initiator (peer-took tables _ _ _ _ _ _ _ _ _ (x Initiator) two.b.calls.made [] refl tt)
 
     quiet-takes : (x : Step) → IsQuiet x → TakesNone x
     quiet-takes (called call (Err refusal)) q = tt
@@ -442,42 +442,42 @@ module _ (free : Free) (tables : Tables) (spellings : Spellings) (a b : Config) 
     quiet-takes (gave n) q = tt
     quiet-takes _ q = absurd q
 
-    broke-told : (w : World) (two : Two) (ledger : Ledger) (dealings : Dealings) → BothTold w two ledger dealings → (r : Role) → Told r (record { side = B; step = broke } ∷ record { side = A; step = broke } ∷ w) (both_broke common two) (on_dealt Initiator loses loses dealings)
-    broke-told w two ledger dealings x r =
-        step-told Responder (record { side = A; step = broke } ∷ w) two (both_broke common two) ledger dealings (on_dealt Initiator loses loses dealings) broke tt refl refl r
-        (step-told Initiator w two (both_broke common two) ledger dealings (on_dealt Initiator loses loses dealings) broke tt refl refl r (here r))
+    broke-told : (w : World) (two : Two) (ledger : Ledger) (exchanges : Exchanges) → BothTold w two ledger exchanges → (r : Role) → Told r (record { side = B; step = broke } ∷ record { side = A; step = broke } ∷ w) (both_broke common two) (on_exchange Initiator loses loses exchanges)
+    broke-told w two ledger exchanges x r =
+        step-told Responder (record { side = A; step = broke } ∷ w) two (both_broke common two) ledger exchanges (on_exchange Initiator loses loses exchanges) broke tt refl refl r
+        (step-told Initiator w two (both_broke common two) ledger exchanges (on_exchange Initiator loses loses exchanges) broke tt refl refl r (here r))
       where
-        here : (r : Role) → Facts tables (made r w) (made (other r) w) (given (other r) w) (seen_at ends (side_of r) w) (pairs.body_at r (both_broke common two)) (pairs.body_at (other r) (both_broke common two)).calls.made (coming_to r (both_broke common two)) (dealt_of r (on_dealt Initiator loses loses dealings)).asked (dealt_of r (on_dealt Initiator loses loses dealings)).shown
+        here : (r : Role) → Facts tables (made r w) (made (other r) w) (given (other r) w) (seen_at ends (side_of r) w) (both_ends.body_at r (both_broke common two)) (both_ends.body_at (other r) (both_broke common two)).calls.made (coming_to r (both_broke common two)) (exchange_of r (on_exchange Initiator loses loses exchanges)).asked (exchange_of r (on_exchange Initiator loses loses exchanges)).shown
         here Initiator = own-broke tables _ _ _ _ _ _ _ _ _ (x Initiator) (after_broke (base Initiator) two.a) (after_broke (base Responder) two.b).calls.made refl (broke-early tables spellings a b Initiator two.a)
         here Responder = own-broke tables _ _ _ _ _ _ _ _ _ (x Responder) (after_broke (base Responder) two.b) (after_broke (base Initiator) two.a).calls.made refl (broke-early tables spellings a b Responder two.b)
 
-    first-told : (r : Role) → Told r [] (two_new common) (record { a = nothing_dealt; b = nothing_dealt })
+    first-told : (r : Role) → Told r [] (two_new common) (record { a = nothing_exchanged; b = nothing_exchanged })
     first-told Initiator = record { coming_so = tt; noted = tt; asked_so = tt; same = refl; young = λ e. (refl, refl); good = record { fresh = tt; given = tt } }
     first-told Responder = record { coming_so = tt; noted = tt; asked_so = tt; same = refl; young = λ e. (refl, refl); good = record { fresh = tt; given = tt } }
 
     pub told-keeps : Keeps common BothTold
     told-keeps = record {
       begins = first-told;
-      calls = λ role w two ledger dealings call answer j c h. called-told role w two ledger dealings call answer (end_for common role w).body (j.bodies role) c h;
-      acts = λ role w two ledger dealings own j c h. let none : None ≡ Some own = sym (no-own free tables spellings a b role (end_for common role w).body) ∙ c in absurd cc;
-      takes = λ role w two ledger dealings message left body answers shown j e r h. taken-told role w two ledger dealings message left body answers shown j e r h;
-      passes = λ role w two ledger dealings message left j e r h. passed-told role w two ledger dealings message left e h;
-      quiet = λ role w two ledger dealings x q h r. step-told role w two two ledger dealings dealings x (quiet-takes x q) (quiet-invokes x q) (quiet-answers x q) r (h r);
-      breaks = λ w two ledger dealings j h. broke-told w two ledger dealings h;
+      calls = λ role w two ledger exchanges call answer j c h. called-told role w two ledger exchanges call answer (end_for common role w).body (j.bodies role) c h;
+      acts = λ role w two ledger exchanges own j c h. let none : None ≡ Some own = sym (no-own free tables spellings a b role (end_for common role w).body) ∙ c in absurd cc;
+      takes = λ role w two ledger exchanges message left body answers shown j e r h. taken-told role w two ledger exchanges message left body answers shown j e r h;
+      passes = λ role w two ledger exchanges message left j e r h. passed-told role w two ledger exchanges message left e h;
+      quiet = λ role w two ledger exchanges x q h r. step-told role w two two ledger exchanges exchanges x (quiet-takes x q) (quiet-invokes x q) (quiet-answers x q) r (h r);
+      breaks = λ w two ledger exchanges j h. broke-told w two ledger exchanges h;
     }
 
     -- ---- whole runs
 
     module _ (m : IsMeant common) (w : World) (all : List Event) (told : List Entry) (typed : AreEvents all) (r : Runs ends [] all told w) where
-      role-tells : (role : Role) (two : Two) (ledger : Ledger) (dealings : Dealings) → Deals common two ledger dealings → Told role w two dealings
+      role-tells : (role : Role) (two : Two) (ledger : Ledger) (exchanges : Exchanges) → ReachedWithExchanges common two ledger exchanges → Told role w two exchanges
           → TellsRightly tables (made role w) (made (other role) w) (given (other role) w) (flat_map invocation_in (seen_at ends (side_of role) w)) (flat_map outcome_in (seen_at ends (side_of role) w))
-      role-tells role two ledger dealings d x =
-          tells-rightly tables (made role w) (made (other role) w) (given (other role) w) (dealt_of role dealings).asked (seen_at ends (side_of role) w) (dealt_of role dealings).shown x.same x.asked_so x.noted
-          (fresh-front (invoked_ids (dealt_of role dealings).shown) (all_invokes (coming_to role two)) x.good.fresh) (once common two ledger dealings d role).distinct (links-are-allowed common two ledger dealings d role)
+      role-tells role two ledger exchanges d x =
+          tells-rightly tables (made role w) (made (other role) w) (given (other role) w) (exchange_of role exchanges).asked (seen_at ends (side_of role) w) (exchange_of role exchanges).shown x.same x.asked_so x.noted
+          (fresh-front (invoked_ids (exchange_of role exchanges).shown) (all_invokes (coming_to role two)) x.good.fresh) (once common two ledger exchanges d role).distinct (links-are-allowed common two ledger exchanges d role)
 
       by-side : Joined common BothTold w → (side : Side) → ToldRightly tables ends w side
-      by-side s A = role-tells Initiator s.two s.ledger s.dealings s.joint.deals (s.extra Initiator)
-      by-side s B = role-tells Responder s.two s.ledger s.dealings s.joint.deals (s.extra Responder)
+      by-side s A = role-tells Initiator s.two s.ledger s.exchanges s.joint.reached_exchanges (s.extra Initiator)
+      by-side s B = role-tells Responder s.two s.ledger s.exchanges s.joint.reached_exchanges (s.extra Responder)
 
       pub tell-rightly : OneOutcome tables told
       tell-rightly = one-outcome tables ends w all told r (each-carry-shows common m w all told typed r) (by-side (from-start common m BothTold told-keeps w all told typed r))

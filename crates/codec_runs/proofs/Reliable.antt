@@ -17,20 +17,20 @@ use Rattle.run_laws.specs.Laws.{AtEachMoment, NothingFails, OneHolder}
 use Rattle.association_runs.specs.Worlds.{ends_of, Runs}
 use Rattle.association_runs.specs.Sides.{ends_for}
 use Rattle.association_runs.specs.Arriving.{EachArrivesWhole}
-use Rattle.association_runs.specs.Deeds.{deeds_at}
-use Rattle.association_runs.specs.Dealings.{Own, own_at}
-use Rattle.outcome_laws.specs.Deals.{dealt_of, AreDistinct, outcomes_in}
+use Rattle.association_runs.specs.TransferLogs.{transfer_log_at}
+use Rattle.association_runs.specs.OwnExchanges.{Own, own_at}
+use Rattle.outcome_laws.specs.Exchanges.{exchange_of, AreDistinct, outcomes_in}
 use Rattle.outcome_laws.specs.Outcomes.{AreAllowed, AreAnswers}
 use Rattle.agreement.specs.Laws.{AreFalling}
 use Rattle.agreement.specs.Sets.{Role}
 use Rattle.agreement.specs.Sets.Role.{Initiator, Responder}
 use Rattle.osi_base.specs.declared.layer_words.Side.{Side}
 use Rattle.osi_base.specs.declared.layer_words.Side.TheVariants.{A, B}
-use Rattle.end_model.specs.Pairs.{Two}
-use Rattle.reliable_model.specs.Goes.{Deeds, Encoding, Ledger, Goes, deeds_of}
+use Rattle.end_model.specs.BothEnds.{Two}
+use Rattle.reliable_model.specs.Ledgers.{TransferLog, Encoding, Ledger, ReachedWithLedger, transfer_log_of}
 use Rattle.reliable_model.specs.Transfers.{TakesTransferEnd as Ends_of, ArrivesWhole, IsNewest, item_of, IsOf}
 use Rattle.run_laws.specs.Transfers.{OneTransfer}
-use Rattle.association_runs.proofs.Deeds.{AreDone}
+use Rattle.association_runs.proofs.TransferLogs.{AreDone}
 use Rattle.association_runs.specs.Laws.{AreEvents, AreOneHolder, ReachesMessages, RunsReachMessages, RunsTakeInPlace, RunsShowWhatIsTaken, RunsNeverFail, RunsHaveOneHolder, RunsTransferWhole, RunsTellOneOutcome, RunsLeaveNothingWhole, RunKeepsLaws}
 use Rattle.counted_runs.specs.Laws.{RunsTakeWhatIsWhole}
 use Rattle.codec_runs.specs.ReliableLaws.{AreReliable, ReliableRunsTakeInPlace, ReliableRunsShowWhatIsTaken, ReliableRunsTellOneOutcome, ReliableRunsNeverFail, ReliableRunsHaveOneHolder, ReliableRunsArriveWhole, ReliableRunsArriveOnce, ReliableRunsTellAnswers, ReliableRunsKeepLaws}
@@ -93,18 +93,18 @@ module _ (tables : Tables) (a b : Config) (d : AreReliable tables a b) where
   never : NeverFails (free tables a b d) tables (reliable_ends tables a b).spellings a b
   never two ledger g role message left fault body aborts shown e h = ends-take tables a b d.ends.module_s (of_first tables a b d.ends) (of_second tables a b d.ends) two ledger g role message left fault body aborts shown e h
 
-  whole : (two : Two) (ledger : Ledger) → Goes (reliable_ends tables a b) two ledger → (role : Role) → Ends_of (reliable_ends tables a b) two role → ArrivesWhole (reliable_ends tables a b) two ledger role
+  whole : (two : Two) (ledger : Ledger) → ReachedWithLedger (reliable_ends tables a b) two ledger → (role : Role) → Ends_of (reliable_ends tables a b) two role → ArrivesWhole (reliable_ends tables a b) two ledger role
   whole two ledger g = ends-whole tables a b d.ends.module_s (of_first tables a b d.ends) (of_second tables a b d.ends) two ledger g
 
-  items : (two : Two) (ledger : Ledger) → Goes (reliable_ends tables a b) two ledger → (role : Role) (encoding : Encoding) → IsNewest encoding (deeds_of role ledger.deeds).encoded → IsOf encoding.apdu (item_of encoding.activity (deeds_of role ledger.deeds).started)
+  items : (two : Two) (ledger : Ledger) → ReachedWithLedger (reliable_ends tables a b) two ledger → (role : Role) (encoding : Encoding) → IsNewest encoding (transfer_log_of role ledger.transfer_log).encoded → IsOf encoding.apdu (item_of encoding.activity (transfer_log_of role ledger.transfer_log).started)
   items two ledger g = ends-items tables a b d.ends.module_s (of_first tables a b d.ends) (of_second tables a b d.ends) two ledger g
 
-  falls : (two : Two) (ledger : Ledger) → Goes (reliable_ends tables a b) two ledger → (role : Role) → AreFalling (deeds_of role ledger.deeds).arrived
+  falls : (two : Two) (ledger : Ledger) → ReachedWithLedger (reliable_ends tables a b) two ledger → (role : Role) → AreFalling (transfer_log_of role ledger.transfer_log).arrived
   falls two ledger g role = ends-once tables a b d.ends.module_s (of_first tables a b d.ends) (of_second tables a b d.ends) two ledger g role
 
-  falling : (w : World) → ReachesMessages (reliable_ends tables a b) w → (side : Side) → AreFalling (deeds_at (ends_for (reliable_ends tables a b)) side w).arrived
-  falling w s A = subst (λ (x : Deeds). AreFalling x.arrived) (sym (s.deeds Initiator)) (falls s.two s.ledger s.speaks.goes Initiator)
-  falling w s B = subst (λ (x : Deeds). AreFalling x.arrived) (sym (s.deeds Responder)) (falls s.two s.ledger s.speaks.goes Responder)
+  falling : (w : World) → ReachesMessages (reliable_ends tables a b) w → (side : Side) → AreFalling (transfer_log_at (ends_for (reliable_ends tables a b)) side w).arrived
+  falling w s A = subst (λ (x : TransferLog). AreFalling x.arrived) (sym (s.transfer_log Initiator)) (falls s.two s.ledger s.speaks.goes Initiator)
+  falling w s B = subst (λ (x : TransferLog). AreFalling x.arrived) (sym (s.transfer_log Responder)) (falls s.two s.ledger s.speaks.goes Responder)
 
   one-transfer : RunsReachMessages → RunsTransferWhole → SaidIsMeant → ReliableIsSaid → (all : List Event) (told : List Entry) (w : World) → AreEvents all → Runs (ends_for (reliable_ends tables a b)) [] all told w → OneTransfer (ends_for (reliable_ends tables a b)) w
   one-transfer runs arrive law is_said all told w typed r =
@@ -112,7 +112,7 @@ module _ (tables : Tables) (a b : Config) (d : AreReliable tables a b) where
       let s = runs (reliable_ends tables a b) m all told w typed r in
       let keeps = keep-keeps (free tables a b d) tables (reliable_ends tables a b).spellings a b never (kept tables a b d) in
       transferred-once (ends_for (reliable_ends tables a b)) w (arrive (reliable_ends tables a b) m all told w typed r whole items)
-      (from-start (reliable_ends tables a b) m (λ w two ledger dealings. AreDone (reliable_ends tables a b) w two ledger dealings × KeepThen (ends_for (reliable_ends tables a b)) w) keeps w all told typed r).extra.1
+      (from-start (reliable_ends tables a b) m (λ w two ledger exchanges. AreDone (reliable_ends tables a b) w two ledger exchanges × KeepThen (ends_for (reliable_ends tables a b)) w) keeps w all told typed r).extra.1
       (falling w s)
 
   given : Presumed (free tables a b d) tables (reliable_ends tables a b).spellings a b
@@ -120,7 +120,7 @@ module _ (tables : Tables) (a b : Config) (d : AreReliable tables a b) where
 
 pub arrive-once : RunsReachMessages → SaidIsMeant → ReliableIsSaid → ReliableRunsArriveOnce
 arrive-once runs law is_said tables a b d =
-    over tables a b d (λ ends w. (side : Side) → AreFalling (deeds_at ends side w).arrived) (λ all told w typed r. falling tables a b d w (runs (reliable_ends tables a b) (meant tables a b d law is_said) all told w typed r))
+    over tables a b d (λ ends w. (side : Side) → AreFalling (transfer_log_at ends side w).arrived) (λ all told w typed r. falling tables a b d w (runs (reliable_ends tables a b) (meant tables a b d law is_said) all told w typed r))
 
 pub tell-answers : RunsReachMessages → SaidIsMeant → ReliableIsSaid → ReliableRunsTellAnswers
 tell-answers runs law is_said tables a b d = over tables a b d (λ ends w. (side : Side) → AreAnswers ends.a.tables (own_at ends (other side) w).wrote (own_at ends side w).shown) go
@@ -129,12 +129,12 @@ tell-answers runs law is_said tables a b d = over tables a b d (λ ends w. (side
         → (side : Side) → AreAnswers tables (own_at (ends_for (reliable_ends tables a b)) (other side) w).wrote (own_at (ends_for (reliable_ends tables a b)) side w).shown
     go all told w typed r A =
         let s = runs (reliable_ends tables a b) (meant tables a b d law is_said) all told w typed r in
-        subst (λ (o : Own). AreAnswers tables o.wrote (own_at (ends_for (reliable_ends tables a b)) A w).shown) (sym (s.dealt Responder))
-        (subst (λ (o : Own). AreAnswers tables (dealt_of Responder s.dealings).wrote o.shown) (sym (s.dealt Initiator)) (ends-answers tables a b d.ends.module_s (of_first tables a b d.ends) (of_second tables a b d.ends) s.two s.ledger s.dealings s.deals Initiator))
+        subst (λ (o : Own). AreAnswers tables o.wrote (own_at (ends_for (reliable_ends tables a b)) A w).shown) (sym (s.exchange Responder))
+        (subst (λ (o : Own). AreAnswers tables (exchange_of Responder s.exchanges).wrote o.shown) (sym (s.exchange Initiator)) (ends-answers tables a b d.ends.module_s (of_first tables a b d.ends) (of_second tables a b d.ends) s.two s.ledger s.exchanges s.reached_exchanges Initiator))
     go all told w typed r B =
         let s = runs (reliable_ends tables a b) (meant tables a b d law is_said) all told w typed r in
-        subst (λ (o : Own). AreAnswers tables o.wrote (own_at (ends_for (reliable_ends tables a b)) B w).shown) (sym (s.dealt Initiator))
-        (subst (λ (o : Own). AreAnswers tables (dealt_of Initiator s.dealings).wrote o.shown) (sym (s.dealt Responder)) (ends-answers tables a b d.ends.module_s (of_first tables a b d.ends) (of_second tables a b d.ends) s.two s.ledger s.dealings s.deals Responder))
+        subst (λ (o : Own). AreAnswers tables o.wrote (own_at (ends_for (reliable_ends tables a b)) B w).shown) (sym (s.exchange Initiator))
+        (subst (λ (o : Own). AreAnswers tables (exchange_of Initiator s.exchanges).wrote o.shown) (sym (s.exchange Responder)) (ends-answers tables a b d.ends.module_s (of_first tables a b d.ends) (of_second tables a b d.ends) s.two s.ledger s.exchanges s.reached_exchanges Responder))
 
 -- ---- all of them
 

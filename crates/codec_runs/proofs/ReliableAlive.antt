@@ -17,9 +17,9 @@ use Rattle.end_rules.specs.World.{World}
 use Rattle.end_config.proofs.Proposes.{proposes-rightly}
 use Rattle.agreement.specs.Sets.Role.{Initiator, Responder}
 use Rattle.end_model.specs.Seen.{Free}
-use Rattle.end_model.specs.Pairs.{Two, base_at}
-use Rattle.reliable_model.specs.Goes.{Ledger, Goes}
-use Rattle.reliable_model.specs.ReliablePairs.{IsFit}
+use Rattle.end_model.specs.BothEnds.{Two, base_at}
+use Rattle.reliable_model.specs.Ledgers.{Ledger, ReachedWithLedger}
+use Rattle.reliable_model.specs.ReliableEnds.{IsFit}
 use Rattle.reliable_model.proofs.Fixed.{AreIdentifiers, listed-identifiers}
 use Rattle.reliable_model.proofs.Words.{Side as SideOf, Stands, IsOver}
 use Rattle.reliable_model.proofs.Opening.{Way, First, Again, rests, asks, joins}
@@ -104,7 +104,7 @@ module _ (tables : Tables) (a b : Config) (d : AreReliable tables a b) where
   pub window : nat_eq a.window 0 ≡ false
   window = some-window a.window (has-window a (of_first tables a b d.ends).accepted)
 
-  pub kept : (two : Two) (ledger : Ledger) → Goes (reliable_ends tables a b) two ledger → machine.Kept free tables (reliable_ends tables a b).spellings a b two ledger
+  pub kept : (two : Two) (ledger : Ledger) → ReachedWithLedger (reliable_ends tables a b) two ledger → machine.Kept free tables (reliable_ends tables a b).spellings a b two ledger
   kept two ledger g = all-kept free tables (reliable_ends tables a b).spellings a b presumed two ledger g
 
   pub nobody-dead : (w : World) → ReachesMessages (reliable_ends tables a b) w → NobodyIsDead (ends_for (reliable_ends tables a b)) w

@@ -39,10 +39,10 @@ use Rattle.agreement.specs.Sets.{Role}
 use Rattle.agreement.specs.Sets.Role.{Initiator, Responder}
 use Rattle.end_model.specs.Seen.{Free}
 use Rattle.end_model.specs.Requests.{sent_all, after_called}
-use Rattle.end_model.specs.Pairs.{Common, base_at, Two, body_at, coming_to}
+use Rattle.end_model.specs.BothEnds.{Common, base_at, Two, body_at, coming_to}
 use Rattle.end_model.proofs.Ladder.{called}
-use Rattle.reliable_model.specs.Goes.{Ledger, Goes, begins, calls, acts, takes, passes, fails, breaks, items_by, arrived_by}
-use Rattle.reliable_model.specs.ReliablePairs.{reliable_pair}
+use Rattle.reliable_model.specs.Ledgers.{Ledger, ReachedWithLedger, begins, calls, acts, takes, passes, fails, breaks, items_by, arrived_by}
+use Rattle.reliable_model.specs.ReliableEnds.{reliable_common}
 use Rattle.reliable_model.proofs.FirmSteps.{in-place}
 use Rattle.reliable_model.proofs.OnWay.{took-word}
 use Rattle.reliable_model.proofs.Words.{AreOwn, Side, Stands, IsOver}
@@ -97,7 +97,7 @@ numbers-same false false = refl
 
 module _ (free : Free) (tables : Tables) (spellings : Spellings) (a b : Config) where
   abbrev common : Common
-  common = reliable_pair tables spellings a b
+  common = reliable_common tables spellings a b
 
   abbrev base : Base
   base = base_at Responder common
@@ -204,18 +204,18 @@ module _ (free : Free) (tables : Tables) (spellings : Spellings) (a b : Config) 
   -- ---- all that is reached
 
   abbrev pub Nothing : Two → Ledger → Type 0
-  Nothing two ledger = is_early two.b.link.phase ≡ true → (ledger.deeds.b.started ≡ []) × (ledger.deeds.b.arrived ≡ [])
+  Nothing two ledger = is_early two.b.link.phase ≡ true → (ledger.transfer_log.b.started ≡ []) × (ledger.transfer_log.b.arrived ≡ [])
 
   abbrev pub NeverFails : Type 0
   NeverFails =
-      (two : Two) (ledger : Ledger) → Goes common two ledger → (role : Role) (message : Message) (left : List Message) (fault : Fault) (body : Body) (aborts : List Message) (shown : List Indication) →
+      (two : Two) (ledger : Ledger) → ReachedWithLedger common two ledger → (role : Role) (message : Message) (left : List Message) (fault : Fault) (body : Body) (aborts : List Message) (shown : List Indication) →
       coming_to role two ≡ message ∷ left → react (base_at role common) (body_at role two) message ≡ Fails fault body aborts shown → ⊥
 
   pub own-before : (body : Body) (own : OwnAct) → Before body (after_step base body (step_of own))
   own-before body (SendsNow message) h = sent-before body message h
   own-before body (EncodesOn context) h = h
 
-  pub nothing : NeverFails → (two : Two) (ledger : Ledger) → Goes common two ledger → Nothing two ledger
+  pub nothing : NeverFails → (two : Two) (ledger : Ledger) → ReachedWithLedger common two ledger → Nothing two ledger
   nothing f two ledger begins = λ h. (refl, refl)
   nothing f two ledger (calls x l Initiator call answer g c) = λ h. nothing f x l g h
   nothing f two ledger (calls x l Responder call answer g c) = λ h. nothing f x l g (call-before x.b call answer c h)

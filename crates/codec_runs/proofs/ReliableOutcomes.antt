@@ -34,19 +34,19 @@ use Rattle.agreement.specs.Laws.{AreFalling}
 use Rattle.end_model.specs.Seen.{Free}
 use Rattle.end_model.specs.Acting.{apdus_of}
 use Rattle.end_model.specs.Requests.{after_called}
-use Rattle.end_model.specs.Pairs as pairs
-use Rattle.end_model.specs.Pairs.{Common, base_at, Two, coming_to, stepped, two_new, both_broke}
+use Rattle.end_model.specs.BothEnds as both_ends
+use Rattle.end_model.specs.BothEnds.{Common, base_at, Two, coming_to, stepped, two_new, both_broke}
 use Rattle.end_model.specs.Sharing.{side_of}
 use Rattle.end_model.proofs.OwnActs.{leading}
-use Rattle.reliable_model.specs.Goes as goes
-use Rattle.reliable_model.specs.Goes.{Ledger, Deeds, BothDeeds, Encoding, Goes, deeds_of, on_deeds, first_of, started_by, items_by, arrived_by, own_messages, after_own, after_sending, after_taking, first_ledger}
+use Rattle.reliable_model.specs.Ledgers as ledgers
+use Rattle.reliable_model.specs.Ledgers.{Ledger, TransferLog, TransferLogs, Encoding, ReachedWithLedger, transfer_log_of, on_transfer_log, first_of, started_by, items_by, arrived_by, own_messages, after_own, after_sending, after_taking, first_ledger}
 use Rattle.reliable_model.specs.Transfers as transfers
 use Rattle.reliable_model.specs.Transfers.{ArrivesWhole, IsNewest, item_of, IsOf}
-use Rattle.reliable_model.specs.ReliablePairs.{reliable_pair}
+use Rattle.reliable_model.specs.ReliableEnds.{reliable_common}
 use Rattle.reliable_model.proofs.Machine as machine
 use Rattle.reliable_model.proofs.OwnRows.{Kind, StartsNext, EncodesIt, MarksIt, EndsIt, GivesPart, kind}
 use Rattle.reliable_model.proofs.OnWay.{took-word, took-unit}
-use Rattle.outcome_laws.specs.Deals.{Asked, asked_by, Dealings, Deals, dealt_of, on_dealt, calls_so, gets, stays, takes_so, meets, loses, nothing_dealt, still_after}
+use Rattle.outcome_laws.specs.Exchanges.{Asked, asked_by, Exchanges, ReachedWithExchanges, exchange_of, on_exchange, calls_so, gets, stays, takes_so, meets, loses, nothing_exchanged, still_after}
 use Rattle.outcome_laws.proofs.Once.{keeps, still-keeps, once}
 use Rattle.outcome_laws.proofs.Links.{links-are-allowed}
 use Rattle.outcome_laws.proofs.Transferred.{shown_of, shows-so}
@@ -73,7 +73,7 @@ use Rattle.codec_runs.proofs.ReliableTold as notes
 use Rattle.codec_runs.proofs.ReliableQueued.{QueueOurs, queue-on, queue-append, queue_invokes, invokes-append, rejects-ours, rejects-invoke, CallQueues, call-queues, Queues, unit-queues, word-queues}
 use Rattle.codec_runs.proofs.ReliableStarted.{started_invoke, begun-invoke, begun-ours, apdu-ours, Invokes, apdu-invokes, one-invoked, AllCome, come-later, come-more, come-append, others-come}
 
--- ---- what is kept of one end: what it made and gave, and what the other did; its body; the items that each started; its dealings since its
+-- ---- what is kept of one end: what it made and gave, and what the other did; its body; the items that each started; its exchanges since its
 -- association began, and the numbers of the transfers that arrived
 
 abbrev pub newest_of : List ℕ → ℕ
@@ -265,15 +265,15 @@ no-older : (last : ℕ) (arrived : List ℕ) → AreFalling (last ∷ arrived) �
 no-older last [] h = omega arith
 no-older last (n ∷ ns) h = let l : n < last = h.0 in omega arith
 
-own-deeds : (role : Role) (f : Deeds → Deeds) (deeds : BothDeeds) → deeds_of role (on_deeds role f deeds) ≡ f (deeds_of role deeds)
-own-deeds Initiator f deeds = refl
-own-deeds Responder f deeds = refl
+own-log : (role : Role) (f : TransferLog → TransferLog) (transfer_log : TransferLogs) → transfer_log_of role (on_transfer_log role f transfer_log) ≡ f (transfer_log_of role transfer_log)
+own-log Initiator f transfer_log = refl
+own-log Responder f transfer_log = refl
 
 -- ---- two ends
 
 module _ (free : Free) (tables : Tables) (spellings : Spellings) (a b : Config) where
   abbrev common : Common
-  common = reliable_pair tables spellings a b
+  common = reliable_common tables spellings a b
 
   abbrev base : Role → Base
   base role = base_at role common
@@ -287,12 +287,12 @@ module _ (free : Free) (tables : Tables) (spellings : Spellings) (a b : Config) 
   abbrev pub given : Role → World → List ToldOutcome
   given role w = calls_at answered_by (side_of role) w
 
-  abbrev pub Told : Role → World → Two → Ledger → Dealings → Type 0
-  Told role w two ledger dealings =
-      Facts tables (made role w) (made (other role) w) (given role w) (given (other role) w) (pairs.body_at role two) (deeds_of role ledger.deeds).started (deeds_of (other role) ledger.deeds).started (dealt_of role dealings).asked (dealt_of role dealings).shown (deeds_of role ledger.deeds).arrived
+  abbrev pub Told : Role → World → Two → Ledger → Exchanges → Type 0
+  Told role w two ledger exchanges =
+      Facts tables (made role w) (made (other role) w) (given role w) (given (other role) w) (both_ends.body_at role two) (transfer_log_of role ledger.transfer_log).started (transfer_log_of (other role) ledger.transfer_log).started (exchange_of role exchanges).asked (exchange_of role exchanges).shown (transfer_log_of role ledger.transfer_log).arrived
 
-  abbrev pub BothTold : World → Two → Ledger → Dealings → Type 0
-  BothTold w two ledger dealings = (r : Role) → Told r w two ledger dealings
+  abbrev pub BothTold : World → Two → Ledger → Exchanges → Type 0
+  BothTold w two ledger exchanges = (r : Role) → Told r w two ledger exchanges
 
   -- ---- what steps add to what was made and given
 
@@ -302,18 +302,18 @@ module _ (free : Free) (tables : Tables) (spellings : Spellings) (a b : Config) 
 
   -- ---- calls
 
-  called-told : (role : Role) (w : World) (two : Two) (ledger : Ledger) (dealings : Dealings) (call : Call) (answer : Option ℤ) (y : Body) → y ≡ pairs.body_at role two → can_call (base role) y call ≡ Ok answer → BothTold w two ledger dealings
+  called-told : (role : Role) (w : World) (two : Two) (ledger : Ledger) (exchanges : Exchanges) (call : Call) (answer : Option ℤ) (y : Body) → y ≡ both_ends.body_at role two → can_call (base role) y call ≡ Ok answer → BothTold w two ledger exchanges
       → BothTold (stepping (side_of role) w (called call (Ok answer) ∷ map sent (due_of (base role) y call (Ok answer)))) (stepped role (after_called Reliable (base role) y call answer) (coming_to role two) (due_of (base role) y call (Ok answer)) two)
       (after_sending common role (due_of (base role) y call (Ok answer)) ledger)
-      (on_dealt role (calls_so (apdus_of (base role) y call answer) (asked_by call answer)) (gets (due_of (base role) y call (Ok answer))) dealings)
-  called-told role w two ledger dealings call answer y e c x =
+      (on_exchange role (calls_so (apdus_of (base role) y call answer) (asked_by call answer)) (gets (due_of (base role) y call (Ok answer))) exchanges)
+  called-told role w two ledger exchanges call answer y e c x =
       subst (λ (z : Body). can_call (base role) z call ≡ Ok answer → BothTold (stepping (side_of role) w (called call (Ok answer) ∷ map sent (due_of (base role) z call (Ok answer)))) (stepped role (after_called Reliable (base role) z call answer) (coming_to role two) (due_of (base role) z call (Ok answer)) two)
       (after_sending common role (due_of (base role) z call (Ok answer)) ledger)
-      (on_dealt role (calls_so (apdus_of (base role) z call answer) (asked_by call answer)) (gets (due_of (base role) z call (Ok answer))) dealings)) (sym e) (λ c r. here role r c) c
+      (on_exchange role (calls_so (apdus_of (base role) z call answer) (asked_by call answer)) (gets (due_of (base role) z call (Ok answer))) exchanges)) (sym e) (λ c r. here role r c) c
     where
-      here : (role r : Role) → can_call (base role) (pairs.body_at role two) call ≡ Ok answer → Told r (stepping (side_of role) w (called call (Ok answer) ∷ map sent (due_of (base role) (pairs.body_at role two) call (Ok answer)))) (stepped role (after_called Reliable (base role) (pairs.body_at role two) call answer) (coming_to role two) (due_of (base role) (pairs.body_at role two) call (Ok answer)) two)
-          (after_sending common role (due_of (base role) (pairs.body_at role two) call (Ok answer)) ledger)
-          (on_dealt role (calls_so (apdus_of (base role) (pairs.body_at role two) call answer) (asked_by call answer)) (gets (due_of (base role) (pairs.body_at role two) call (Ok answer))) dealings)
+      here : (role r : Role) → can_call (base role) (both_ends.body_at role two) call ≡ Ok answer → Told r (stepping (side_of role) w (called call (Ok answer) ∷ map sent (due_of (base role) (both_ends.body_at role two) call (Ok answer)))) (stepped role (after_called Reliable (base role) (both_ends.body_at role two) call answer) (coming_to role two) (due_of (base role) (both_ends.body_at role two) call (Ok answer)) two)
+          (after_sending common role (due_of (base role) (both_ends.body_at role two) call (Ok answer)) ledger)
+          (on_exchange role (calls_so (apdus_of (base role) (both_ends.body_at role two) call answer) (asked_by call answer)) (gets (due_of (base role) (both_ends.body_at role two) call (Ok answer))) exchanges)
       here Initiator Initiator c =
           let due : List Message = due_of (base Initiator) two.a call (Ok answer) in
           let xs : List Step = called call (Ok answer) ∷ map sent due in
@@ -337,16 +337,16 @@ module _ (free : Free) (tables : Tables) (spellings : Spellings) (a b : Config) 
 
   -- ---- what an end does by itself
 
-  acted-told : (role : Role) (w : World) (two : Two) (ledger : Ledger) (dealings : Dealings) (own : OwnAct) (y : Body) → y ≡ pairs.body_at role two → next_own (base role) y ≡ Some own → BothTold w two ledger dealings
-      → BothTold (stepping (side_of role) w (step_of own ∷ [])) (stepped role (after_step (base role) y (step_of own)) (coming_to role two) (own_messages own) two) (after_own common role (pairs.body_at role two) own ledger) (on_dealt role stays (gets (own_messages own)) dealings)
-  acted-told role w two ledger dealings own y e next x =
-      subst (λ (z : Body). next_own (base role) z ≡ Some own → BothTold (stepping (side_of role) w (step_of own ∷ [])) (stepped role (after_step (base role) z (step_of own)) (coming_to role two) (own_messages own) two) (after_own common role (pairs.body_at role two) own ledger) (on_dealt role stays (gets (own_messages own)) dealings)) (sym e)
+  acted-told : (role : Role) (w : World) (two : Two) (ledger : Ledger) (exchanges : Exchanges) (own : OwnAct) (y : Body) → y ≡ both_ends.body_at role two → next_own (base role) y ≡ Some own → BothTold w two ledger exchanges
+      → BothTold (stepping (side_of role) w (step_of own ∷ [])) (stepped role (after_step (base role) y (step_of own)) (coming_to role two) (own_messages own) two) (after_own common role (both_ends.body_at role two) own ledger) (on_exchange role stays (gets (own_messages own)) exchanges)
+  acted-told role w two ledger exchanges own y e next x =
+      subst (λ (z : Body). next_own (base role) z ≡ Some own → BothTold (stepping (side_of role) w (step_of own ∷ [])) (stepped role (after_step (base role) z (step_of own)) (coming_to role two) (own_messages own) two) (after_own common role (both_ends.body_at role two) own ledger) (on_exchange role stays (gets (own_messages own)) exchanges)) (sym e)
       (λ n r. here role r n) next
     where
-      it : (role : Role) → next_own (base role) (pairs.body_at role two) ≡ Some own → Kind (pairs.body_at role two) own
-      it role n = kind (base role) (pairs.body_at role two) own (pairs.body_at role two).sending.current refl (leading (base role) (pairs.body_at role two) own n).next
+      it : (role : Role) → next_own (base role) (both_ends.body_at role two) ≡ Some own → Kind (both_ends.body_at role two) own
+      it role n = kind (base role) (both_ends.body_at role two) own (both_ends.body_at role two).sending.current refl (leading (base role) (both_ends.body_at role two) own n).next
 
-      here : (role r : Role) → next_own (base role) (pairs.body_at role two) ≡ Some own → Told r (stepping (side_of role) w (step_of own ∷ [])) (stepped role (after_step (base role) (pairs.body_at role two) (step_of own)) (coming_to role two) (own_messages own) two) (after_own common role (pairs.body_at role two) own ledger) (on_dealt role stays (gets (own_messages own)) dealings)
+      here : (role r : Role) → next_own (base role) (both_ends.body_at role two) ≡ Some own → Told r (stepping (side_of role) w (step_of own ∷ [])) (stepped role (after_step (base role) (both_ends.body_at role two) (step_of own)) (coming_to role two) (own_messages own) two) (after_own common role (both_ends.body_at role two) own ledger) (on_exchange role stays (gets (own_messages own)) exchanges)
       here Initiator Initiator n =
           changed tables _ _ _ _ _ _ _ _ _ _ _ _ _ _ (calls-same invoked_by Initiator w (step_of own ∷ []) (act-call invoked_by own)) (peer-calls invoked_by A w (step_of own ∷ [])) (calls-same answered_by Initiator w (step_of own ∷ []) (act-call answered_by own)) (peer-calls answered_by A w (step_of own ∷ []))
           (own-acted tables _ _ _ _ _ _ _ _ _ _ (x Initiator) (base Initiator) own (it Initiator n))
@@ -365,27 +365,27 @@ module _ (free : Free) (tables : Tables) (spellings : Spellings) (a b : Config) 
   -- what is presumed: neither aborts, both are kept, and transfers arrive whole, as the items that were started, and in rising numbers
   pub record Presumed : Type 0 where
     pub never : early.NeverFails free tables spellings a b
-    pub kept : (two : Two) (ledger : Ledger) → Goes common two ledger → machine.Kept free tables spellings a b two ledger
-    pub whole : (two : Two) (ledger : Ledger) → Goes common two ledger → (role : Role) → transfers.TakesTransferEnd common two role → ArrivesWhole common two ledger role
-    pub items : (two : Two) (ledger : Ledger) → Goes common two ledger → (role : Role) (encoding : Encoding) → IsNewest encoding (deeds_of role ledger.deeds).encoded → IsOf encoding.apdu (item_of encoding.activity (deeds_of role ledger.deeds).started)
-    pub falls : (two : Two) (ledger : Ledger) → Goes common two ledger → (role : Role) → AreFalling (deeds_of role ledger.deeds).arrived
+    pub kept : (two : Two) (ledger : Ledger) → ReachedWithLedger common two ledger → machine.Kept free tables spellings a b two ledger
+    pub whole : (two : Two) (ledger : Ledger) → ReachedWithLedger common two ledger → (role : Role) → transfers.TakesTransferEnd common two role → ArrivesWhole common two ledger role
+    pub items : (two : Two) (ledger : Ledger) → ReachedWithLedger common two ledger → (role : Role) (encoding : Encoding) → IsNewest encoding (transfer_log_of role ledger.transfer_log).encoded → IsOf encoding.apdu (item_of encoding.activity (transfer_log_of role ledger.transfer_log).started)
+    pub falls : (two : Two) (ledger : Ledger) → ReachedWithLedger common two ledger → (role : Role) → AreFalling (transfer_log_of role ledger.transfer_log).arrived
 
   module _ (p : Presumed) where
     -- an opening that is taken forgets nothing
-    keeps-all : (role : Role) (two : Two) (ledger : Ledger) (left : List Message) (later : Body) (answers : List Message) (shown : List Indication) → Goes common two ledger → (message : Message) → coming_to role two ≡ message ∷ left → react (base role) (pairs.body_at role two) message ≡ Takes later answers shown
-        → KeepsAll (base role) (pairs.body_at role two) (deeds_of role ledger.deeds) (took message)
+    keeps-all : (role : Role) (two : Two) (ledger : Ledger) (left : List Message) (later : Body) (answers : List Message) (shown : List Indication) → ReachedWithLedger common two ledger → (message : Message) → coming_to role two ≡ message ∷ left → react (base role) (both_ends.body_at role two) message ≡ Takes later answers shown
+        → KeepsAll (base role) (both_ends.body_at role two) (transfer_log_of role ledger.transfer_log) (took message)
     keeps-all Initiator two ledger left later answers shown g (Session (OfAssociation (Connect session presentation values))) e r = absurd (early.no-opening free tables spellings a b two session presentation values later answers shown r)
     keeps-all Responder two ledger left later answers shown g (Session (OfAssociation (Connect session presentation values))) e r =
         go (early.opening-keeps free tables spellings a b two session presentation values left later answers shown (p.kept two ledger g) e r)
       where
-        go : early.Opens free tables spellings a b two session presentation values → KeepsAll (base Responder) two.b ledger.deeds.b (took (Session (OfAssociation (Connect session presentation values))))
+        go : early.Opens free tables spellings a b two session presentation values → KeepsAll (base Responder) two.b ledger.transfer_log.b (took (Session (OfAssociation (Connect session presentation values))))
         go (inl k) = inl k
         go (inr soon) = inr (early.nothing free tables spellings a b p.never two ledger g soon)
     keeps-all role two ledger left later answers shown g message e r = tt
 
-    items-same : (role : Role) (body : Body) (deeds : Deeds) (message : Message) → KeepsAll (base role) body deeds (took message) → items_by (base role) body message deeds.started ≡ deeds.started
-    items-same role body deeds (Session (OfAssociation (Connect session presentation values))) k = anew-same (is_refused (base role) body session presentation values || recovers_in (base role) values) deeds.started (first-half k)
-    items-same role body deeds message k = refl
+    items-same : (role : Role) (body : Body) (transfer_log : TransferLog) (message : Message) → KeepsAll (base role) body transfer_log (took message) → items_by (base role) body message transfer_log.started ≡ transfer_log.started
+    items-same role body transfer_log (Session (OfAssociation (Connect session presentation values))) k = anew-same (is_refused (base role) body session presentation values || recovers_in (base role) values) transfer_log.started (first-half k)
+    items-same role body transfer_log message k = refl
 
     -- ---- the queue
 
@@ -397,47 +397,47 @@ module _ (free : Free) (tables : Tables) (spellings : Spellings) (a b : Config) 
     connect-queue body session presentation values started false false (inl e) = absurd cc
     connect-queue body session presentation values started false false (inr n) = inr (refl, refl, n)
 
-    word-queue : (role : Role) (two : Two) (ledger : Ledger) (left : List Message) (later : Body) (answers : List Message) (shown : List Indication) → (word : Word) → KeepsAll (base role) (pairs.body_at role two) (deeds_of role ledger.deeds) (took (Session word)) → react (base role) (pairs.body_at role two) (Session word) ≡ Takes later answers shown
-        → QueueTook (pairs.body_at role two) (after_word (base role) (pairs.body_at role two) word) (deeds_of role ledger.deeds).started
+    word-queue : (role : Role) (two : Two) (ledger : Ledger) (left : List Message) (later : Body) (answers : List Message) (shown : List Indication) → (word : Word) → KeepsAll (base role) (both_ends.body_at role two) (transfer_log_of role ledger.transfer_log) (took (Session word)) → react (base role) (both_ends.body_at role two) (Session word) ≡ Takes later answers shown
+        → QueueTook (both_ends.body_at role two) (after_word (base role) (both_ends.body_at role two) word) (transfer_log_of role ledger.transfer_log).started
     word-queue Initiator two ledger left later answers shown (OfAssociation (Connect session presentation values)) k r = absurd (early.no-opening free tables spellings a b two session presentation values later answers shown r)
     word-queue Responder two ledger left later answers shown (OfAssociation (Connect session presentation values)) k r =
-        connect-queue two.b session presentation values ledger.deeds.b.started (is_refused (base Responder) two.b session presentation values) (recovers_in (base Responder) values) (first-half k)
-    word-queue role two ledger left later answers shown word k r = inl (word-queues (base role) (pairs.body_at role two) word (λ c. c))
+        connect-queue two.b session presentation values ledger.transfer_log.b.started (is_refused (base Responder) two.b session presentation values) (recovers_in (base Responder) values) (first-half k)
+    word-queue role two ledger left later answers shown word k r = inl (word-queues (base role) (both_ends.body_at role two) word (λ c. c))
 
-    took-so : (role : Role) (two : Two) (ledger : Ledger) (left : List Message) (later : Body) (answers : List Message) (shown : List Indication) → (message : Message) → KeepsAll (base role) (pairs.body_at role two) (deeds_of role ledger.deeds) (took message) → react (base role) (pairs.body_at role two) message ≡ Takes later answers shown → QueueTook (pairs.body_at role two) later (deeds_of role ledger.deeds).started
+    took-so : (role : Role) (two : Two) (ledger : Ledger) (left : List Message) (later : Body) (answers : List Message) (shown : List Indication) → (message : Message) → KeepsAll (base role) (both_ends.body_at role two) (transfer_log_of role ledger.transfer_log) (took message) → react (base role) (both_ends.body_at role two) message ≡ Takes later answers shown → QueueTook (both_ends.body_at role two) later (transfer_log_of role ledger.transfer_log).started
     took-so role two ledger left later answers shown (Transport unit) k r =
-        subst (λ (z : Body). QueueTook (pairs.body_at role two) z (deeds_of role ledger.deeds).started) (sym (took-unit (base role) (pairs.body_at role two) unit later answers shown r).later_is) (inl (unit-queues (base role) (pairs.body_at role two) unit))
+        subst (λ (z : Body). QueueTook (both_ends.body_at role two) z (transfer_log_of role ledger.transfer_log).started) (sym (took-unit (base role) (both_ends.body_at role two) unit later answers shown r).later_is) (inl (unit-queues (base role) (both_ends.body_at role two) unit))
     took-so role two ledger left later answers shown (Session word) k r =
-        subst (λ (z : Body). QueueTook (pairs.body_at role two) z (deeds_of role ledger.deeds).started) (sym (took-word (base role) (pairs.body_at role two) word later answers shown r).later_is) (word-queue role two ledger left later answers shown word k r)
+        subst (λ (z : Body). QueueTook (both_ends.body_at role two) z (transfer_log_of role ledger.transfer_log).started) (sym (took-word (base role) (both_ends.body_at role two) word later answers shown r).later_is) (word-queue role two ledger left later answers shown word k r)
 
     -- ---- what a transfer brings
 
     record Brings (role : Role) (two : Two) (ledger : Ledger) : Type 0 where
       item : Item
-      arrived : arrived_now (base role) (pairs.body_at role two) ≡ Ok (Whole item)
-      is_of : IsOf item.apdu (item_of (pairs.body_at role two).receiving.last (deeds_of (other role) ledger.deeds).started)
+      arrived : arrived_now (base role) (both_ends.body_at role two) ≡ Ok (Whole item)
+      is_of : IsOf item.apdu (item_of (both_ends.body_at role two).receiving.last (transfer_log_of (other role) ledger.transfer_log).started)
 
-    brings : (role : Role) (two : Two) (ledger : Ledger) (number : ℕ) (left : List Message) (later : Body) (answers : List Message) (shown : List Indication) → Goes common two ledger → coming_to role two ≡ Session (OfActivities (End number)) ∷ left → react (base role) (pairs.body_at role two) (Session (OfActivities (End number))) ≡ Takes later answers shown → (pairs.body_at role two).receiving.was_handed ≡ false → Brings role two ledger
+    brings : (role : Role) (two : Two) (ledger : Ledger) (number : ℕ) (left : List Message) (later : Body) (answers : List Message) (shown : List Indication) → ReachedWithLedger common two ledger → coming_to role two ≡ Session (OfActivities (End number)) ∷ left → react (base role) (both_ends.body_at role two) (Session (OfActivities (End number))) ≡ Takes later answers shown → (both_ends.body_at role two).receiving.was_handed ≡ false → Brings role two ledger
     brings role two ledger number left later answers shown g e r new =
         let w = p.whole two ledger g role (record { number = number; left = left; body = later; answers = answers; shown = shown; comes = e; taken = r; is_new = new }) in
         record { item = w.item; arrived = w.arrived; is_of = p.items two ledger g (other role) _ w.encoded }
 
     -- what is heard is what the other end handed in
-    heard-holds : (role : Role) (two : Two) (ledger : Ledger) (left : List Message) (later : Body) (answers : List Message) (shown : List Indication) (own : List Invocation) (outcomes : List ToldOutcome) → Goes common two ledger → QueueOurs tables own outcomes (deeds_of (other role) ledger.deeds).started → (message : Message) → coming_to role two ≡ message ∷ left → react (base role) (pairs.body_at role two) message ≡ Takes later answers shown
-        → HoldOurs tables own outcomes (heard_values (base role) (pairs.body_at role two) message)
-    heard-holds role two ledger left later answers shown own outcomes g q (Session (OfActivities (End number))) e r = go (pairs.body_at role two).receiving.was_handed refl
+    heard-holds : (role : Role) (two : Two) (ledger : Ledger) (left : List Message) (later : Body) (answers : List Message) (shown : List Indication) (own : List Invocation) (outcomes : List ToldOutcome) → ReachedWithLedger common two ledger → QueueOurs tables own outcomes (transfer_log_of (other role) ledger.transfer_log).started → (message : Message) → coming_to role two ≡ message ∷ left → react (base role) (both_ends.body_at role two) message ≡ Takes later answers shown
+        → HoldOurs tables own outcomes (heard_values (base role) (both_ends.body_at role two) message)
+    heard-holds role two ledger left later answers shown own outcomes g q (Session (OfActivities (End number))) e r = go (both_ends.body_at role two).receiving.was_handed refl
       where
-        go : (h : Bool) → (pairs.body_at role two).receiving.was_handed ≡ h → HoldOurs tables own outcomes (if h then [] else values_arrived (arrived_now (base role) (pairs.body_at role two)))
+        go : (h : Bool) → (both_ends.body_at role two).receiving.was_handed ≡ h → HoldOurs tables own outcomes (if h then [] else values_arrived (arrived_now (base role) (both_ends.body_at role two)))
         go true d = tt
         go false d =
             let x = brings role two ledger number left later answers shown g e r d in
             subst (λ (y : Result Arrived Fault). HoldOurs tables own outcomes (values_arrived y)) (sym x.arrived)
-            (record { apdu = x.item.apdu; is_it = refl; is_ours = apdu-ours tables own outcomes (pairs.body_at role two).receiving.last (deeds_of (other role) ledger.deeds).started x.item.apdu q x.is_of }, tt)
+            (record { apdu = x.item.apdu; is_it = refl; is_ours = apdu-ours tables own outcomes (both_ends.body_at role two).receiving.last (transfer_log_of (other role) ledger.transfer_log).started x.item.apdu q x.is_of }, tt)
     heard-holds role two ledger left later answers shown own outcomes g q (Transport unit) e r = tt
     heard-holds role two ledger left later answers shown own outcomes g q (Session (OfAssociation word)) e r = tt
     heard-holds role two ledger left later answers shown own outcomes g q (Session (OfData word)) e r = no-data word
       where
-        no-data : (word : _) → HoldOurs tables own outcomes (heard_values (base role) (pairs.body_at role two) (Session (OfData word)))
+        no-data : (word : _) → HoldOurs tables own outcomes (heard_values (base role) (both_ends.body_at role two) (Session (OfData word)))
         no-data (Values values) = tt
         no-data (AlterContext add delete) = tt
         no-data (AlterContextAck answers) = tt
@@ -447,14 +447,14 @@ module _ (free : Free) (tables : Tables) (spellings : Spellings) (a b : Config) 
     -- ---- what is told of invocations
 
     record Hears (role : Role) (two : Two) (ledger : Ledger) (message : Message) : Type 0 where
-      more : newest_of (deeds_of role ledger.deeds).arrived ≤ newest_of (arrived_by (base role) (pairs.body_at role two) message (deeds_of role ledger.deeds).arrived)
-      told : (invoked_ids (shown_of (base role) (pairs.body_at role two) message) ≡ []) ⊎ OneTold (deeds_of (other role) ledger.deeds).started (deeds_of role ledger.deeds).arrived (arrived_by (base role) (pairs.body_at role two) message (deeds_of role ledger.deeds).arrived) (shown_of (base role) (pairs.body_at role two) message)
+      more : newest_of (transfer_log_of role ledger.transfer_log).arrived ≤ newest_of (arrived_by (base role) (both_ends.body_at role two) message (transfer_log_of role ledger.transfer_log).arrived)
+      told : (invoked_ids (shown_of (base role) (both_ends.body_at role two) message) ≡ []) ⊎ OneTold (transfer_log_of (other role) ledger.transfer_log).started (transfer_log_of role ledger.transfer_log).arrived (arrived_by (base role) (both_ends.body_at role two) message (transfer_log_of role ledger.transfer_log).arrived) (shown_of (base role) (both_ends.body_at role two) message)
 
     same-more : (n m : List ℕ) → n ≡ m → newest_of m ≤ newest_of n
     same-more n m e = subst (λ (l : List ℕ). newest_of m ≤ newest_of l) (sym e) (omega arith)
 
-    plain-hears : (role : Role) (two : Two) (ledger : Ledger) (message : Message) → arrived_by (base role) (pairs.body_at role two) message (deeds_of role ledger.deeds).arrived ≡ (deeds_of role ledger.deeds).arrived → ArePlain (shown_of (base role) (pairs.body_at role two) message) → Hears role two ledger message
-    plain-hears role two ledger message e s = record { more = same-more _ _ e; told = inl (plain-ids (shown_of (base role) (pairs.body_at role two) message) s) }
+    plain-hears : (role : Role) (two : Two) (ledger : Ledger) (message : Message) → arrived_by (base role) (both_ends.body_at role two) message (transfer_log_of role ledger.transfer_log).arrived ≡ (transfer_log_of role ledger.transfer_log).arrived → ArePlain (shown_of (base role) (both_ends.body_at role two) message) → Hears role two ledger message
+    plain-hears role two ledger message e s = record { more = same-more _ _ e; told = inl (plain-ids (shown_of (base role) (both_ends.body_at role two) message) s) }
 
     -- the identifiers that one value shows
     first-ids : (first second : List Indication) → ArePlain second → invoked_ids ((first ++ second) ++ []) ≡ invoked_ids first
@@ -490,167 +490,167 @@ module _ (free : Free) (tables : Tables) (spellings : Spellings) (a b : Config) 
         go (inr e) = told e (one-invoked apdu)
 
     -- the numbers rise
-    falls-so : (role : Role) (two : Two) (ledger : Ledger) (message : Message) (left : List Message) (later : Body) (answers : List Message) (shown : List Indication) → Goes common two ledger → coming_to role two ≡ message ∷ left → react (base role) (pairs.body_at role two) message ≡ Takes later answers shown → AreFalling (arrived_by (base role) (pairs.body_at role two) message (deeds_of role ledger.deeds).arrived)
+    falls-so : (role : Role) (two : Two) (ledger : Ledger) (message : Message) (left : List Message) (later : Body) (answers : List Message) (shown : List Indication) → ReachedWithLedger common two ledger → coming_to role two ≡ message ∷ left → react (base role) (both_ends.body_at role two) message ≡ Takes later answers shown → AreFalling (arrived_by (base role) (both_ends.body_at role two) message (transfer_log_of role ledger.transfer_log).arrived)
     falls-so role two ledger message left later answers shown g e r =
-        subst AreFalling (ap (λ (x : Deeds). x.arrived) (own-deeds role (goes.deeds_taken (base role) (pairs.body_at role two) message) ledger.deeds))
-        (p.falls (stepped role later left answers two) (after_taking common role (pairs.body_at role two) message answers ledger) (goes.takes two ledger role message left later answers shown g e r) role)
+        subst AreFalling (ap (λ (x : TransferLog). x.arrived) (own-log role (ledgers.transfer_log_taken (base role) (both_ends.body_at role two) message) ledger.transfer_log))
+        (p.falls (stepped role later left answers two) (after_taking common role (both_ends.body_at role two) message answers ledger) (ledgers.takes two ledger role message left later answers shown g e r) role)
 
-    end-hears : (role : Role) (two : Two) (ledger : Ledger) (number : ℕ) (left : List Message) (later : Body) (answers : List Message) (shown : List Indication) → Goes common two ledger → coming_to role two ≡ Session (OfActivities (End number)) ∷ left → react (base role) (pairs.body_at role two) (Session (OfActivities (End number))) ≡ Takes later answers shown
+    end-hears : (role : Role) (two : Two) (ledger : Ledger) (number : ℕ) (left : List Message) (later : Body) (answers : List Message) (shown : List Indication) → ReachedWithLedger common two ledger → coming_to role two ≡ Session (OfActivities (End number)) ∷ left → react (base role) (both_ends.body_at role two) (Session (OfActivities (End number))) ≡ Takes later answers shown
         → Hears role two ledger (Session (OfActivities (End number)))
-    end-hears role two ledger number left later answers shown g e r = let s = go (pairs.body_at role two).receiving.was_handed refl in record { more = s.0; told = s.1 }
+    end-hears role two ledger number left later answers shown g e r = let s = go (both_ends.body_at role two).receiving.was_handed refl in record { more = s.0; told = s.1 }
       where
-        falls : (pairs.body_at role two).receiving.was_handed ≡ false → AreFalling ((pairs.body_at role two).receiving.last ∷ (deeds_of role ledger.deeds).arrived)
-        falls d = subst (λ (h : Bool). AreFalling ((if h then [] else (pairs.body_at role two).receiving.last ∷ []) ++ (deeds_of role ledger.deeds).arrived)) d (falls-so role two ledger (Session (OfActivities (End number))) left later answers shown g e r)
+        falls : (both_ends.body_at role two).receiving.was_handed ≡ false → AreFalling ((both_ends.body_at role two).receiving.last ∷ (transfer_log_of role ledger.transfer_log).arrived)
+        falls d = subst (λ (h : Bool). AreFalling ((if h then [] else (both_ends.body_at role two).receiving.last ∷ []) ++ (transfer_log_of role ledger.transfer_log).arrived)) d (falls-so role two ledger (Session (OfActivities (End number))) left later answers shown g e r)
 
-        go : (h : Bool) → (pairs.body_at role two).receiving.was_handed ≡ h → Sees (deeds_of (other role) ledger.deeds).started (deeds_of role ledger.deeds).arrived (pairs.body_at role two).receiving.last h (take_values (base role) (received (λ x. record x { was_handed = true; active = false }) (pairs.body_at role two)) (if h then [] else values_arrived (arrived_now (base role) (pairs.body_at role two)))).shown
-        go true d = (itself (newest_of (deeds_of role ledger.deeds).arrived), inl refl)
+        go : (h : Bool) → (both_ends.body_at role two).receiving.was_handed ≡ h → Sees (transfer_log_of (other role) ledger.transfer_log).started (transfer_log_of role ledger.transfer_log).arrived (both_ends.body_at role two).receiving.last h (take_values (base role) (received (λ x. record x { was_handed = true; active = false }) (both_ends.body_at role two)) (if h then [] else values_arrived (arrived_now (base role) (both_ends.body_at role two)))).shown
+        go true d = (itself (newest_of (transfer_log_of role ledger.transfer_log).arrived), inl refl)
         go false d =
             let x = brings role two ledger number left later answers shown g e r d in
-            subst (λ (y : Result Arrived Fault). Sees (deeds_of (other role) ledger.deeds).started (deeds_of role ledger.deeds).arrived (pairs.body_at role two).receiving.last false (take_values (base role) (received (λ x. record x { was_handed = true; active = false }) (pairs.body_at role two)) (values_arrived y)).shown) (sym x.arrived)
-            (one-sees (deeds_of (other role) ledger.deeds).started (deeds_of role ledger.deeds).arrived (pairs.body_at role two).receiving.last x.item.apdu _ (falls d) x.is_of
-            (value-ids (base role) (received (λ x. record x { was_handed = true; active = false }) (pairs.body_at role two)) x.item))
+            subst (λ (y : Result Arrived Fault). Sees (transfer_log_of (other role) ledger.transfer_log).started (transfer_log_of role ledger.transfer_log).arrived (both_ends.body_at role two).receiving.last false (take_values (base role) (received (λ x. record x { was_handed = true; active = false }) (both_ends.body_at role two)) (values_arrived y)).shown) (sym x.arrived)
+            (one-sees (transfer_log_of (other role) ledger.transfer_log).started (transfer_log_of role ledger.transfer_log).arrived (both_ends.body_at role two).receiving.last x.item.apdu _ (falls d) x.is_of
+            (value-ids (base role) (received (λ x. record x { was_handed = true; active = false }) (both_ends.body_at role two)) x.item))
 
-    arrived-same : (role : Role) (body : Body) (deeds : Deeds) (session : SessionConnect) (presentation : PresentationConnect) (values : List DataValue) → KeepsAll (base role) body deeds (took (Session (OfAssociation (Connect session presentation values)))) → arrived_by (base role) body (Session (OfAssociation (Connect session presentation values))) deeds.arrived ≡ deeds.arrived
-    arrived-same role body deeds session presentation values k = anew-same (is_refused (base role) body session presentation values || recovers_in (base role) values) deeds.arrived (second-half k)
+    arrived-same : (role : Role) (body : Body) (transfer_log : TransferLog) (session : SessionConnect) (presentation : PresentationConnect) (values : List DataValue) → KeepsAll (base role) body transfer_log (took (Session (OfAssociation (Connect session presentation values)))) → arrived_by (base role) body (Session (OfAssociation (Connect session presentation values))) transfer_log.arrived ≡ transfer_log.arrived
+    arrived-same role body transfer_log session presentation values k = anew-same (is_refused (base role) body session presentation values || recovers_in (base role) values) transfer_log.arrived (second-half k)
 
-    hears : (role : Role) (two : Two) (ledger : Ledger) (left : List Message) (later : Body) (answers : List Message) (shown : List Indication) → Goes common two ledger → (message : Message) → KeepsAll (base role) (pairs.body_at role two) (deeds_of role ledger.deeds) (took message) → coming_to role two ≡ message ∷ left → react (base role) (pairs.body_at role two) message ≡ Takes later answers shown → Hears role two ledger message
+    hears : (role : Role) (two : Two) (ledger : Ledger) (left : List Message) (later : Body) (answers : List Message) (shown : List Indication) → ReachedWithLedger common two ledger → (message : Message) → KeepsAll (base role) (both_ends.body_at role two) (transfer_log_of role ledger.transfer_log) (took message) → coming_to role two ≡ message ∷ left → react (base role) (both_ends.body_at role two) message ≡ Takes later answers shown → Hears role two ledger message
     hears role two ledger left later answers shown g (Transport unit) k e r = plain-hears role two ledger (Transport unit) refl (transport-plain unit)
     hears role two ledger left later answers shown g (Session (OfAssociation (Connect session presentation values))) k e r =
-        plain-hears role two ledger (Session (OfAssociation (Connect session presentation values))) (arrived-same role (pairs.body_at role two) (deeds_of role ledger.deeds) session presentation values k) (association-plain (base role) (pairs.body_at role two) (Connect session presentation values))
-    hears role two ledger left later answers shown g (Session (OfAssociation word)) k e r = plain-hears role two ledger (Session (OfAssociation word)) refl (association-plain (base role) (pairs.body_at role two) word)
+        plain-hears role two ledger (Session (OfAssociation (Connect session presentation values))) (arrived-same role (both_ends.body_at role two) (transfer_log_of role ledger.transfer_log) session presentation values k) (association-plain (base role) (both_ends.body_at role two) (Connect session presentation values))
+    hears role two ledger left later answers shown g (Session (OfAssociation word)) k e r = plain-hears role two ledger (Session (OfAssociation word)) refl (association-plain (base role) (both_ends.body_at role two) word)
     hears role two ledger left later answers shown g (Session (OfData (Values values))) k e r = plain-hears role two ledger (Session (OfData (Values values))) refl tt
     hears role two ledger left later answers shown g (Session (OfData (AlterContext add delete))) k e r = plain-hears role two ledger (Session (OfData (AlterContext add delete))) refl (tt, tt)
-    hears role two ledger left later answers shown g (Session (OfData (AlterContextAck results))) k e r = plain-hears role two ledger (Session (OfData (AlterContextAck results))) refl (settled-plain (pairs.body_at role two).sets.own results)
-    hears role two ledger left later answers shown g (Session (OfMarks word)) k e r = plain-hears role two ledger (Session (OfMarks word)) refl (marks-plain (base role) (pairs.body_at role two) word)
+    hears role two ledger left later answers shown g (Session (OfData (AlterContextAck results))) k e r = plain-hears role two ledger (Session (OfData (AlterContextAck results))) refl (settled-plain (both_ends.body_at role two).sets.own results)
+    hears role two ledger left later answers shown g (Session (OfMarks word)) k e r = plain-hears role two ledger (Session (OfMarks word)) refl (marks-plain (base role) (both_ends.body_at role two) word)
     hears role two ledger left later answers shown g (Session (OfActivities (End number))) k e r = end-hears role two ledger number left later answers shown g e r
-    hears role two ledger left later answers shown g (Session (OfActivities word)) k e r = plain-hears role two ledger (Session (OfActivities word)) refl (activity-plain (base role) (pairs.body_at role two) word tt)
+    hears role two ledger left later answers shown g (Session (OfActivities word)) k e r = plain-hears role two ledger (Session (OfActivities word)) refl (activity-plain (base role) (both_ends.body_at role two) word tt)
 
     -- ---- a taking, of the end that takes
 
     -- what is shown is what the other end handed in
-    now-noted : (role : Role) (w : World) (two : Two) (ledger : Ledger) (dealings : Dealings) (message : Message) (left : List Message) (body : Body) (answers : List Message) (shown : List Indication) → Joint common w two ledger dealings → coming_to role two ≡ message ∷ left → react (base role) (pairs.body_at role two) message ≡ Takes body answers shown → BothTold w two ledger dealings
+    now-noted : (role : Role) (w : World) (two : Two) (ledger : Ledger) (exchanges : Exchanges) (message : Message) (left : List Message) (body : Body) (answers : List Message) (shown : List Indication) → Joint common w two ledger exchanges → coming_to role two ≡ message ∷ left → react (base role) (both_ends.body_at role two) message ≡ Takes body answers shown → BothTold w two ledger exchanges
         → AreNoted tables (made role w) (made (other role) w) (given (other role) w) shown
-    now-noted role w two ledger dealings message left body answers shown j e r x =
-        subst (AreNoted tables (made role w) (made (other role) w) (given (other role) w)) (sym (shows-so (base role) (pairs.body_at role two) message body answers shown r))
-        (message-noted (base role) (made role w) (made (other role) w) (given (other role) w) (dealt_of role dealings).asked (pairs.body_at role two) message (dealt_of role dealings).shown (x role).asked_so (once common two ledger dealings j.deals role)
+    now-noted role w two ledger exchanges message left body answers shown j e r x =
+        subst (AreNoted tables (made role w) (made (other role) w) (given (other role) w)) (sym (shows-so (base role) (both_ends.body_at role two) message body answers shown r))
+        (message-noted (base role) (made role w) (made (other role) w) (given (other role) w) (exchange_of role exchanges).asked (both_ends.body_at role two) message (exchange_of role exchanges).shown (x role).asked_so (once common two ledger exchanges j.reached_exchanges role)
         (heard-holds role two ledger left body answers shown (made (other role) w) (given (other role) w) j.speaks.goes (their-started role x) message e r))
       where
-        their-started : (role : Role) → BothTold w two ledger dealings → QueueOurs tables (made (other role) w) (given (other role) w) (deeds_of (other role) ledger.deeds).started
+        their-started : (role : Role) → BothTold w two ledger exchanges → QueueOurs tables (made (other role) w) (given (other role) w) (transfer_log_of (other role) ledger.transfer_log).started
         their-started Initiator x = (x Responder).started_so
         their-started Responder x = (x Initiator).started_so
 
-    own-taken : (role : Role) (w : World) (two : Two) (ledger : Ledger) (dealings : Dealings) (message : Message) (left : List Message) (body : Body) (answers : List Message) (shown : List Indication) → Joint common w two ledger dealings → coming_to role two ≡ message ∷ left → react (base role) (pairs.body_at role two) message ≡ Takes body answers shown → BothTold w two ledger dealings
-        → Facts tables (made role w) (made (other role) w) (given role w) (given (other role) w) body (items_by (base role) (pairs.body_at role two) message (deeds_of role ledger.deeds).started) (deeds_of (other role) ledger.deeds).started
-        (still_after (base role) (pairs.body_at role two) message (dealt_of role dealings).asked) (still_after (base role) (pairs.body_at role two) message (dealt_of role dealings).shown ++ shown) (arrived_by (base role) (pairs.body_at role two) message (deeds_of role ledger.deeds).arrived)
-    own-taken role w two ledger dealings message left body answers shown j e r x =
+    own-taken : (role : Role) (w : World) (two : Two) (ledger : Ledger) (exchanges : Exchanges) (message : Message) (left : List Message) (body : Body) (answers : List Message) (shown : List Indication) → Joint common w two ledger exchanges → coming_to role two ≡ message ∷ left → react (base role) (both_ends.body_at role two) message ≡ Takes body answers shown → BothTold w two ledger exchanges
+        → Facts tables (made role w) (made (other role) w) (given role w) (given (other role) w) body (items_by (base role) (both_ends.body_at role two) message (transfer_log_of role ledger.transfer_log).started) (transfer_log_of (other role) ledger.transfer_log).started
+        (still_after (base role) (both_ends.body_at role two) message (exchange_of role exchanges).asked) (still_after (base role) (both_ends.body_at role two) message (exchange_of role exchanges).shown ++ shown) (arrived_by (base role) (both_ends.body_at role two) message (transfer_log_of role ledger.transfer_log).arrived)
+    own-taken role w two ledger exchanges message left body answers shown j e r x =
         let k = keeps-all role two ledger left body answers shown j.speaks.goes message e r in
         let h = hears role two ledger left body answers shown j.speaks.goes message k e r in
-        moved tables _ _ _ _ _ _ _ _ _ _ _ _ (items-same role (pairs.body_at role two) (deeds_of role ledger.deeds) message k) refl
-        (own-took tables _ _ _ _ _ _ _ _ _ _ (x role) (base role) message body shown _ (took-so role two ledger left body answers shown message k r) (now-noted role w two ledger dealings message left body answers shown j e r x) h.more
-        (subst (λ (l : List Indication). (invoked_ids l ≡ []) ⊎ OneTold (deeds_of (other role) ledger.deeds).started (deeds_of role ledger.deeds).arrived (arrived_by (base role) (pairs.body_at role two) message (deeds_of role ledger.deeds).arrived) l) (sym (shows-so (base role) (pairs.body_at role two) message body answers shown r)) h.told)
+        moved tables _ _ _ _ _ _ _ _ _ _ _ _ (items-same role (both_ends.body_at role two) (transfer_log_of role ledger.transfer_log) message k) refl
+        (own-took tables _ _ _ _ _ _ _ _ _ _ (x role) (base role) message body shown _ (took-so role two ledger left body answers shown message k r) (now-noted role w two ledger exchanges message left body answers shown j e r x) h.more
+        (subst (λ (l : List Indication). (invoked_ids l ≡ []) ⊎ OneTold (transfer_log_of (other role) ledger.transfer_log).started (transfer_log_of role ledger.transfer_log).arrived (arrived_by (base role) (both_ends.body_at role two) message (transfer_log_of role ledger.transfer_log).arrived) l) (sym (shows-so (base role) (both_ends.body_at role two) message body answers shown r)) h.told)
         (their-fresh role x))
       where
-        their-fresh : (role : Role) → BothTold w two ledger dealings → AreFresh (started_invoke (deeds_of (other role) ledger.deeds).started)
-        their-fresh Initiator x = fresh-front (started_invoke ledger.deeds.b.started) (queue_invokes two.b.sending.queue) (x Responder).numbers.fresh
-        their-fresh Responder x = fresh-front (started_invoke ledger.deeds.a.started) (queue_invokes two.a.sending.queue) (x Initiator).numbers.fresh
+        their-fresh : (role : Role) → BothTold w two ledger exchanges → AreFresh (started_invoke (transfer_log_of (other role) ledger.transfer_log).started)
+        their-fresh Initiator x = fresh-front (started_invoke ledger.transfer_log.b.started) (queue_invokes two.b.sending.queue) (x Responder).numbers.fresh
+        their-fresh Responder x = fresh-front (started_invoke ledger.transfer_log.a.started) (queue_invokes two.a.sending.queue) (x Initiator).numbers.fresh
 
-    their-taken : (role : Role) (w : World) (two : Two) (ledger : Ledger) (dealings : Dealings) (message : Message) (left : List Message) (body : Body) (answers : List Message) (shown : List Indication) → Joint common w two ledger dealings → coming_to role two ≡ message ∷ left → react (base role) (pairs.body_at role two) message ≡ Takes body answers shown
-        → items_by (base role) (pairs.body_at role two) message (deeds_of role ledger.deeds).started ≡ (deeds_of role ledger.deeds).started
-    their-taken role w two ledger dealings message left body answers shown j e r = items-same role (pairs.body_at role two) (deeds_of role ledger.deeds) message (keeps-all role two ledger left body answers shown j.speaks.goes message e r)
+    their-taken : (role : Role) (w : World) (two : Two) (ledger : Ledger) (exchanges : Exchanges) (message : Message) (left : List Message) (body : Body) (answers : List Message) (shown : List Indication) → Joint common w two ledger exchanges → coming_to role two ≡ message ∷ left → react (base role) (both_ends.body_at role two) message ≡ Takes body answers shown
+        → items_by (base role) (both_ends.body_at role two) message (transfer_log_of role ledger.transfer_log).started ≡ (transfer_log_of role ledger.transfer_log).started
+    their-taken role w two ledger exchanges message left body answers shown j e r = items-same role (both_ends.body_at role two) (transfer_log_of role ledger.transfer_log) message (keeps-all role two ledger left body answers shown j.speaks.goes message e r)
 
-    taken-told : (role : Role) (w : World) (two : Two) (ledger : Ledger) (dealings : Dealings) (message : Message) (left : List Message) (body : Body) (answers : List Message) (shown : List Indication) → Joint common w two ledger dealings → coming_to role two ≡ message ∷ left → react (base role) (pairs.body_at role two) message ≡ Takes body answers shown → BothTold w two ledger dealings
-        → BothTold (stepping (side_of role) w (took message ∷ map (answered message) answers)) (stepped role body left answers two) (after_taking common role (pairs.body_at role two) message answers ledger) (on_dealt role (takes_so (base role) (pairs.body_at role two) message shown) (gets answers) dealings)
-    taken-told Initiator w two ledger dealings message left body answers shown j e r x Initiator =
+    taken-told : (role : Role) (w : World) (two : Two) (ledger : Ledger) (exchanges : Exchanges) (message : Message) (left : List Message) (body : Body) (answers : List Message) (shown : List Indication) → Joint common w two ledger exchanges → coming_to role two ≡ message ∷ left → react (base role) (both_ends.body_at role two) message ≡ Takes body answers shown → BothTold w two ledger exchanges
+        → BothTold (stepping (side_of role) w (took message ∷ map (answered message) answers)) (stepped role body left answers two) (after_taking common role (both_ends.body_at role two) message answers ledger) (on_exchange role (takes_so (base role) (both_ends.body_at role two) message shown) (gets answers) exchanges)
+    taken-told Initiator w two ledger exchanges message left body answers shown j e r x Initiator =
         let xs : List Step = took message ∷ map (answered message) answers in
         changed tables _ _ _ _ _ _ _ _ _ _ _ _ _ _ (calls-same invoked_by Initiator w xs (answers-call invoked_by message answers)) (peer-calls invoked_by A w xs) (calls-same answered_by Initiator w xs (answers-call answered_by message answers)) (peer-calls answered_by A w xs)
-        (own-taken Initiator w two ledger dealings message left body answers shown j e r x)
-    taken-told Initiator w two ledger dealings message left body answers shown j e r x Responder =
+        (own-taken Initiator w two ledger exchanges message left body answers shown j e r x)
+    taken-told Initiator w two ledger exchanges message left body answers shown j e r x Responder =
         let xs : List Step = took message ∷ map (answered message) answers in
         changed tables _ _ _ _ _ _ _ _ _ _ _ _ _ _ (peer-calls invoked_by A w xs) (calls-same invoked_by Initiator w xs (answers-call invoked_by message answers)) (peer-calls answered_by A w xs) (calls-same answered_by Initiator w xs (answers-call answered_by message answers))
-        (moved tables _ _ _ _ _ _ _ _ _ _ _ _ refl (their-taken Initiator w two ledger dealings message left body answers shown j e r) (x Responder))
-    taken-told Responder w two ledger dealings message left body answers shown j e r x Responder =
+        (moved tables _ _ _ _ _ _ _ _ _ _ _ _ refl (their-taken Initiator w two ledger exchanges message left body answers shown j e r) (x Responder))
+    taken-told Responder w two ledger exchanges message left body answers shown j e r x Responder =
         let xs : List Step = took message ∷ map (answered message) answers in
         changed tables _ _ _ _ _ _ _ _ _ _ _ _ _ _ (calls-same invoked_by Responder w xs (answers-call invoked_by message answers)) (peer-calls invoked_by B w xs) (calls-same answered_by Responder w xs (answers-call answered_by message answers)) (peer-calls answered_by B w xs)
-        (own-taken Responder w two ledger dealings message left body answers shown j e r x)
-    taken-told Responder w two ledger dealings message left body answers shown j e r x Initiator =
+        (own-taken Responder w two ledger exchanges message left body answers shown j e r x)
+    taken-told Responder w two ledger exchanges message left body answers shown j e r x Initiator =
         let xs : List Step = took message ∷ map (answered message) answers in
         changed tables _ _ _ _ _ _ _ _ _ _ _ _ _ _ (peer-calls invoked_by B w xs) (calls-same invoked_by Responder w xs (answers-call invoked_by message answers)) (peer-calls answered_by B w xs) (calls-same answered_by Responder w xs (answers-call answered_by message answers))
-        (moved tables _ _ _ _ _ _ _ _ _ _ _ _ refl (their-taken Responder w two ledger dealings message left body answers shown j e r) (x Initiator))
+        (moved tables _ _ _ _ _ _ _ _ _ _ _ _ refl (their-taken Responder w two ledger exchanges message left body answers shown j e r) (x Initiator))
 
     -- ---- steps that call nothing and take nothing
 
-    step-told : (role : Role) (w : World) (two later : Two) (ledger : Ledger) (dealings after : Dealings) (x : Step) → all_calls invoked_by (x ∷ []) ≡ [] → all_calls answered_by (x ∷ []) ≡ []
-        → (r : Role) → Facts tables (made r w) (made (other r) w) (given r w) (given (other r) w) (pairs.body_at r later) (deeds_of r ledger.deeds).started (deeds_of (other r) ledger.deeds).started (dealt_of r after).asked (dealt_of r after).shown (deeds_of r ledger.deeds).arrived
+    step-told : (role : Role) (w : World) (two later : Two) (ledger : Ledger) (exchanges after : Exchanges) (x : Step) → all_calls invoked_by (x ∷ []) ≡ [] → all_calls answered_by (x ∷ []) ≡ []
+        → (r : Role) → Facts tables (made r w) (made (other r) w) (given r w) (given (other r) w) (both_ends.body_at r later) (transfer_log_of r ledger.transfer_log).started (transfer_log_of (other r) ledger.transfer_log).started (exchange_of r after).asked (exchange_of r after).shown (transfer_log_of r ledger.transfer_log).arrived
         → Told r (record { side = side_of role; step = x } ∷ w) later ledger after
-    step-told Initiator w two later ledger dealings after x e f Initiator h =
+    step-told Initiator w two later ledger exchanges after x e f Initiator h =
         changed tables _ _ _ _ _ _ _ _ _ _ _ _ _ _ (calls-same invoked_by Initiator w (x ∷ []) e) (peer-calls invoked_by A w (x ∷ [])) (calls-same answered_by Initiator w (x ∷ []) f) (peer-calls answered_by A w (x ∷ [])) h
-    step-told Initiator w two later ledger dealings after x e f Responder h =
+    step-told Initiator w two later ledger exchanges after x e f Responder h =
         changed tables _ _ _ _ _ _ _ _ _ _ _ _ _ _ (peer-calls invoked_by A w (x ∷ [])) (calls-same invoked_by Initiator w (x ∷ []) e) (peer-calls answered_by A w (x ∷ [])) (calls-same answered_by Initiator w (x ∷ []) f) h
-    step-told Responder w two later ledger dealings after x e f Responder h =
+    step-told Responder w two later ledger exchanges after x e f Responder h =
         changed tables _ _ _ _ _ _ _ _ _ _ _ _ _ _ (calls-same invoked_by Responder w (x ∷ []) e) (peer-calls invoked_by B w (x ∷ [])) (calls-same answered_by Responder w (x ∷ []) f) (peer-calls answered_by B w (x ∷ [])) h
-    step-told Responder w two later ledger dealings after x e f Initiator h =
+    step-told Responder w two later ledger exchanges after x e f Initiator h =
         changed tables _ _ _ _ _ _ _ _ _ _ _ _ _ _ (peer-calls invoked_by B w (x ∷ [])) (calls-same invoked_by Responder w (x ∷ []) e) (peer-calls answered_by B w (x ∷ [])) (calls-same answered_by Responder w (x ∷ []) f) h
 
-    passed-told : (role : Role) (w : World) (two : Two) (ledger : Ledger) (dealings : Dealings) (message : Message) (left : List Message) → BothTold w two ledger dealings
-        → BothTold (record { side = side_of role; step = passed } ∷ w) (stepped role (pairs.body_at role two) left [] two) ledger (on_dealt role (meets message) stays dealings)
-    passed-told Initiator w two ledger dealings message left x Initiator = step-told Initiator w two (stepped Initiator two.a left [] two) ledger dealings (on_dealt Initiator (meets message) stays dealings) passed refl refl Initiator (x Initiator)
-    passed-told Initiator w two ledger dealings message left x Responder = step-told Initiator w two (stepped Initiator two.a left [] two) ledger dealings (on_dealt Initiator (meets message) stays dealings) passed refl refl Responder (x Responder)
-    passed-told Responder w two ledger dealings message left x Initiator = step-told Responder w two (stepped Responder two.b left [] two) ledger dealings (on_dealt Responder (meets message) stays dealings) passed refl refl Initiator (x Initiator)
-    passed-told Responder w two ledger dealings message left x Responder = step-told Responder w two (stepped Responder two.b left [] two) ledger dealings (on_dealt Responder (meets message) stays dealings) passed refl refl Responder (x Responder)
+    passed-told : (role : Role) (w : World) (two : Two) (ledger : Ledger) (exchanges : Exchanges) (message : Message) (left : List Message) → BothTold w two ledger exchanges
+        → BothTold (record { side = side_of role; step = passed } ∷ w) (stepped role (both_ends.body_at role two) left [] two) ledger (on_exchange role (meets message) stays exchanges)
+    passed-told Initiator w two ledger exchanges message left x Initiator = step-told Initiator w two (stepped Initiator two.a left [] two) ledger exchanges (on_exchange Initiator (meets message) stays exchanges) passed refl refl Initiator (x Initiator)
+    passed-told Initiator w two ledger exchanges message left x Responder = step-told Initiator w two (stepped Initiator two.a left [] two) ledger exchanges (on_exchange Initiator (meets message) stays exchanges) passed refl refl Responder (x Responder)
+    passed-told Responder w two ledger exchanges message left x Initiator = step-told Responder w two (stepped Responder two.b left [] two) ledger exchanges (on_exchange Responder (meets message) stays exchanges) passed refl refl Initiator (x Initiator)
+    passed-told Responder w two ledger exchanges message left x Responder = step-told Responder w two (stepped Responder two.b left [] two) ledger exchanges (on_exchange Responder (meets message) stays exchanges) passed refl refl Responder (x Responder)
 
-    broke-told : (w : World) (two : Two) (ledger : Ledger) (dealings : Dealings) → BothTold w two ledger dealings → BothTold (record { side = B; step = broke } ∷ record { side = A; step = broke } ∷ w) (both_broke common two) ledger (on_dealt Initiator loses loses dealings)
-    broke-told w two ledger dealings x r =
-        step-told Responder (record { side = A; step = broke } ∷ w) two (both_broke common two) ledger dealings (on_dealt Initiator loses loses dealings) broke refl refl r
-        (step-told Initiator w two (both_broke common two) ledger dealings (on_dealt Initiator loses loses dealings) broke refl refl r (here r))
+    broke-told : (w : World) (two : Two) (ledger : Ledger) (exchanges : Exchanges) → BothTold w two ledger exchanges → BothTold (record { side = B; step = broke } ∷ record { side = A; step = broke } ∷ w) (both_broke common two) ledger (on_exchange Initiator loses loses exchanges)
+    broke-told w two ledger exchanges x r =
+        step-told Responder (record { side = A; step = broke } ∷ w) two (both_broke common two) ledger exchanges (on_exchange Initiator loses loses exchanges) broke refl refl r
+        (step-told Initiator w two (both_broke common two) ledger exchanges (on_exchange Initiator loses loses exchanges) broke refl refl r (here r))
       where
-        here : (r : Role) → Facts tables (made r w) (made (other r) w) (given r w) (given (other r) w) (pairs.body_at r (both_broke common two)) (deeds_of r ledger.deeds).started (deeds_of (other r) ledger.deeds).started (dealt_of r (on_dealt Initiator loses loses dealings)).asked (dealt_of r (on_dealt Initiator loses loses dealings)).shown (deeds_of r ledger.deeds).arrived
+        here : (r : Role) → Facts tables (made r w) (made (other r) w) (given r w) (given (other r) w) (both_ends.body_at r (both_broke common two)) (transfer_log_of r ledger.transfer_log).started (transfer_log_of (other r) ledger.transfer_log).started (exchange_of r (on_exchange Initiator loses loses exchanges)).asked (exchange_of r (on_exchange Initiator loses loses exchanges)).shown (transfer_log_of r ledger.transfer_log).arrived
         here Initiator = own-same tables _ _ _ _ _ _ _ _ _ _ (x Initiator) (after_broke (base Initiator) two.a) refl refl
         here Responder = own-same tables _ _ _ _ _ _ _ _ _ _ (x Responder) (after_broke (base Responder) two.b) refl refl
 
-    first-told : BothTold [] (two_new common) (first_ledger common) (record { a = nothing_dealt; b = nothing_dealt })
+    first-told : BothTold [] (two_new common) (first_ledger common) (record { a = nothing_exchanged; b = nothing_exchanged })
     first-told Initiator = record { queue_so = tt; started_so = tt; numbers = record { fresh = tt; given = tt }; asked_so = tt; noted = tt; come = tt; fresh = tt }
     first-told Responder = record { queue_so = tt; started_so = tt; numbers = record { fresh = tt; given = tt }; asked_so = tt; noted = tt; come = tt; fresh = tt }
 
     told-keeps : Keeps common BothTold
     told-keeps = record {
       begins = first-told;
-      calls = λ role w two ledger dealings call answer j c h. called-told role w two ledger dealings call answer (end_for common role w).body (j.bodies role) c h;
-      acts = λ role w two ledger dealings own j c h. acted-told role w two ledger dealings own (end_for common role w).body (j.bodies role) c h;
-      takes = λ role w two ledger dealings message left body answers shown j e r h. taken-told role w two ledger dealings message left body answers shown j e r h;
-      passes = λ role w two ledger dealings message left j e r h. passed-told role w two ledger dealings message left h;
-      quiet = λ role w two ledger dealings x q h r. step-told role w two two ledger dealings dealings x (quiet-invokes x q) (quiet-answers x q) r (h r);
-      breaks = λ w two ledger dealings j h. broke-told w two ledger dealings h;
+      calls = λ role w two ledger exchanges call answer j c h. called-told role w two ledger exchanges call answer (end_for common role w).body (j.bodies role) c h;
+      acts = λ role w two ledger exchanges own j c h. acted-told role w two ledger exchanges own (end_for common role w).body (j.bodies role) c h;
+      takes = λ role w two ledger exchanges message left body answers shown j e r h. taken-told role w two ledger exchanges message left body answers shown j e r h;
+      passes = λ role w two ledger exchanges message left j e r h. passed-told role w two ledger exchanges message left h;
+      quiet = λ role w two ledger exchanges x q h r. step-told role w two two ledger exchanges exchanges x (quiet-invokes x q) (quiet-answers x q) r (h r);
+      breaks = λ w two ledger exchanges j h. broke-told w two ledger exchanges h;
     }
 
     -- with what of it was shown in the whole run
-    abbrev Same : World → Dealings → Type 0
+    abbrev Same : World → Exchanges → Type 0
     Same = notes.Same ends
 
-    pub both-keep : Keeps common (λ w two ledger dealings. Same w dealings × BothTold w two ledger dealings)
+    pub both-keep : Keeps common (λ w two ledger exchanges. Same w exchanges × BothTold w two ledger exchanges)
     both-keep =
         let s = notes.same-keeps free tables spellings a b p.never p.kept in
         record {
           begins = (s.begins, told-keeps.begins);
-          calls = λ role w two ledger dealings call answer j c h. (s.calls role w two ledger dealings call answer j c h.0, told-keeps.calls role w two ledger dealings call answer j c h.1);
-          acts = λ role w two ledger dealings own j c h. (s.acts role w two ledger dealings own j c h.0, told-keeps.acts role w two ledger dealings own j c h.1);
-          takes = λ role w two ledger dealings message left body answers shown j e r h. (s.takes role w two ledger dealings message left body answers shown j e r h.0, told-keeps.takes role w two ledger dealings message left body answers shown j e r h.1);
-          passes = λ role w two ledger dealings message left j e r h. (s.passes role w two ledger dealings message left j e r h.0, told-keeps.passes role w two ledger dealings message left j e r h.1);
-          quiet = λ role w two ledger dealings x q h. (s.quiet role w two ledger dealings x q h.0, told-keeps.quiet role w two ledger dealings x q h.1);
-          breaks = λ w two ledger dealings j h. (s.breaks w two ledger dealings j h.0, told-keeps.breaks w two ledger dealings j h.1);
+          calls = λ role w two ledger exchanges call answer j c h. (s.calls role w two ledger exchanges call answer j c h.0, told-keeps.calls role w two ledger exchanges call answer j c h.1);
+          acts = λ role w two ledger exchanges own j c h. (s.acts role w two ledger exchanges own j c h.0, told-keeps.acts role w two ledger exchanges own j c h.1);
+          takes = λ role w two ledger exchanges message left body answers shown j e r h. (s.takes role w two ledger exchanges message left body answers shown j e r h.0, told-keeps.takes role w two ledger exchanges message left body answers shown j e r h.1);
+          passes = λ role w two ledger exchanges message left j e r h. (s.passes role w two ledger exchanges message left j e r h.0, told-keeps.passes role w two ledger exchanges message left j e r h.1);
+          quiet = λ role w two ledger exchanges x q h. (s.quiet role w two ledger exchanges x q h.0, told-keeps.quiet role w two ledger exchanges x q h.1);
+          breaks = λ w two ledger exchanges j h. (s.breaks w two ledger exchanges j h.0, told-keeps.breaks w two ledger exchanges j h.1);
         }
 
     -- ---- whole runs
 
     module _ (m : IsMeant common) (w : World) (all : List Event) (told : List Entry) (typed : AreEvents all) (r : Runs ends [] all told w) where
-      role-tells : (role : Role) (two : Two) (ledger : Ledger) (dealings : Dealings) → Deals common two ledger dealings → notes_of (seen_at ends (side_of role) w) ≡ notes_of (dealt_of role dealings).shown → Told role w two ledger dealings
+      role-tells : (role : Role) (two : Two) (ledger : Ledger) (exchanges : Exchanges) → ReachedWithExchanges common two ledger exchanges → notes_of (seen_at ends (side_of role) w) ≡ notes_of (exchange_of role exchanges).shown → Told role w two ledger exchanges
           → TellsRightly tables (made role w) (made (other role) w) (given (other role) w) (flat_map invocation_in (seen_at ends (side_of role) w)) (flat_map outcome_in (seen_at ends (side_of role) w))
-      role-tells role two ledger dealings d same x =
-          tells-rightly tables (made role w) (made (other role) w) (given (other role) w) (dealt_of role dealings).asked (seen_at ends (side_of role) w) (dealt_of role dealings).shown same x.asked_so x.noted
-          x.fresh (once common two ledger dealings d role).distinct (links-are-allowed common two ledger dealings d role)
+      role-tells role two ledger exchanges d same x =
+          tells-rightly tables (made role w) (made (other role) w) (given (other role) w) (exchange_of role exchanges).asked (seen_at ends (side_of role) w) (exchange_of role exchanges).shown same x.asked_so x.noted
+          x.fresh (once common two ledger exchanges d role).distinct (links-are-allowed common two ledger exchanges d role)
 
-      by-side : Joined common (λ w two ledger dealings. Same w dealings × BothTold w two ledger dealings) w → (side : Side) → ToldRightly tables ends w side
-      by-side s A = role-tells Initiator s.two s.ledger s.dealings s.joint.deals (s.extra.0 Initiator) (s.extra.1 Initiator)
-      by-side s B = role-tells Responder s.two s.ledger s.dealings s.joint.deals (s.extra.0 Responder) (s.extra.1 Responder)
+      by-side : Joined common (λ w two ledger exchanges. Same w exchanges × BothTold w two ledger exchanges) w → (side : Side) → ToldRightly tables ends w side
+      by-side s A = role-tells Initiator s.two s.ledger s.exchanges s.joint.reached_exchanges (s.extra.0 Initiator) (s.extra.1 Initiator)
+      by-side s B = role-tells Responder s.two s.ledger s.exchanges s.joint.reached_exchanges (s.extra.0 Responder) (s.extra.1 Responder)
 
       pub tell-rightly : OneOutcome tables told
-      tell-rightly = one-outcome tables ends w all told r (each-carry-shows common m w all told typed r) (by-side (from-start common m (λ w two ledger dealings. Same w dealings × BothTold w two ledger dealings) both-keep w all told typed r))
+      tell-rightly = one-outcome tables ends w all told r (each-carry-shows common m w all told typed r) (by-side (from-start common m (λ w two ledger exchanges. Same w exchanges × BothTold w two ledger exchanges) both-keep w all told typed r))

@@ -36,7 +36,7 @@ use Rattle.end_model.specs.Requests.{sent_all, after_called}
 use Rattle.end_model.proofs.Ladder.{called, passed}
 use Rattle.end_model.proofs.InvokeRungs.{invokable}
 use Rattle.end_model.proofs.HandingRows.{next-is}
-use Rattle.outcome_laws.specs.Deals.{Asked, asked_by}
+use Rattle.outcome_laws.specs.Exchanges.{Asked, asked_by}
 use Rattle.run_laws.specs.Outcomes.{Invocation, ToldOutcome, returned, failed, invoked_by, answered_by}
 use Rattle.association_runs.proofs.Noted.{in-behind, IsOurs, ours-on, AreMade, made-on}
 use Rattle.run_lemmas.proofs.Numbers.{apdu_invokes, IsGood, good-next, good-none}

@@ -26,14 +26,14 @@ use Rattle.agreement.specs.Sets.{Role, other}
 use Rattle.agreement.specs.Sets.Role.{Initiator, Responder}
 use Rattle.end_model.specs.Seen.{Free}
 use Rattle.end_model.specs.Requests.{after_called}
-use Rattle.end_model.specs.Pairs.{Common, base_at, Two, body_at, coming_to, stepped}
+use Rattle.end_model.specs.BothEnds.{Common, base_at, Two, body_at, coming_to, stepped}
 use Rattle.end_model.specs.Sharing.{side_of, shared_all_sent, shared_all_answered}
-use Rattle.reliable_model.specs.Goes.{Ledger, own_messages}
-use Rattle.reliable_model.specs.ReliablePairs.{reliable_pair}
+use Rattle.reliable_model.specs.Ledgers.{Ledger, own_messages}
+use Rattle.reliable_model.specs.ReliableEnds.{reliable_common}
 use Rattle.reliable_model.proofs.Fixed.{AreIdentifiers}
 use Rattle.reliable_model.proofs.Machine as machine
 use Rattle.reliable_model.proofs.Placing.{all-kept}
-use Rattle.outcome_laws.specs.Deals.{Dealings}
+use Rattle.outcome_laws.specs.Exchanges.{Exchanges}
 use Rattle.said_words.specs.Calls.{Speaks}
 use Rattle.said_words.specs.Words.{IsMessage, AreMessages}
 use Rattle.said_words.proofs.TransferEnds as said_ends
@@ -143,7 +143,7 @@ quiet-sends _ q = absurd q
 
 module _ (free : Free) (tables : Tables) (spellings : Spellings) (a b : Config) where
   abbrev common : Common
-  common = reliable_pair tables spellings a b
+  common = reliable_common tables spellings a b
 
   abbrev base : Role → Base
   base role = base_at role common
@@ -183,13 +183,13 @@ module _ (free : Free) (tables : Tables) (spellings : Spellings) (a b : Config) 
     first-said two ledger s role message left e =
         (subst (AreMessages (base Initiator) (base Responder)) e (said.coming-said free tables spellings a b q ids window role two (said.all-said free tables spellings a b q ids window two ledger s.goes s.calls))).0
 
-    abbrev pub Sends : World → Two → Ledger → Dealings → Type 0
-    Sends w two ledger dealings = Fixed free tables spellings a b two ledger.shared × SendRight ends w
+    abbrev pub Sends : World → Two → Ledger → Exchanges → Type 0
+    Sends w two ledger exchanges = Fixed free tables spellings a b two ledger.shared × SendRight ends w
 
-    called-sends : (role : Role) (w : World) (two : Two) (ledger : Ledger) (dealings : Dealings) (call : Call) (answer : Option ℤ) (y : Body) → y ≡ body_at role two → Speaks common two ledger → shared_at ends w ≡ ledger.shared → can_call (base role) y call ≡ Ok answer → Fixed free tables spellings a b two ledger.shared → SendRight ends w →
+    called-sends : (role : Role) (w : World) (two : Two) (ledger : Ledger) (exchanges : Exchanges) (call : Call) (answer : Option ℤ) (y : Body) → y ≡ body_at role two → Speaks common two ledger → shared_at ends w ≡ ledger.shared → can_call (base role) y call ≡ Ok answer → Fixed free tables spellings a b two ledger.shared → SendRight ends w →
         Fixed free tables spellings a b (stepped role (after_called Reliable (base role) y call answer) (coming_to role two) (due_of (base role) y call (Ok answer)) two) (shared_all_sent Reliable (side_of role) (due_of (base role) y call (Ok answer)) ledger.shared)
         × SendRight ends (stepping (side_of role) w (called call (Ok answer) ∷ map sent (due_of (base role) y call (Ok answer))))
-    called-sends role w two ledger dealings call answer y e s shared can x r =
+    called-sends role w two ledger exchanges call answer y e s shared can x r =
         subst (λ (z : Body). can_call (base role) z call ≡ Ok answer →
         Fixed free tables spellings a b (stepped role (after_called Reliable (base role) z call answer) (coming_to role two) (due_of (base role) z call (Ok answer)) two) (shared_all_sent Reliable (side_of role) (due_of (base role) z call (Ok answer)) ledger.shared)
         × SendRight ends (stepping (side_of role) w (called call (Ok answer) ∷ map sent (due_of (base role) z call (Ok answer))))) (sym e) here can
@@ -225,9 +225,9 @@ module _ (free : Free) (tables : Tables) (spellings : Spellings) (a b : Config) 
               act-right role w own ledger.shared shared d.right r,
             )
 
-    taken-sends : (role : Role) (w : World) (two : Two) (ledger : Ledger) (dealings : Dealings) (message : Message) (left : List Message) (body : Body) (answers : List Message) (shown : List Indication) → Joint common w two ledger dealings → coming_to role two ≡ message ∷ left → react (base role) (body_at role two) message ≡ Takes body answers shown → Sends w two ledger dealings →
+    taken-sends : (role : Role) (w : World) (two : Two) (ledger : Ledger) (exchanges : Exchanges) (message : Message) (left : List Message) (body : Body) (answers : List Message) (shown : List Indication) → Joint common w two ledger exchanges → coming_to role two ≡ message ∷ left → react (base role) (body_at role two) message ≡ Takes body answers shown → Sends w two ledger exchanges →
         Fixed free tables spellings a b (stepped role body left answers two) (shared_all_answered (base role) message answers ledger.shared) × SendRight ends (stepping (side_of role) w (took message ∷ map (answered message) answers))
-    taken-sends role w two ledger dealings message left body answers shown j e h x =
+    taken-sends role w two ledger exchanges message left body answers shown j e h x =
         let k = all-kept free tables spellings a b q two ledger j.speaks.goes in
         let d =
         took-does free tables spellings a b q ids window role two ledger ledger.shared message left body answers shown k (first-said two ledger j.speaks role message left e) (rooted two ledger j.speaks role) (x.0.held role)
@@ -239,15 +239,15 @@ module _ (free : Free) (tables : Tables) (spellings : Spellings) (a b : Config) 
     pub sends-keep : Keeps common Sends
     sends-keep = record {
       begins = (fixed-first free tables spellings a b q ids window, tt);
-      calls = λ role w two ledger dealings call answer j c h. called-sends role w two ledger dealings call answer (end_for common role w).body (j.bodies role) j.speaks j.shared c h.0 h.1;
-      acts = λ role w two ledger dealings own j c h. acted-sends role w two ledger own (end_for common role w).body (j.bodies role) j.speaks j.shared c h.0 h.1;
-      takes = λ role w two ledger dealings message left body answers shown j e r h. taken-sends role w two ledger dealings message left body answers shown j e r h;
-      passes = λ role w two ledger dealings message left j e r h. (
+      calls = λ role w two ledger exchanges call answer j c h. called-sends role w two ledger exchanges call answer (end_for common role w).body (j.bodies role) j.speaks j.shared c h.0 h.1;
+      acts = λ role w two ledger exchanges own j c h. acted-sends role w two ledger own (end_for common role w).body (j.bodies role) j.speaks j.shared c h.0 h.1;
+      takes = λ role w two ledger exchanges message left body answers shown j e r h. taken-sends role w two ledger exchanges message left body answers shown j e r h;
+      passes = λ role w two ledger exchanges message left j e r h. (
         fixed-passed free tables spellings a b q ids window role two left ledger.shared h.0 (acceptance-later message (coming_to role two) left e),
         (tt, h.1),
       );
-      quiet = λ role w two ledger dealings x q h. (h.0, (silent-right ends w x (quiet-sends x q), h.1));
-      breaks = λ w two ledger dealings j h. (fixed-broke free tables spellings a b q ids window two ledger.shared h.0, (tt, (tt, h.1)));
+      quiet = λ role w two ledger exchanges x q h. (h.0, (silent-right ends w x (quiet-sends x q), h.1));
+      breaks = λ w two ledger exchanges j h. (fixed-broke free tables spellings a b q ids window two ledger.shared h.0, (tt, (tt, h.1)));
     }
 
     pub taken-as-sent : IsMeant common → (w : World) (all : List Event) (told : List Entry) → AreEvents all → Runs ends [] all told w → AtEachMoment (TakenInPlace ends) w → AtEachMoment (TakenAsSent ends) w

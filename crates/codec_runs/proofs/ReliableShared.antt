@@ -46,12 +46,12 @@ use Rattle.agreement.specs.Sets.Role.{Initiator, Responder}
 use Rattle.end_model.specs.Seen.{Free}
 use Rattle.end_model.specs.Rows.{at}
 use Rattle.end_model.specs.Requests.{sent_all, after_called}
-use Rattle.end_model.specs.Pairs.{Common, base_at, Two, body_at, coming_to, stepped, two_new, both_broke}
+use Rattle.end_model.specs.BothEnds.{Common, base_at, Two, body_at, coming_to, stepped, two_new, both_broke}
 use Rattle.end_model.specs.Sharing.{side_of, shared_all_sent, shared_all_answered}
 use Rattle.end_model.proofs.Ladder.{called}
 use Rattle.end_model.proofs.OwnActs.{leading}
-use Rattle.reliable_model.specs.Goes.{Ledger, own_messages}
-use Rattle.reliable_model.specs.ReliablePairs.{reliable_pair}
+use Rattle.reliable_model.specs.Ledgers.{Ledger, own_messages}
+use Rattle.reliable_model.specs.ReliableEnds.{reliable_common}
 use Rattle.reliable_model.proofs.Fixed.{AreIdentifiers}
 use Rattle.reliable_model.proofs.Firm.{Keeps, current-pieces}
 use Rattle.reliable_model.proofs.FirmSteps.{in-place, nothing-above}
@@ -96,7 +96,7 @@ settled-current body (x ∷ own) answers = refl
 
 module _ (free : Free) (tables : Tables) (spellings : Spellings) (a b : Config) where
   abbrev common : Common
-  common = reliable_pair tables spellings a b
+  common = reliable_common tables spellings a b
 
   abbrev base : Role → Base
   base role = base_at role common

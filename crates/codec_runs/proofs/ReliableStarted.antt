@@ -9,7 +9,7 @@ use Rattle.stub_tables.specs.declared.apdu.Apdu.{Apdu}
 use Rattle.stub_tables.specs.declared.apdu.Apdu.TheVariants as apdus
 use Rattle.end_rules.specs.State.{Queued, Sending}
 use Rattle.end_rules.specs.Requesting.{begun}
-use Rattle.reliable_model.specs.Goes.{first_of}
+use Rattle.reliable_model.specs.Ledgers.{first_of}
 use Rattle.reliable_model.specs.Transfers.{item_of, IsOf}
 use Rattle.run_laws.specs.Outcomes.{Invocation, ToldOutcome}
 use Rattle.association_runs.proofs.Noted.{IsOurs}

@@ -24,37 +24,37 @@ use Rattle.agreement.specs.Sets.{Role}
 use Rattle.agreement.specs.Sets.Role.{Initiator, Responder}
 use Rattle.agreement.specs.Laws as model
 use Rattle.end_model.specs.Seen.{Free}
-use Rattle.end_model.specs.Pairs as pairs
-use Rattle.end_model.specs.Pairs.{Common, Two, coming_to}
+use Rattle.end_model.specs.BothEnds as both_ends
+use Rattle.end_model.specs.BothEnds.{Common, Two, coming_to}
 use Rattle.end_model.specs.Sharing.{side_of}
-use Rattle.reliable_model.specs.Goes as goes
-use Rattle.reliable_model.specs.Goes.{Ledger, Deeds, Goes, deeds_of, items_by, arrived_by}
+use Rattle.reliable_model.specs.Ledgers as ledgers
+use Rattle.reliable_model.specs.Ledgers.{Ledger, TransferLog, ReachedWithLedger, transfer_log_of, items_by, arrived_by}
 use Rattle.reliable_model.specs.Transfers as transfers
-use Rattle.reliable_model.specs.ReliablePairs.{reliable_pair}
+use Rattle.reliable_model.specs.ReliableEnds.{reliable_common}
 use Rattle.reliable_model.proofs.Machine as machine
-use Rattle.outcome_laws.specs.Deals.{Dealings}
+use Rattle.outcome_laws.specs.Exchanges.{Exchanges}
 use Rattle.run_laws.specs.Transfers.{first_of, started_in, started, Encoding, encoding_of, encoded_in, encodings, Arrival, arrivals_of, arrived_in, arrivals, item_of, IsOf, IsNewest, AreWhole, ArriveWhole, AreFalling, OneTransfer}
 use Rattle.association_runs.specs.Worlds.{stepping}
 use Rattle.association_runs.specs.Sides.{ends_for}
-use Rattle.association_runs.specs.Deeds.{deeds_after, deeds_at}
+use Rattle.association_runs.specs.TransferLogs.{transfer_log_after, transfer_log_at}
 use Rattle.association_runs.specs.Arriving as arriving
 use Rattle.association_runs.specs.Arriving.{UnlessHanded, ArrivesThen, EachArrivesWhole}
 use Rattle.association_runs.proofs.Histories.{end_for, body-for}
 use Rattle.association_runs.proofs.Keeps.{IsQuiet, Keeps}
 use Rattle.association_runs.proofs.Joint.{Joint}
-use Rattle.association_runs.proofs.Deeds.{AreDone, deeds-keep}
+use Rattle.association_runs.proofs.TransferLogs.{AreDone, transfer-log-keeps}
 use Rattle.codec_runs.proofs.ReliableEarly as early
 
 -- ---- no opening forgets what was started or handed up
 
-abbrev pub KeepsAll : Base → Body → Deeds → Step → Type 0
-KeepsAll base body deeds (took (Session (OfAssociation (Connect session presentation values)))) =
-    ((is_refused base body session presentation values || recovers_in base values) ≡ true) ⊎ ((deeds.started ≡ []) × (deeds.arrived ≡ []))
-KeepsAll base body deeds _ = Unit {0}
+abbrev pub KeepsAll : Base → Body → TransferLog → Step → Type 0
+KeepsAll base body transfer_log (took (Session (OfAssociation (Connect session presentation values)))) =
+    ((is_refused base body session presentation values || recovers_in base values) ≡ true) ⊎ ((transfer_log.started ≡ []) × (transfer_log.arrived ≡ []))
+KeepsAll base body transfer_log _ = Unit {0}
 
 abbrev pub KeepThen : Ends → World → Type 0
 KeepThen ends [] = Unit {0}
-KeepThen ends (m ∷ w) = KeepsAll (sides.base_at ends m.side) (sides.body_at ends m.side w) (deeds_at ends m.side w) m.step × KeepThen ends w
+KeepThen ends (m ∷ w) = KeepsAll (sides.base_at ends m.side) (sides.body_at ends m.side w) (transfer_log_at ends m.side w) m.step × KeepThen ends w
 
 abbrev IsNoTaking : Step → Type 0
 IsNoTaking (took message) = ⊥
@@ -80,14 +80,14 @@ quiet-none : (x : Step) → IsQuiet x → IsNoTaking x
 quiet-none (took message) q = absurd q
 quiet-none _ q = tt
 
-none-keeps : (base : Base) (body : Body) (deeds : Deeds) (x : Step) → IsNoTaking x → KeepsAll base body deeds x
-none-keeps base body deeds (took message) n = absurd n
-none-keeps base body deeds _ n = tt
+none-keeps : (base : Base) (body : Body) (transfer_log : TransferLog) (x : Step) → IsNoTaking x → KeepsAll base body transfer_log x
+none-keeps base body transfer_log (took message) n = absurd n
+none-keeps base body transfer_log _ n = tt
 
 all-keep : (ends : Ends) (side : Side) (w : World) (xs : List Step) → AreNoTakings xs → KeepThen ends w → KeepThen ends (stepping side w xs)
 all-keep ends side w [] n h = h
 all-keep ends side w (x ∷ xs) n h =
-    all-keep ends side (record { side = side; step = x } ∷ w) xs n.1 (none-keeps (sides.base_at ends side) (sides.body_at ends side w) (deeds_at ends side w) x n.0, h)
+    all-keep ends side (record { side = side; step = x } ∷ w) xs n.1 (none-keeps (sides.base_at ends side) (sides.body_at ends side w) (transfer_log_at ends side w) x n.0, h)
 
 -- ---- what was started, encoded and handed up, with nothing forgotten
 
@@ -104,26 +104,26 @@ pub second-half : {P Q R : Type 0} → P ⊎ (Q × R) → P ⊎ R
 second-half (inl p) = inl p
 second-half (inr h) = inr h.1
 
-step-started : (base : Base) (body : Body) (set : List SetItem) (deeds : Deeds) (x : Step) (before : List Queued) → KeepsAll base body deeds x → deeds.started ≡ before → (deeds_after base body set x deeds).started ≡ started_in body x ++ before
-step-started base body set deeds (sent (Session (OfActivities (Start activity)))) before k e = first-so body.sending.queue
+step-started : (base : Base) (body : Body) (set : List SetItem) (transfer_log : TransferLog) (x : Step) (before : List Queued) → KeepsAll base body transfer_log x → transfer_log.started ≡ before → (transfer_log_after base body set x transfer_log).started ≡ started_in body x ++ before
+step-started base body set transfer_log (sent (Session (OfActivities (Start activity)))) before k e = first-so body.sending.queue
   where
-    first-so : (queue : List Queued) → goes.first_of queue ++ deeds.started ≡ first_of queue ++ before
+    first-so : (queue : List Queued) → ledgers.first_of queue ++ transfer_log.started ≡ first_of queue ++ before
     first-so [] = e
     first-so (item ∷ items) = ap (λ (l : List Queued). item ∷ l) e
-step-started base body set deeds (sent _) before k e = e
-step-started base body set deeds (took (Session (OfAssociation (Connect session presentation values)))) before k e =
-    anew-same (is_refused base body session presentation values || recovers_in base values) deeds.started (first-half k) ∙ e
-step-started base body set deeds (took _) before k e = e
-step-started base body set deeds _ before k e = e
+step-started base body set transfer_log (sent _) before k e = e
+step-started base body set transfer_log (took (Session (OfAssociation (Connect session presentation values)))) before k e =
+    anew-same (is_refused base body session presentation values || recovers_in base values) transfer_log.started (first-half k) ∙ e
+step-started base body set transfer_log (took _) before k e = e
+step-started base body set transfer_log _ before k e = e
 
 -- the same, with its own name for what is encoded
-abbrev as_model : Encoding → goes.Encoding
+abbrev as_model : Encoding → ledgers.Encoding
 as_model x = record { activity = x.activity; id = x.id; pair = x.pair; apdu = x.apdu }
 
-abbrev as_ours : goes.Encoding → Encoding
+abbrev as_ours : ledgers.Encoding → Encoding
 as_ours x = record { activity = x.activity; id = x.id; pair = x.pair; apdu = x.apdu }
 
-encoding-so : (activity : ℕ) (set : List SetItem) (context : ℕ) (current : Option Transfer) → goes.encoding_of current activity set context ≡ map as_model (encoding_of activity context (pair_of set context) current)
+encoding-so : (activity : ℕ) (set : List SetItem) (context : ℕ) (current : Option Transfer) → ledgers.encoding_of current activity set context ≡ map as_model (encoding_of activity context (pair_of set context) current)
 encoding-so activity set context None = refl
 encoding-so activity set context (Some transfer) = refl
 
@@ -131,7 +131,7 @@ map-two : {X Y : Type 0} (f : X → Y) (xs ys : List X) → map f (xs ++ ys) ≡
 map-two {Y = Y} f [] ys = refl
 map-two {Y = Y} f (x ∷ xs) ys = ap (λ (l : List Y). f x ∷ l) (map-two f xs ys)
 
-newest-so : (x : goes.Encoding) (es : List Encoding) → transfers.IsNewest x (map as_model es) → IsNewest (as_ours x) es
+newest-so : (x : ledgers.Encoding) (es : List Encoding) → transfers.IsNewest x (map as_model es) → IsNewest (as_ours x) es
 newest-so x [] h = h
 newest-so x (e ∷ es) h = ap as_ours h
 
@@ -157,55 +157,55 @@ falling-so (x ∷ []) h = tt
 falling-so (x ∷ (y ∷ ys)) h = (h.0, falling-so (y ∷ ys) h.1)
 
 module _ (ends : Ends) where
-  step-encoded : (side : Side) (w : World) (x : Step) (deeds : Deeds) (before : List Encoding) → deeds.encoded ≡ map as_model before
-      → (deeds_after (sides.base_at ends side) (sides.body_at ends side w) (shared_at ends w).set x deeds).encoded ≡ map as_model (encoded_in ends w (sides.body_at ends side w) x ++ before)
-  step-encoded side w (encoded context) deeds before e =
+  step-encoded : (side : Side) (w : World) (x : Step) (transfer_log : TransferLog) (before : List Encoding) → transfer_log.encoded ≡ map as_model before
+      → (transfer_log_after (sides.base_at ends side) (sides.body_at ends side w) (shared_at ends w).set x transfer_log).encoded ≡ map as_model (encoded_in ends w (sides.body_at ends side w) x ++ before)
+  step-encoded side w (encoded context) transfer_log before e =
       let body : Body = sides.body_at ends side w in
       (λ i. encoding-so body.sending.started (shared_at ends w).set context body.sending.current i ++ e i)
       ∙ sym (map-two as_model (encoding_of body.sending.started context (pair_of (shared_at ends w).set context) body.sending.current) before)
-  step-encoded side w _ deeds before e = e
+  step-encoded side w _ transfer_log before e = e
 
-  one-encoded : (side s : Side) (x : Step) (w : World) → (deeds_at ends side w).encoded ≡ map as_model (encodings ends side w) → (deeds_at ends side (record { side = s; step = x } ∷ w)).encoded ≡ map as_model (encodings ends side (record { side = s; step = x } ∷ w))
-  one-encoded A A x w e = step-encoded A w x (deeds_at ends A w) (encodings ends A w) e
-  one-encoded B B x w e = step-encoded B w x (deeds_at ends B w) (encodings ends B w) e
+  one-encoded : (side s : Side) (x : Step) (w : World) → (transfer_log_at ends side w).encoded ≡ map as_model (encodings ends side w) → (transfer_log_at ends side (record { side = s; step = x } ∷ w)).encoded ≡ map as_model (encodings ends side (record { side = s; step = x } ∷ w))
+  one-encoded A A x w e = step-encoded A w x (transfer_log_at ends A w) (encodings ends A w) e
+  one-encoded B B x w e = step-encoded B w x (transfer_log_at ends B w) (encodings ends B w) e
   one-encoded A B x w e = e
   one-encoded B A x w e = e
 
-  encoded-same : (side : Side) (w : World) → (deeds_at ends side w).encoded ≡ map as_model (encodings ends side w)
+  encoded-same : (side : Side) (w : World) → (transfer_log_at ends side w).encoded ≡ map as_model (encodings ends side w)
   encoded-same side [] = refl
   encoded-same side (m ∷ w) = one-encoded side m.side m.step w (encoded-same side w)
 
-  one-started : (side s : Side) (x : Step) (w : World) → KeepsAll (sides.base_at ends s) (sides.body_at ends s w) (deeds_at ends s w) x → (deeds_at ends side w).started ≡ started ends side w → (deeds_at ends side (record { side = s; step = x } ∷ w)).started ≡ started ends side (record { side = s; step = x } ∷ w)
-  one-started A A x w k e = step-started (sides.base_at ends A) (sides.body_at ends A w) (shared_at ends w).set (deeds_at ends A w) x (started ends A w) k e
-  one-started B B x w k e = step-started (sides.base_at ends B) (sides.body_at ends B w) (shared_at ends w).set (deeds_at ends B w) x (started ends B w) k e
+  one-started : (side s : Side) (x : Step) (w : World) → KeepsAll (sides.base_at ends s) (sides.body_at ends s w) (transfer_log_at ends s w) x → (transfer_log_at ends side w).started ≡ started ends side w → (transfer_log_at ends side (record { side = s; step = x } ∷ w)).started ≡ started ends side (record { side = s; step = x } ∷ w)
+  one-started A A x w k e = step-started (sides.base_at ends A) (sides.body_at ends A w) (shared_at ends w).set (transfer_log_at ends A w) x (started ends A w) k e
+  one-started B B x w k e = step-started (sides.base_at ends B) (sides.body_at ends B w) (shared_at ends w).set (transfer_log_at ends B w) x (started ends B w) k e
   one-started A B x w k e = e
   one-started B A x w k e = e
 
-  started-same : (side : Side) (w : World) → KeepThen ends w → (deeds_at ends side w).started ≡ started ends side w
+  started-same : (side : Side) (w : World) → KeepThen ends w → (transfer_log_at ends side w).started ≡ started ends side w
   started-same side [] k = refl
   started-same side (m ∷ w) k = one-started side m.side m.step w k.0 (started-same side w k.1)
 
-  step-arrived : (side : Side) (w : World) (x : Step) (deeds : Deeds) (before : List Arrival) → KeepsAll (sides.base_at ends side) (sides.body_at ends side w) deeds x → ArrivesThen ends side w x → deeds.arrived ≡ map number_of before
-      → (deeds_after (sides.base_at ends side) (sides.body_at ends side w) (shared_at ends w).set x deeds).arrived ≡ map number_of (arrived_in (sides.base_at ends side) (sides.body_at ends side w) x ++ before)
-  step-arrived side w (took (Session (OfActivities (End number)))) deeds before k h e =
+  step-arrived : (side : Side) (w : World) (x : Step) (transfer_log : TransferLog) (before : List Arrival) → KeepsAll (sides.base_at ends side) (sides.body_at ends side w) transfer_log x → ArrivesThen ends side w x → transfer_log.arrived ≡ map number_of before
+      → (transfer_log_after (sides.base_at ends side) (sides.body_at ends side w) (shared_at ends w).set x transfer_log).arrived ≡ map number_of (arrived_in (sides.base_at ends side) (sides.body_at ends side w) x ++ before)
+  step-arrived side w (took (Session (OfActivities (End number)))) transfer_log before k h e =
       (λ i. here (sides.body_at ends side w).receiving.was_handed h i ++ e i)
       ∙ sym (map-two number_of (arrivals_of (sides.body_at ends side w).receiving.last (handed_up (sides.base_at ends side) (sides.body_at ends side w))) before)
     where
       here : (handed : Bool) → UnlessHanded handed (arriving.IsWhole ends side w) → (if handed then [] else (sides.body_at ends side w).receiving.last ∷ []) ≡ map number_of (arrivals_of (sides.body_at ends side w).receiving.last (if handed then [] else values_arrived (arrived_now (sides.base_at ends side) (sides.body_at ends side w))))
       here true h = refl
       here false h = sym (values-so (sides.body_at ends side w).receiving.last (arrived_now (sides.base_at ends side) (sides.body_at ends side w)) h.item h.arrived)
-  step-arrived side w (took (Session (OfAssociation (Connect session presentation values)))) deeds before k h e =
-      anew-same (is_refused (sides.base_at ends side) (sides.body_at ends side w) session presentation values || recovers_in (sides.base_at ends side) values) deeds.arrived (second-half k) ∙ e
-  step-arrived side w (took _) deeds before k h e = e
-  step-arrived side w _ deeds before k h e = e
+  step-arrived side w (took (Session (OfAssociation (Connect session presentation values)))) transfer_log before k h e =
+      anew-same (is_refused (sides.base_at ends side) (sides.body_at ends side w) session presentation values || recovers_in (sides.base_at ends side) values) transfer_log.arrived (second-half k) ∙ e
+  step-arrived side w (took _) transfer_log before k h e = e
+  step-arrived side w _ transfer_log before k h e = e
 
-  one-arrived : (side s : Side) (x : Step) (w : World) → KeepsAll (sides.base_at ends s) (sides.body_at ends s w) (deeds_at ends s w) x → ArrivesThen ends s w x → (deeds_at ends side w).arrived ≡ map number_of (arrivals ends side w) → (deeds_at ends side (record { side = s; step = x } ∷ w)).arrived ≡ map number_of (arrivals ends side (record { side = s; step = x } ∷ w))
-  one-arrived A A x w k h e = step-arrived A w x (deeds_at ends A w) (arrivals ends A w) k h e
-  one-arrived B B x w k h e = step-arrived B w x (deeds_at ends B w) (arrivals ends B w) k h e
+  one-arrived : (side s : Side) (x : Step) (w : World) → KeepsAll (sides.base_at ends s) (sides.body_at ends s w) (transfer_log_at ends s w) x → ArrivesThen ends s w x → (transfer_log_at ends side w).arrived ≡ map number_of (arrivals ends side w) → (transfer_log_at ends side (record { side = s; step = x } ∷ w)).arrived ≡ map number_of (arrivals ends side (record { side = s; step = x } ∷ w))
+  one-arrived A A x w k h e = step-arrived A w x (transfer_log_at ends A w) (arrivals ends A w) k h e
+  one-arrived B B x w k h e = step-arrived B w x (transfer_log_at ends B w) (arrivals ends B w) k h e
   one-arrived A B x w k h e = e
   one-arrived B A x w k h e = e
 
-  arrived-same : (side : Side) (w : World) → KeepThen ends w → EachArrivesWhole ends w → (deeds_at ends side w).arrived ≡ map number_of (arrivals ends side w)
+  arrived-same : (side : Side) (w : World) → KeepThen ends w → EachArrivesWhole ends w → (transfer_log_at ends side w).arrived ≡ map number_of (arrivals ends side w)
   arrived-same side [] k h = refl
   arrived-same side (m ∷ w) k h = one-arrived side m.side m.step w k.0 h.0 (arrived-same side w k.1 h.1)
 
@@ -238,7 +238,7 @@ module _ (ends : Ends) where
   all-whole [] h k = tt
   all-whole (m ∷ w) h k = (step-whole m.side w m.step h.0 k.1, all-whole w h.1 k.1)
 
-  pub transferred-once : (w : World) → EachArrivesWhole ends w → KeepThen ends w → ((side : Side) → model.AreFalling (deeds_at ends side w).arrived) → OneTransfer ends w
+  pub transferred-once : (w : World) → EachArrivesWhole ends w → KeepThen ends w → ((side : Side) → model.AreFalling (transfer_log_at ends side w).arrived) → OneTransfer ends w
   transferred-once w h k f = record {
     whole = all-whole w h k;
     once = λ side. falling-so (arrivals ends side w) (subst model.AreFalling (arrived-same side w k h) (f side));
@@ -248,46 +248,46 @@ module _ (ends : Ends) where
 
 module _ (free : Free) (tables : Tables) (spellings : Spellings) (a b : Config) where
   abbrev common : Common
-  common = reliable_pair tables spellings a b
+  common = reliable_common tables spellings a b
 
   abbrev ends : Ends
   ends = ends_for common
 
-  module _ (never : early.NeverFails free tables spellings a b) (kept : (two : Two) (ledger : Ledger) → Goes common two ledger → machine.Kept free tables spellings a b two ledger) where
-    taken-keeps : (role : Role) (w : World) (two : Two) (ledger : Ledger) (dealings : Dealings) (left : List Message) (body : Body) (answers : List Message) (shown : List Indication) → Joint common w two ledger dealings → AreDone common w two ledger dealings
-        → (message : Message) → coming_to role two ≡ message ∷ left → react (pairs.base_at role common) (pairs.body_at role two) message ≡ Takes body answers shown
-        → KeepsAll (sides.base_at ends (side_of role)) (sides.body_at ends (side_of role) w) (deeds_at ends (side_of role) w) (took message)
-    taken-keeps Initiator w two ledger dealings left body answers shown j d (Session (OfAssociation (Connect session presentation values))) e r =
+  module _ (never : early.NeverFails free tables spellings a b) (kept : (two : Two) (ledger : Ledger) → ReachedWithLedger common two ledger → machine.Kept free tables spellings a b two ledger) where
+    taken-keeps : (role : Role) (w : World) (two : Two) (ledger : Ledger) (exchanges : Exchanges) (left : List Message) (body : Body) (answers : List Message) (shown : List Indication) → Joint common w two ledger exchanges → AreDone common w two ledger exchanges
+        → (message : Message) → coming_to role two ≡ message ∷ left → react (both_ends.base_at role common) (both_ends.body_at role two) message ≡ Takes body answers shown
+        → KeepsAll (sides.base_at ends (side_of role)) (sides.body_at ends (side_of role) w) (transfer_log_at ends (side_of role) w) (took message)
+    taken-keeps Initiator w two ledger exchanges left body answers shown j d (Session (OfAssociation (Connect session presentation values))) e r =
         absurd (early.no-opening free tables spellings a b two session presentation values body answers shown r)
-    taken-keeps Responder w two ledger dealings left body answers shown j d (Session (OfAssociation (Connect session presentation values))) e r =
-        subst (λ (y : Body). KeepsAll (sides.base_at ends B) y (deeds_at ends B w) (took (Session (OfAssociation (Connect session presentation values))))) (sym (body-for common Responder w ∙ j.bodies Responder))
-        (subst (λ (x : Deeds). KeepsAll (sides.base_at ends B) two.b x (took (Session (OfAssociation (Connect session presentation values))))) (sym (d Responder))
+    taken-keeps Responder w two ledger exchanges left body answers shown j d (Session (OfAssociation (Connect session presentation values))) e r =
+        subst (λ (y : Body). KeepsAll (sides.base_at ends B) y (transfer_log_at ends B w) (took (Session (OfAssociation (Connect session presentation values))))) (sym (body-for common Responder w ∙ j.bodies Responder))
+        (subst (λ (x : TransferLog). KeepsAll (sides.base_at ends B) two.b x (took (Session (OfAssociation (Connect session presentation values))))) (sym (d Responder))
         (go (early.opening-keeps free tables spellings a b two session presentation values left body answers shown (kept two ledger j.speaks.goes) e r)))
       where
-        go : early.Opens free tables spellings a b two session presentation values → KeepsAll (sides.base_at ends B) two.b ledger.deeds.b (took (Session (OfAssociation (Connect session presentation values))))
+        go : early.Opens free tables spellings a b two session presentation values → KeepsAll (sides.base_at ends B) two.b ledger.transfer_log.b (took (Session (OfAssociation (Connect session presentation values))))
         go (inl k) = inl k
         go (inr soon) = inr (early.nothing free tables spellings a b never two ledger j.speaks.goes soon)
-    taken-keeps role w two ledger dealings left body answers shown j d message e r = tt
+    taken-keeps role w two ledger exchanges left body answers shown j d message e r = tt
 
-    pub keep-keeps : Keeps common (λ w two ledger dealings. AreDone common w two ledger dealings × KeepThen ends w)
+    pub keep-keeps : Keeps common (λ w two ledger exchanges. AreDone common w two ledger exchanges × KeepThen ends w)
     keep-keeps =
-        let d = deeds-keep common in
+        let d = transfer-log-keeps common in
         record {
           begins = (d.begins, tt);
-          calls = λ role w two ledger dealings call answer j c h. (
-            d.calls role w two ledger dealings call answer j c h.0,
-            all-keep ends (side_of role) w (called call (Ok answer) ∷ map sent (due_of (pairs.base_at role common) (end_for common role w).body call (Ok answer))) (tt, sents-none (due_of (pairs.base_at role common) (end_for common role w).body call (Ok answer))) h.1,
+          calls = λ role w two ledger exchanges call answer j c h. (
+            d.calls role w two ledger exchanges call answer j c h.0,
+            all-keep ends (side_of role) w (called call (Ok answer) ∷ map sent (due_of (both_ends.base_at role common) (end_for common role w).body call (Ok answer))) (tt, sents-none (due_of (both_ends.base_at role common) (end_for common role w).body call (Ok answer))) h.1,
           );
-          acts = λ role w two ledger dealings own j c h. (d.acts role w two ledger dealings own j c h.0, all-keep ends (side_of role) w (step_of own ∷ []) (act-none own, tt) h.1);
-          takes = λ role w two ledger dealings message left body answers shown j e r h. (
-            d.takes role w two ledger dealings message left body answers shown j e r h.0,
+          acts = λ role w two ledger exchanges own j c h. (d.acts role w two ledger exchanges own j c h.0, all-keep ends (side_of role) w (step_of own ∷ []) (act-none own, tt) h.1);
+          takes = λ role w two ledger exchanges message left body answers shown j e r h. (
+            d.takes role w two ledger exchanges message left body answers shown j e r h.0,
             all-keep ends (side_of role) (record { side = side_of role; step = took message } ∷ w) (map (answered message) answers) (answers-none message answers)
-                (taken-keeps role w two ledger dealings left body answers shown j h.0 message e r, h.1),
+                (taken-keeps role w two ledger exchanges left body answers shown j h.0 message e r, h.1),
           );
-          passes = λ role w two ledger dealings message left j e r h. (d.passes role w two ledger dealings message left j e r h.0, (tt, h.1));
-          quiet = λ role w two ledger dealings x q h. (
-            d.quiet role w two ledger dealings x q h.0,
-            (none-keeps (sides.base_at ends (side_of role)) (sides.body_at ends (side_of role) w) (deeds_at ends (side_of role) w) x (quiet-none x q), h.1),
+          passes = λ role w two ledger exchanges message left j e r h. (d.passes role w two ledger exchanges message left j e r h.0, (tt, h.1));
+          quiet = λ role w two ledger exchanges x q h. (
+            d.quiet role w two ledger exchanges x q h.0,
+            (none-keeps (sides.base_at ends (side_of role)) (sides.body_at ends (side_of role) w) (transfer_log_at ends (side_of role) w) x (quiet-none x q), h.1),
           );
-          breaks = λ w two ledger dealings j h. (d.breaks w two ledger dealings j h.0, (tt, (tt, h.1)));
+          breaks = λ w two ledger exchanges j h. (d.breaks w two ledger exchanges j h.0, (tt, (tt, h.1)));
         }

@@ -5,7 +5,7 @@ use Rattle.dialogue.specs.declared.event.Event.{Event}
 use Rattle.dialogue.specs.declared.event.Entry.{Entry}
 use Rattle.stub_tables.specs.declared.tables.Tables.{Tables}
 use Rattle.end_rules.specs.World.{World, Ends, other}
-use Rattle.end_model.specs.Pairs.{Common}
+use Rattle.end_model.specs.BothEnds.{Common}
 use Rattle.end_laws.specs.Codecs.{Transfers, direct_ends}
 use Rattle.association_worlds.specs.association_reading.Transfers.{transferred, arrived_at}
 use Rattle.said_worlds.specs.Laws.{AreEnds}
@@ -13,9 +13,9 @@ use Rattle.run_laws.specs.Passing.{TakenInPlace}
 use Rattle.run_laws.specs.Showing.{EachCarryShows}
 use Rattle.run_laws.specs.Laws.{AtEachMoment, NothingFails, OneHolder}
 use Rattle.association_runs.specs.Worlds.{ends_of, Runs}
-use Rattle.association_runs.specs.Dealings.{own_at}
+use Rattle.association_runs.specs.OwnExchanges.{own_at}
 use Rattle.association_runs.specs.Laws.{AreEvents, RunKeepsLaws}
-use Rattle.outcome_laws.specs.Deals.{AreDistinct, outcomes_in}
+use Rattle.outcome_laws.specs.Exchanges.{AreDistinct, outcomes_in}
 use Rattle.outcome_laws.specs.Outcomes.{AreAllowed, AreAnswers}
 use Rattle.osi_base.specs.declared.layer_words.Side.{Side}
 

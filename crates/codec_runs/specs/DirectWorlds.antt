@@ -8,7 +8,7 @@ use Rattle.end_rules.specs.Messages.{Message}
 use Rattle.end_rules.specs.State.{Body, holds_turn}
 use Rattle.end_rules.specs.Reacting.{Fails}
 use Rattle.agreement.specs.Sets.{Role}
-use Rattle.end_model.specs.Pairs.{Common, base_at}
+use Rattle.end_model.specs.BothEnds.{Common, base_at}
 use Rattle.association_worlds.specs.association_reading.Front.{Intake, first_in}
 use Rattle.association_worlds.specs.association_reading.Reacting.{react_to}
 use Rattle.association_worlds.specs.Worlds.{LineEnds, end_at, Spoken}

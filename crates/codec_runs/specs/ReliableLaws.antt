@@ -12,10 +12,10 @@ use Rattle.run_laws.specs.Showing.{EachCarryShows}
 use Rattle.run_laws.specs.Laws.{AtEachMoment, NothingFails, OneHolder}
 use Rattle.association_runs.specs.Worlds.{ends_of, Runs}
 use Rattle.association_runs.specs.Arriving.{EachArrivesWhole}
-use Rattle.association_runs.specs.Deeds.{deeds_at}
-use Rattle.association_runs.specs.Dealings.{own_at}
+use Rattle.association_runs.specs.TransferLogs.{transfer_log_at}
+use Rattle.association_runs.specs.OwnExchanges.{own_at}
 use Rattle.association_runs.specs.Laws.{AreEvents, RunKeepsLaws}
-use Rattle.outcome_laws.specs.Deals.{AreDistinct, outcomes_in}
+use Rattle.outcome_laws.specs.Exchanges.{AreDistinct, outcomes_in}
 use Rattle.outcome_laws.specs.Outcomes.{AreAllowed, AreAnswers}
 use Rattle.agreement.specs.Laws.{AreFalling}
 use Rattle.osi_base.specs.declared.layer_words.Side.{Side}
@@ -51,7 +51,7 @@ ReliableRunsArriveWhole = EverInRuns EachArrivesWhole
 
 -- the numbers of the transfers that are handed up rise, since an end's association began
 abbrev pub ReliableRunsArriveOnce : Type 0
-ReliableRunsArriveOnce = EverInRuns (λ ends w. (side : Side) → AreFalling (deeds_at ends side w).arrived)
+ReliableRunsArriveOnce = EverInRuns (λ ends w. (side : Side) → AreFalling (transfer_log_at ends side w).arrived)
 
 -- since its association began an end is told at most one outcome of each invocation, each of an own one, of a kind that its operation
 -- allows

@@ -7,7 +7,7 @@ use association_runs::{nothing_whole_waits, runs_reach_messages, runs_tell_one_o
 use association_worlds::said_is_meant;
 use counted_runs::messages_are_taken_when_whole;
 use end_laws::{direct_ends_are_modelled, direct_turn_has_one_holder};
-use end_model::bare_pairs_are_modelled;
+use end_model::bare_ends_are_modelled;
 use said_worlds::direct_ends_are_said;
 
 /// Every run of two ends of direct mode: at each moment each message that was taken is the one that
@@ -35,6 +35,6 @@ pub fn direct_runs_keep_laws()
     said_is_meant();
     direct_ends_are_modelled();
     direct_turn_has_one_holder();
-    bare_pairs_are_modelled();
+    bare_ends_are_modelled();
     direct_ends_are_said();
 }

@@ -4,7 +4,7 @@ ghost use Rattle.codec_runs.specs.DirectWorlds.{DirectWorldsAreSpelled, DirectWo
 
 use association_worlds::said_is_meant;
 use end_laws::{direct_ends_are_modelled, direct_turn_has_one_holder};
-use end_model::bare_pairs_are_modelled;
+use end_model::bare_ends_are_modelled;
 use said_worlds::direct_ends_are_said;
 
 /// Two ends of direct mode with the codecs whose lines are octets: what they reach they reach by
@@ -19,5 +19,5 @@ pub fn direct_worlds_are_spelled()
     direct_ends_are_said();
     direct_ends_are_modelled();
     direct_turn_has_one_holder();
-    bare_pairs_are_modelled();
+    bare_ends_are_modelled();
 }

@@ -2,7 +2,7 @@
 use Rattle.std.proofs.Common.{◌≡◌, ap, sym, ◌∙◌}
 use Rattle.context_sets.specs.Sets.{ContextSet}
 use Rattle.context_sets.specs.Alterations.{altered}
-use Rattle.context_sets.specs.Held.{oldest}
+use Rattle.context_sets.specs.HeldSets.{oldest}
 use Rattle.context_sets.specs.Laws.{AgreeAgain}
 
 pub agree_again : AgreeAgain

@@ -5,7 +5,7 @@ use Rattle.osi_base.specs.declared.layer_words.Answers.{Answers}
 use Rattle.context_sets.specs.declared.alteration.Alteration.{Alteration}
 use Rattle.context_sets.specs.Sets.{ContextSet, IsRising}
 use Rattle.context_sets.specs.Alterations.{additions, altered}
-use Rattle.context_sets.specs.Held.{IsSoundHeldSet, oldest, later}
+use Rattle.context_sets.specs.HeldSets.{IsSoundHeldSet, oldest, later}
 use Rattle.context_sets.specs.declared.fault.SetRefusal.{SetRefusal}
 use Rattle.context_sets.specs.declared.fault.SetFault.{SetFault}
 use Rattle.context_sets.specs.Asking.{refusal}

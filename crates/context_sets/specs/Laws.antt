@@ -7,7 +7,7 @@ use Rattle.context_sets.specs.Sets.{ContextSet, IsRising}
 use Rattle.context_sets.specs.Alterations.{altered, identifiers, named_by, is_among}
 use Rattle.context_sets.specs.Policy.{policy}
 use Rattle.context_sets.specs.Results.{mismatch}
-use Rattle.context_sets.specs.Held.{Held, oldest}
+use Rattle.context_sets.specs.HeldSets.{Held, oldest}
 
 -- none of these identifiers is among the others
 abbrev pub IsApartFrom : List ℕ → List ℕ → Type 0

@@ -2,7 +2,7 @@ pub mod Printed
 pub mod Sets
 pub mod Syntaxes
 pub mod Alterations
-pub mod Held
+pub mod HeldSets
 pub mod Asking
 pub mod Policy
 pub mod Results

@@ -6,7 +6,7 @@ ghost use Rattle.context_sets.specs.Sets.{IsRising};
 ghost use Rattle.osi_base.specs.SetPlaces.{pair_of};
 ghost use Rattle.osi_base.specs.Limits.{most_contexts, most_alterations};
 ghost use Rattle.context_sets.specs.Alterations.{additions, altered, is_deleted};
-ghost use Rattle.context_sets.specs.Held.{HasRoom, oldest, later, may_send, serves, lowest, carrier};
+ghost use Rattle.context_sets.specs.HeldSets.{HasRoom, oldest, later, may_send, serves, lowest, carrier};
 ghost use Rattle.context_sets.specs.Asking.{refusal, IsRefused};
 ghost use Rattle.context_sets.specs.Policy.{policy, peer_fault, IsFault};
 ghost use Rattle.context_sets.specs.Results.{mismatch};
@@ -37,7 +37,7 @@ pub struct Contexts {
 
 impl Model for Contexts {
     ghost use Rattle.std.specs.Prelude.{◌-◌, vec_len, vec_capacity};
-    ghost use Rattle.context_sets.specs.Held.{Held, IsSoundHeldSet};
+    ghost use Rattle.context_sets.specs.HeldSets.{Held, IsSoundHeldSet};
 
     ghost Value = { Held };
 

@@ -2,7 +2,7 @@
 
 ghost use Rattle.std.specs.Prelude.{◌≡◌, not, [], None, IsOk, OnOk, OnErr, MatchResult};
 ghost use Rattle.context_sets.specs.Alterations.{altered};
-ghost use Rattle.context_sets.specs.Held.{oldest, later};
+ghost use Rattle.context_sets.specs.HeldSets.{oldest, later};
 ghost use Rattle.context_sets.specs.Policy.{peer_fault, IsFault};
 ghost use Rattle.context_sets.specs.Results.{mismatch};
 ghost use Rattle.context_sets.specs.Laws.{CrossingAgrees, AnswersFit, AgreeAgain, Settles};

@@ -6,7 +6,7 @@ use Rattle.std.proofs.lemmas.List.{append-nil}
 use Rattle.stub_tables.specs.declared.tables.Tables.{Tables}
 use Rattle.tpkt.specs.Reader.{reading, nothing}
 use Rattle.association_worlds.specs.association_reading.Front.{Front, all_fronts}
-use Rattle.association_worlds.specs.Ways.{Sent, front_of, text_of, texts, AreWritten}
+use Rattle.association_worlds.specs.InTransit.{Sent, front_of, text_of, texts, AreWritten}
 use Rattle.association_worlds.proofs.Streams.{reads-all}
 use Rattle.association_worlds.proofs.Kept.{texts-append}
 use Rattle.association_runs.specs.Octets.{whole_within}

@@ -22,13 +22,13 @@ use Rattle.end_rules.specs.World.{World}
 use Rattle.agreement.specs.Sets.{Role, other}
 use Rattle.agreement.specs.Sets.Role.{Initiator, Responder}
 use Rattle.end_model.specs.Sharing.{side_of}
-use Rattle.end_model.specs.Pairs.{Common, base_at, Two, coming_to}
-use Rattle.association_runs.specs.reliable_model.Goes.{Ledger}
-use Rattle.association_runs.specs.outcome_laws.Deals.{Dealings}
+use Rattle.end_model.specs.BothEnds.{Common, base_at, Two, coming_to}
+use Rattle.association_runs.specs.reliable_model.Ledgers.{Ledger}
+use Rattle.association_runs.specs.outcome_laws.Exchanges.{Exchanges}
 use Rattle.association_worlds.specs.said_words.Calls.{IsCall}
 use Rattle.association_worlds.specs.association_reading.Front.{Front, Intake, first_front, front_held, first_in, with_octets}
 use Rattle.association_worlds.specs.association_reading.Reacting.{react_to, grammar_fault}
-use Rattle.association_worlds.specs.Ways.{AreCarried}
+use Rattle.association_worlds.specs.InTransit.{AreCarried}
 use Rattle.association_worlds.specs.Laws.{IsMeant}
 use Rattle.association_worlds.proofs.Kept.{carried-behind}
 use Rattle.run_laws.specs.Passing.{Passed, sendings, readings}
@@ -241,9 +241,9 @@ module _ (common : Common) where
 
   module _ (m : IsMeant common) where
     -- what an end sent in its steps is on its way to the other, which read nothing meanwhile
-    all-sent : (role : Role) (u : World) (xs : List Step) (two later : Two) (ledger ledger_later : Ledger) (dealings dealings_later : Dealings) → AreOn xs
-        → Joint common u two ledger dealings → Joint common (stepping (side_of role) u xs) later ledger_later dealings_later → AllCarried u → AllCarried (stepping (side_of role) u xs)
-    all-sent role u xs two later ledger ledger_later dealings dealings_later on j k h =
+    all-sent : (role : Role) (u : World) (xs : List Step) (two later : Two) (ledger ledger_later : Ledger) (exchanges exchanges_later : Exchanges) → AreOn xs
+        → Joint common u two ledger exchanges → Joint common (stepping (side_of role) u xs) later ledger_later exchanges_later → AllCarried u → AllCarried (stepping (side_of role) u xs)
+    all-sent role u xs two later ledger ledger_later exchanges exchanges_later on j k h =
         let peer : Role = other role in
         let v : World = stepping (side_of role) u xs in
         let rs : List (Option Passed) = readings (side_of peer) u in
@@ -262,8 +262,8 @@ module _ (common : Common) where
 
     -- ---- events
 
-    abbrev Extra : World → Two → Ledger → Dealings → Type 0
-    Extra w two ledger dealings = NothingFails w
+    abbrev Extra : World → Two → Ledger → Exchanges → Type 0
+    Extra w two ledger exchanges = NothingFails w
 
     keeps : Keeps common Extra
     keeps = calm-keeps common

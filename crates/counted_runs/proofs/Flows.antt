@@ -4,7 +4,7 @@ use Rattle.std.proofs.Common.{◌≡◌, refl, sym, ap, subst, ◌∙◌, ℕ, �
 use Rattle.std.specs.Prelude.{Bool, Option, Some, option_map, if◌then◌else◌}
 use Rattle.std.proofs.lemmas.List.{append-nil, take-append-drop}
 use Rattle.stub_tables.specs.declared.tables.Tables.{Tables}
-use Rattle.tpkt.specs.declared.reader_state.Held.{Held}
+use Rattle.tpkt.specs.declared.reader_state.ReaderState.{ReaderState}
 use Rattle.tpkt.specs.Reader.{ReaderProgress, reading, nothing}
 use Rattle.tpkt.proofs.StreamLaws.{any_cut, nothing_read}
 use Rattle.end_rules.specs.Base.{Base}
@@ -12,7 +12,7 @@ use Rattle.end_rules.specs.Messages.{Message}
 use Rattle.end_rules.specs.History.{Step, called, sent, encoded, fed, took, answered, passed, fault, aborted, feed_end, gave, broke}
 use Rattle.association_worlds.specs.association_wire.Written.{written}
 use Rattle.association_worlds.specs.association_reading.Front.{Front, Intake, nothing_came, all_fronts, with_octets, behind_first, without_first}
-use Rattle.association_worlds.specs.Ways.{Sent, texts}
+use Rattle.association_worlds.specs.InTransit.{Sent, texts}
 use Rattle.association_worlds.proofs.Kept.{fronts-append, texts-append}
 use Rattle.run_laws.specs.Passing.{Passed, sent_in, as_read, on_connection, read_in}
 use Rattle.association_runs.specs.association_line.Line.{End, after}
@@ -167,14 +167,14 @@ holds-fed got os read false None h = tt
 holds-fed got os read false (Some intake) h =
     let cut = any_cut nothing got os in
     record {
-      held = ap (λ (held : Held). (reading held os).held) h.held ∙ sym (ap (λ (f : ReaderProgress). f.held) cut);
+      held = ap (λ (held : ReaderState). (reading held os).held) h.held ∙ sym (ap (λ (f : ReaderProgress). f.held) cut);
       taken = h.taken;
       many = h.many;
       fronts =
           ap (λ (f : ReaderProgress). all_fronts f.packets) cut
           ∙ fronts-append (reading nothing got).packets (reading (reading nothing got).held os).packets
           ∙ ap (λ (fs : List Front). fs ++ all_fronts (reading (reading nothing got).held os).packets) h.fronts
-          ∙ ap (λ (held : Held). (h.taken ++ intake.fronts) ++ all_fronts (reading held os).packets) (sym h.held)
+          ∙ ap (λ (held : ReaderState). (h.taken ++ intake.fronts) ++ all_fronts (reading held os).packets) (sym h.held)
           ∙ append_assoc h.taken intake.fronts (all_fronts (reading intake.held os).packets);
     }
 

@@ -9,7 +9,7 @@ use Rattle.end_rules.specs.History.{Step, History, took, broke}
 use Rattle.end_rules.specs.World.{World, Ends, base_at, history_of, is_side}
 use Rattle.association_worlds.specs.association_wire.Written.{written}
 use Rattle.osi_base.specs.Limits.{IsUnitSize}
-use Rattle.association_worlds.specs.Ways.{AreCarried, Sent, text_of, messages_of, AreWritten}
+use Rattle.association_worlds.specs.InTransit.{AreCarried, Sent, text_of, messages_of, AreWritten}
 use Rattle.association_worlds.proofs.Kept.{map-append}
 use Rattle.run_laws.specs.Passing.{Passed, sent_in, at_sending, on_connection, sendings}
 use Rattle.association_runs.specs.association_line.Line.{End, after, end_of}

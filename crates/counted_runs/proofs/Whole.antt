@@ -8,7 +8,7 @@ use Rattle.tpkt.specs.Reader.{ReaderProgress, reading, nothing}
 use Rattle.tpkt.proofs.StreamLaws.{any_cut}
 use Rattle.agreement.specs.Sets.Role.{Initiator, Responder}
 use Rattle.association_worlds.specs.association_reading.Front.{Front, Short, Intake, first_front, all_fronts}
-use Rattle.association_worlds.specs.Ways.{AreCarried, front_of, Sent, fronts_of_sent, AreWritten}
+use Rattle.association_worlds.specs.InTransit.{AreCarried, front_of, Sent, fronts_of_sent, AreWritten}
 use Rattle.association_worlds.proofs.Streams.{reads-all}
 use Rattle.association_worlds.proofs.Kept.{fronts-append, stands}
 use Rattle.association_runs.specs.Worlds.{end_at}

@@ -139,7 +139,7 @@ fn is_bad_selector(octets: &Octets) -> bool
 }
 
 /// Whether an end would refuse the configuration, which is one of bare mode.
-pub fn check_config(_alloc: Global, config: &Config) -> Result<(), ConfigRefusal>
+pub fn check_bare_config(_alloc: Global, config: &Config) -> Result<(), ConfigRefusal>
     ensures { result ≡ refused_if (config_refusal config.now) }
 {
     if is_bad_selector(&config.calling) || is_bad_selector(&config.called) {

@@ -67,7 +67,7 @@ fn check_early(alloc: Global, config: &Config) -> Result<(), ConfigRefusal>
     if config.contexts.len() > 62 {
         return Err(ConfigRefusal::TooManyContexts);
     }
-    dialogue::check_config(alloc, config)
+    dialogue::check_bare_config(alloc, config)
 }
 
 /// What is refused for the octets of the CP.

@@ -31,10 +31,10 @@ use Rattle.end_wire.specs.Heads.{head_at}
 use Rattle.end_wire.proofs.ContentLaws.{content_says}
 use Rattle.end_config.proofs.Proposes.{proposes-rightly}
 use Rattle.agreement.specs.Sets.Role.{Initiator}
-use Rattle.end_model.specs.Opens.{IsNumber, IsNamed, IsProper, FitsReturned, fits_argument, fits_result, fits_parameter, operation_of_code, error_of_code}
+use Rattle.end_model.specs.OpenInvocations.{IsNumber, IsNamed, IsProper, FitsReturned, fits_argument, fits_result, fits_parameter, operation_of_code, error_of_code}
 use Rattle.end_model.specs.Acting.{ReadsBack, IsSaidBack}
-use Rattle.end_model.specs.Pairs.{base_at}
-use Rattle.end_model.specs.DirectPairs.{ProposesRightly}
+use Rattle.end_model.specs.BothEnds.{base_at}
+use Rattle.end_model.specs.DirectEnds.{ProposesRightly}
 use Rattle.end_model.proofs.BareTaking.{bare-modelled, bare-takes}
 use Rattle.end_model.proofs.DirectLaws.{direct-modelled, direct-takes, direct-as_sent, direct-one_holder}
 use Rattle.end_laws.specs.Codecs.{Transfers, bare_ends, direct_ends, IsDirect}

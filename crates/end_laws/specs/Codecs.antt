@@ -8,18 +8,18 @@ use Rattle.stub_tables.specs.declared.tables.Tables.{Tables}
 use Rattle.end_rules.specs.Base.{Item, Fault, Arrived}
 use Rattle.end_wire.specs.Values.{spellings_with}
 use Rattle.end_config.specs.Refusing.{config_refusal}
-use Rattle.end_model.specs.Pairs.{Common, bare_pair}
-use Rattle.end_model.specs.DirectPairs.{direct_pair}
+use Rattle.end_model.specs.BothEnds.{Common, bare_common}
+use Rattle.end_model.specs.DirectEnds.{direct_common}
 
 pub record Transfers : Type 0 where
   pub octets : Item → List ℕ
   pub arrived : List SetItem → List ℕ → Result Arrived Fault
 
 abbrev pub bare_ends : Tables → Transfers → Config → Config → Common
-bare_ends tables transfers a b = bare_pair tables (spellings_with tables transfers.octets transfers.arrived) a b
+bare_ends tables transfers a b = bare_common tables (spellings_with tables transfers.octets transfers.arrived) a b
 
 abbrev pub direct_ends : Tables → Transfers → Config → Config → Common
-direct_ends tables transfers a b = direct_pair tables (spellings_with tables transfers.octets transfers.arrived) a b
+direct_ends tables transfers a b = direct_common tables (spellings_with tables transfers.octets transfers.arrived) a b
 
 -- a configuration of direct mode that no end refuses
 pub record IsDirect (config : Config) : Type 0 where

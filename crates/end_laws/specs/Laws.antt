@@ -14,8 +14,8 @@ use Rattle.end_rules.specs.Reacting.{Takes, Fails, react}
 use Rattle.end_rules.specs.World.{Shared}
 use Rattle.agreement.specs.Sets.{Role}
 use Rattle.end_model.specs.Seen.{Free}
-use Rattle.end_model.specs.Pairs.{base_at, Two, body_at, coming_to, Reached, ModelOf, WritesAll}
-use Rattle.end_model.specs.DirectPairs.{RunOf}
+use Rattle.end_model.specs.BothEnds.{base_at, Two, body_at, coming_to, Reached, ModelOf, WritesAll}
+use Rattle.end_model.specs.DirectEnds.{RunOf}
 use Rattle.end_model.specs.Sharing.{SetsSent, sets_to, Shares}
 use Rattle.end_laws.specs.Codecs.{Transfers, bare_ends, direct_ends, IsDirect}
 

@@ -36,12 +36,12 @@ use Rattle.agreement.specs.Worlds.Moment.{By}
 use Rattle.agreement.proofs.Interface.{acts}
 use Rattle.end_model.specs.Seen.{Free, role_seen, phase_seen, apdu_seen, seen}
 use Rattle.end_model.specs.Rows.{at}
-use Rattle.end_model.specs.Opens.{IsProper}
+use Rattle.end_model.specs.OpenInvocations.{IsProper}
 use Rattle.end_model.specs.Words.{IsOurs, AreOurs}
 use Rattle.end_model.specs.Acting.{HandsIn, IsSoundBody, ReadsBack}
 use Rattle.end_model.specs.Requests.{sent_all, after_called}
-use Rattle.end_model.specs.Pairs.{Common, base_at, Two, body_at, coming_to, stepped, setup_of}
-use Rattle.end_model.specs.Pairs.{AreComing, SideOf, ModelOf, bare_pair, WritesAll}
+use Rattle.end_model.specs.BothEnds.{Common, base_at, Two, body_at, coming_to, stepped, setup_of}
+use Rattle.end_model.specs.BothEnds.{AreComing, SideOf, ModelOf, bare_common, WritesAll}
 use Rattle.end_model.proofs.Facts.{is-up, up-there}
 use Rattle.end_model.proofs.Ladder.{called}
 use Rattle.end_model.proofs.HandingRows.{invoke-in}
@@ -63,12 +63,12 @@ other-if Responder x y = refl
 
 -- ---- flights
 
-ours-for : (tables : Tables) (spellings : Spellings) (a b : Config) (role : Role) (message : Message) (meant : model.Message) → IsOurs (base_at role (bare_pair tables spellings a b)) message meant → IsOurs (base_at Initiator (bare_pair tables spellings a b)) message meant
+ours-for : (tables : Tables) (spellings : Spellings) (a b : Config) (role : Role) (message : Message) (meant : model.Message) → IsOurs (base_at role (bare_common tables spellings a b)) message meant → IsOurs (base_at Initiator (bare_common tables spellings a b)) message meant
 ours-for tables spellings a b Initiator message meant h = h
 ours-for tables spellings a b Responder message meant h =
     record { item = h.item; is_data = h.is_data; is_its = h.is_its; is_proper = h.is_proper; is_read_back = h.is_read_back }
 
-pub ours-coming : (tables : Tables) (spellings : Spellings) (a b : Config) (role : Role) (shared : ContextSet) (messages : List Message) (meant : List model.Message) → AreOurs (base_at role (bare_pair tables spellings a b)) messages meant → AreComing (base_at Initiator (bare_pair tables spellings a b)) messages (sendings shared meant)
+pub ours-coming : (tables : Tables) (spellings : Spellings) (a b : Config) (role : Role) (shared : ContextSet) (messages : List Message) (meant : List model.Message) → AreOurs (base_at role (bare_common tables spellings a b)) messages meant → AreComing (base_at Initiator (bare_common tables spellings a b)) messages (sendings shared meant)
 ours-coming tables spellings a b role shared [] [] h = tt
 ours-coming tables spellings a b role shared [] (m ∷ ms) h = absurd h
 ours-coming tables spellings a b role shared (message ∷ messages) [] h = absurd h
@@ -93,16 +93,16 @@ next-of base message left (s ∷ ss) h = record { first = s; rest = ss; is_it = 
 
 -- ---- one moment of the model
 
-pub state-own : (setup : model.Setup) (world : World) (role : Role) (step : Step) → state_of setup role (By role step ∷ world) ≡ after setup role (state_of setup role world) step
+pub state-own : (setup : model.ModelSetup) (world : World) (role : Role) (step : Step) → state_of setup role (By role step ∷ world) ≡ after setup role (state_of setup role world) step
 state-own setup world role step = same-if role (after setup role (state_of setup role world) step) (state_of setup role world)
 
-pub state-other : (setup : model.Setup) (world : World) (role : Role) (step : Step) → state_of setup (other role) (By role step ∷ world) ≡ state_of setup (other role) world
+pub state-other : (setup : model.ModelSetup) (world : World) (role : Role) (step : Step) → state_of setup (other role) (By role step ∷ world) ≡ state_of setup (other role) world
 state-other setup world role step = other-if role (after setup (other role) (state_of setup (other role) world) step) (state_of setup (other role) world)
 
-pub flight-own : (setup : model.Setup) (world : World) (role : Role) (step : Step) → flight_to setup role (By role step ∷ world) ≡ taken_off step (flight_to setup role world)
+pub flight-own : (setup : model.ModelSetup) (world : World) (role : Role) (step : Step) → flight_to setup role (By role step ∷ world) ≡ taken_off step (flight_to setup role world)
 flight-own setup world role step = same-if role (taken_off step (flight_to setup role world)) (flight_to setup role world ++ sendings (shared_at setup world).set (sent_in setup (state_of setup role world) step))
 
-pub flight-other : (setup : model.Setup) (world : World) (role : Role) (step : Step) → flight_to setup (other role) (By role step ∷ world) ≡ flight_to setup (other role) world ++ sendings (shared_at setup world).set (sent_in setup (state_of setup role world) step)
+pub flight-other : (setup : model.ModelSetup) (world : World) (role : Role) (step : Step) → flight_to setup (other role) (By role step ∷ world) ≡ flight_to setup (other role) world ++ sendings (shared_at setup world).set (sent_in setup (state_of setup role world) step)
 flight-other setup world role step = other-if role (taken_off step (flight_to setup (other role) world)) (flight_to setup (other role) world ++ sendings (shared_at setup world).set (sent_in setup (state_of setup role world) step))
 
 -- ---- both sides
@@ -127,10 +127,10 @@ from-sides free common Responder two world body left sent s = record { world = w
 
 -- ---- an act of one end
 
-pub acting : (free : Free) (tables : Tables) (spellings : Spellings) (a b : Config) (world : World) (role : Role) (body later : Body) (coming : List Message) (peer : Body) (to_peer sent : List Message) (act : model.Act) → Sides free (bare_pair tables spellings a b) world role body coming peer to_peer → MayAct (setup_of free (bare_pair tables spellings a b)) role (seen (base_at role (bare_pair tables spellings a b)) body) act → seen (base_at role (bare_pair tables spellings a b)) later ≡ acted (setup_of free (bare_pair tables spellings a b)) (seen (base_at role (bare_pair tables spellings a b)) body) act → AreOurs (base_at role (bare_pair tables spellings a b)) sent (sent_by (setup_of free (bare_pair tables spellings a b)) (seen (base_at role (bare_pair tables spellings a b)) body) act) → IsSoundBody Bare (base_at role (bare_pair tables spellings a b)) later → (later.link.phase ≡ Up) ⊎ (later.link.phase ≡ Over) → Sides free (bare_pair tables spellings a b) (By role (Acts act) ∷ world) role later coming peer (to_peer ++ sent)
+pub acting : (free : Free) (tables : Tables) (spellings : Spellings) (a b : Config) (world : World) (role : Role) (body later : Body) (coming : List Message) (peer : Body) (to_peer sent : List Message) (act : model.Act) → Sides free (bare_common tables spellings a b) world role body coming peer to_peer → MayAct (setup_of free (bare_common tables spellings a b)) role (seen (base_at role (bare_common tables spellings a b)) body) act → seen (base_at role (bare_common tables spellings a b)) later ≡ acted (setup_of free (bare_common tables spellings a b)) (seen (base_at role (bare_common tables spellings a b)) body) act → AreOurs (base_at role (bare_common tables spellings a b)) sent (sent_by (setup_of free (bare_common tables spellings a b)) (seen (base_at role (bare_common tables spellings a b)) body) act) → IsSoundBody Bare (base_at role (bare_common tables spellings a b)) later → (later.link.phase ≡ Up) ⊎ (later.link.phase ≡ Over) → Sides free (bare_common tables spellings a b) (By role (Acts act) ∷ world) role later coming peer (to_peer ++ sent)
 acting free tables spellings a b world role body later coming peer to_peer sent act s may is ours sound phase =
-    let common : Common = bare_pair tables spellings a b in
-    let setup : model.Setup = setup_of free common in
+    let common : Common = bare_common tables spellings a b in
+    let setup : model.ModelSetup = setup_of free common in
     let base : Base = base_at role common in
     let now : state_of setup role world ≡ seen base body = s.own.state in
     let sent_now : AreOurs base sent (sent_by setup (state_of setup role world) act) = subst (λ x. AreOurs base sent (sent_by setup x act)) (sym now) ours in
@@ -178,11 +178,11 @@ handed free base body the_calls.Release answer writes back sound k h = cc
 handed free base body the_calls.Abort answer writes back sound k h = cc
 
 -- spellings read back at one end do so at the other
-reads-at : (tables : Tables) (spellings : Spellings) (a b : Config) (role : Role) → ReadsBack (base_at Initiator (bare_pair tables spellings a b)) → ReadsBack (base_at role (bare_pair tables spellings a b))
+reads-at : (tables : Tables) (spellings : Spellings) (a b : Config) (role : Role) → ReadsBack (base_at Initiator (bare_common tables spellings a b)) → ReadsBack (base_at role (bare_common tables spellings a b))
 reads-at tables spellings a b Initiator h = h
 reads-at tables spellings a b Responder h = record { reads = λ apdu proper short. h.reads apdu (proper-for apdu proper) short }
   where
-    proper-for : (apdu : Apdu) → IsProper (base_at Responder (bare_pair tables spellings a b)) apdu → IsProper (base_at Initiator (bare_pair tables spellings a b)) apdu
+    proper-for : (apdu : Apdu) → IsProper (base_at Responder (bare_common tables spellings a b)) apdu → IsProper (base_at Initiator (bare_common tables spellings a b)) apdu
     proper-for apdu h = h
 
 -- these calls are made by an end that is up
@@ -204,7 +204,7 @@ phase-of the_calls.Release body h k = cc
 phase-of the_calls.Abort body h k = cc
 
 -- what is handed in leaves the phase
-same-phase : (setup : model.Setup) (state : states.State) (act : model.Act) (apdu : model.Apdu) → handed_by (Acts act) ≡ apdu ∷ [] → (acted setup state act).phase ≡ state.phase
+same-phase : (setup : model.ModelSetup) (state : states.State) (act : model.Act) (apdu : model.Apdu) → handed_by (Acts act) ≡ apdu ∷ [] → (acted setup state act).phase ≡ state.phase
 same-phase setup state (SaysValue value) apdu h = refl
 same-phase setup state (Queues context item) apdu h = refl
 same-phase setup state Connects apdu h = cc
@@ -234,9 +234,9 @@ bare-sent base [] (m ∷ ms) h body = absurd h
 bare-sent base (message ∷ sent) [] h body = absurd h
 bare-sent base (message ∷ sent) (m ∷ ms) h body = ap (λ x. sent_all Bare (after_sent Bare body x) sent) h.0.is_data ∙ bare-sent base sent ms h.1 body
 
-pub called-so : (free : Free) (tables : Tables) (spellings : Spellings) (a b : Config) (role : Role) (two : Two) (call : Call) (answer : Option ℤ) → WritesAll free → ReadsBack (base_at Initiator (bare_pair tables spellings a b)) → ModelOf free (bare_pair tables spellings a b) two → can_call (base_at role (bare_pair tables spellings a b)) (body_at role two) call ≡ Ok answer → ModelOf free (bare_pair tables spellings a b) (stepped role (after_called Bare (base_at role (bare_pair tables spellings a b)) (body_at role two) call answer) (coming_to role two) (due_of (base_at role (bare_pair tables spellings a b)) (body_at role two) call (Ok answer)) two)
+pub called-so : (free : Free) (tables : Tables) (spellings : Spellings) (a b : Config) (role : Role) (two : Two) (call : Call) (answer : Option ℤ) → WritesAll free → ReadsBack (base_at Initiator (bare_common tables spellings a b)) → ModelOf free (bare_common tables spellings a b) two → can_call (base_at role (bare_common tables spellings a b)) (body_at role two) call ≡ Ok answer → ModelOf free (bare_common tables spellings a b) (stepped role (after_called Bare (base_at role (bare_common tables spellings a b)) (body_at role two) call answer) (coming_to role two) (due_of (base_at role (bare_common tables spellings a b)) (body_at role two) call (Ok answer)) two)
 called-so free tables spellings a b role two call answer writes back m h =
-    let common : Common = bare_pair tables spellings a b in
+    let common : Common = bare_common tables spellings a b in
     let base : Base = base_at role common in
     let body : Body = body_at role two in
     let s = as-sides free common role two m in
@@ -245,7 +245,7 @@ called-so free tables spellings a b role two call answer writes back m h =
     let up : body.link.phase ≡ Up = phase-of call body c.in_phase (no-call (is_of_bare_mode call) c.in_mode) in
     let later : Body = after_call base body call (Ok answer) in
     let due : List Message = due_of base body call (Ok answer) in
-    let setup : model.Setup = setup_of free common in
+    let setup : model.ModelSetup = setup_of free common in
     let phase : (seen base later).phase ≡ model_up = ap (λ (x : states.State). x.phase) x.acts.acts.after ∙ same-phase setup (seen base body) x.act (apdu_seen base x.apdu) x.hands ∙ ap (phase_seen body.link.stage) up in
     subst (λ (y : Body). ModelOf free common (stepped role y (coming_to role two) due two)) (sym (bare-sent base due (sent_by setup (seen base body) x.act) x.acts.ours later))
     (from-sides free common role two (By role (Acts x.act) ∷ s.world) later (coming_to role two) due

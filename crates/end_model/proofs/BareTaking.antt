@@ -40,10 +40,10 @@ use Rattle.end_model.specs.Seen.{Free, phase_seen, awaited_seen, item_seen, seen
 use Rattle.end_model.specs.Words.{data_word, AreOurs}
 use Rattle.end_model.specs.Acting.{IsSoundBody, ReadsBack}
 use Rattle.end_model.specs.Heard.{IsExpected, MayThen, then_acted, sent_then}
-use Rattle.end_model.specs.Pairs.{Common, base_at, Two, body_at, coming_to, stepped, Reached}
-use Rattle.end_model.specs.Pairs.{begins, calls, takes as reached_takes, passes as reached_passes}
-use Rattle.end_model.specs.Pairs.{fails, breaks, setup_of, AreComing, SideOf, ModelOf, bare_pair}
-use Rattle.end_model.specs.Pairs.{WritesAll, BareTakes}
+use Rattle.end_model.specs.BothEnds.{Common, base_at, Two, body_at, coming_to, stepped, Reached}
+use Rattle.end_model.specs.BothEnds.{begins, calls, takes as reached_takes, passes as reached_passes}
+use Rattle.end_model.specs.BothEnds.{fails, breaks, setup_of, AreComing, SideOf, ModelOf, bare_common}
+use Rattle.end_model.specs.BothEnds.{WritesAll, BareTakes}
 use Rattle.end_model.proofs.Breaking.{broken-seen}
 use Rattle.end_model.proofs.HandingRows.{same-sets}
 use Rattle.end_model.proofs.HeardRows.{bare-heard}
@@ -54,7 +54,7 @@ use Rattle.end_model.proofs.BareMachine.{from-sides, called-so}
 -- ---- what the model gives
 
 -- an outcome of an open invocation is one that its operation has
-pub expected : (setup : model.Setup) (world : World) (role : Role) (value : model.Value) (state : states.State) → IsRun setup (By role (model_takes (Data value) Nothing) ∷ world) → state_of setup role world ≡ state → IsExpected setup state.calls value.apdu
+pub expected : (setup : model.ModelSetup) (world : World) (role : Role) (value : model.Value) (state : states.State) → IsRun setup (By role (model_takes (Data value) Nothing) ∷ world) → state_of setup role world ≡ state → IsExpected setup state.calls value.apdu
 expected setup world role value state run now = go value.apdu refl
   where
     go : (apdu : model.Apdu) → value.apdu ≡ apdu → IsExpected setup state.calls apdu
@@ -79,9 +79,9 @@ no-fault : (x y : Option Fault) → or_fault x y ≡ None → y ≡ None
 no-fault None y h = h
 no-fault (Some fault) y h = cc
 
-reacts : (tables : Tables) (spellings : Spellings) (a b : Config) (role : Role) (body : Body) (word : Word) → body.link.phase ≡ Up → word_fault (base_at role (bare_pair tables spellings a b)) body word ≡ None → (let base = base_at role (bare_pair tables spellings a b) in react base body (Session word) ≡ Takes (after_word base body word) (answers_to_word base body word) (shown_of_word base body word))
+reacts : (tables : Tables) (spellings : Spellings) (a b : Config) (role : Role) (body : Body) (word : Word) → body.link.phase ≡ Up → word_fault (base_at role (bare_common tables spellings a b)) body word ≡ None → (let base = base_at role (bare_common tables spellings a b) in react base body (Session word) ≡ Takes (after_word base body word) (answers_to_word base body word) (shown_of_word base body word))
 reacts tables spellings a b role body word up fine =
-    let base : Base = base_at role (bare_pair tables spellings a b) in
+    let base : Base = base_at role (bare_common tables spellings a b) in
     let f : fault_above base body word ≡ None = no-fault (fault_if (not (is_in_place base body (unit_of word))) session_fault) (fault_above base body word) fine in
     ap (λ p. if passes_over p then Passes else on_word base body word (fault_above base body word)) up ∙ ap (on_word base body word) f
 
@@ -103,7 +103,7 @@ record Half (free : Free) (common : Common) (world : World) (role : Role) (state
   flight : AreComing (base_at Initiator common) coming (flight_to (setup_of free common) role world)
   others : SideOf free common world (other role) peer to_peer
 
-then-none : (free : Free) (tables : Tables) (spellings : Spellings) (a b : Config) (world : World) (role : Role) (state : states.State) (later : Body) (left : List Message) (peer : Body) (to_peer sent : List Message) (act : Option model.Act) → Half free (bare_pair tables spellings a b) world role state left peer to_peer → MayThen (setup_of free (bare_pair tables spellings a b)) role state act → seen (base_at role (bare_pair tables spellings a b)) later ≡ then_acted (setup_of free (bare_pair tables spellings a b)) state act → AreOurs (base_at role (bare_pair tables spellings a b)) sent (sent_then (setup_of free (bare_pair tables spellings a b)) state act) → IsSoundBody Bare (base_at role (bare_pair tables spellings a b)) later → (later.link.phase ≡ Up) ⊎ (later.link.phase ≡ Over) → (world' : World) × Sides free (bare_pair tables spellings a b) world' role later left peer (to_peer ++ sent)
+then-none : (free : Free) (tables : Tables) (spellings : Spellings) (a b : Config) (world : World) (role : Role) (state : states.State) (later : Body) (left : List Message) (peer : Body) (to_peer sent : List Message) (act : Option model.Act) → Half free (bare_common tables spellings a b) world role state left peer to_peer → MayThen (setup_of free (bare_common tables spellings a b)) role state act → seen (base_at role (bare_common tables spellings a b)) later ≡ then_acted (setup_of free (bare_common tables spellings a b)) state act → AreOurs (base_at role (bare_common tables spellings a b)) sent (sent_then (setup_of free (bare_common tables spellings a b)) state act) → IsSoundBody Bare (base_at role (bare_common tables spellings a b)) later → (later.link.phase ≡ Up) ⊎ (later.link.phase ≡ Over) → (world' : World) × Sides free (bare_common tables spellings a b) world' role later left peer (to_peer ++ sent)
 then-none free tables spellings a b world role state later left peer to_peer [] None h may is ours sound phase = (
   world,
   record {
@@ -114,8 +114,8 @@ then-none free tables spellings a b world role state later left peer to_peer [] 
 )
 then-none free tables spellings a b world role state later left peer to_peer (m ∷ sent) None h may is ours sound phase = absurd ours
 then-none free tables spellings a b world role state later left peer to_peer sent (Some act) h may is ours sound phase =
-    let common : Common = bare_pair tables spellings a b in
-    let setup : model.Setup = setup_of free common in
+    let common : Common = bare_common tables spellings a b in
+    let setup : model.ModelSetup = setup_of free common in
     let base : Base = base_at role common in
     let sent_now : AreOurs base sent (sent_by setup (state_of setup role world) act) = subst (λ x. AreOurs base sent (sent_by setup x act)) (sym h.now) ours in (
       By role (Acts act) ∷ world,
@@ -140,10 +140,10 @@ then-none free tables spellings a b world role state later left peer to_peer sen
       },
     )
 
-taking-up : (free : Free) (tables : Tables) (spellings : Spellings) (a b : Config) (role : Role) (two : Two) (message : Message) (left : List Message) → WritesAll free → ModelOf free (bare_pair tables spellings a b) two → coming_to role two ≡ message ∷ left → (body_at role two).link.phase ≡ Up → Taken free (bare_pair tables spellings a b) role two message left
+taking-up : (free : Free) (tables : Tables) (spellings : Spellings) (a b : Config) (role : Role) (two : Two) (message : Message) (left : List Message) → WritesAll free → ModelOf free (bare_common tables spellings a b) two → coming_to role two ≡ message ∷ left → (body_at role two).link.phase ≡ Up → Taken free (bare_common tables spellings a b) role two message left
 taking-up free tables spellings a b role two message left writes m comes up =
-    let common : Common = bare_pair tables spellings a b in
-    let setup : model.Setup = setup_of free common in
+    let common : Common = bare_common tables spellings a b in
+    let setup : model.ModelSetup = setup_of free common in
     let base : Base = base_at role common in
     let body : Body = body_at role two in
     let s = as-sides free common role two m in
@@ -187,10 +187,10 @@ taking-up free tables spellings a b role two message left writes m comes up =
 
 -- ---- an end that is over passes over what comes
 
-passing : (free : Free) (tables : Tables) (spellings : Spellings) (a b : Config) (role : Role) (two : Two) (message : Message) (left : List Message) → ModelOf free (bare_pair tables spellings a b) two → coming_to role two ≡ message ∷ left → (body_at role two).link.phase ≡ Over → ModelOf free (bare_pair tables spellings a b) (stepped role (body_at role two) left [] two)
+passing : (free : Free) (tables : Tables) (spellings : Spellings) (a b : Config) (role : Role) (two : Two) (message : Message) (left : List Message) → ModelOf free (bare_common tables spellings a b) two → coming_to role two ≡ message ∷ left → (body_at role two).link.phase ≡ Over → ModelOf free (bare_common tables spellings a b) (stepped role (body_at role two) left [] two)
 passing free tables spellings a b role two message left m comes over =
-    let common : Common = bare_pair tables spellings a b in
-    let setup : model.Setup = setup_of free common in
+    let common : Common = bare_common tables spellings a b in
+    let setup : model.ModelSetup = setup_of free common in
     let base : Base = base_at role common in
     let body : Body = body_at role two in
     let s = as-sides free common role two m in
@@ -230,10 +230,10 @@ broke-phase body (inl e) =
 broke-phase body (inr e) =
     (subst (λ p. phase_seen Unused (broken_phase Bare p) ≡ model_broken_phase model_bare (phase_seen body.link.stage p)) (sym e) refl, ap (broken_phase Bare) e)
 
-broke-side : (free : Free) (tables : Tables) (spellings : Spellings) (a b : Config) (role : Role) (world : World) (body : Body) (coming : List Message) → SideOf free (bare_pair tables spellings a b) world role body coming → SideOf free (bare_pair tables spellings a b) (Break ∷ world) role (after_broke (base_at role (bare_pair tables spellings a b)) body) []
+broke-side : (free : Free) (tables : Tables) (spellings : Spellings) (a b : Config) (role : Role) (world : World) (body : Body) (coming : List Message) → SideOf free (bare_common tables spellings a b) world role body coming → SideOf free (bare_common tables spellings a b) (Break ∷ world) role (after_broke (base_at role (bare_common tables spellings a b)) body) []
 broke-side free tables spellings a b role world body coming s =
-    let common : Common = bare_pair tables spellings a b in
-    let setup : model.Setup = setup_of free common in
+    let common : Common = bare_common tables spellings a b in
+    let setup : model.ModelSetup = setup_of free common in
     let base : Base = base_at role common in
     let p = broke-phase body s.phase in
     record {
@@ -251,7 +251,7 @@ broke-side free tables spellings a b role world body coming s =
 
 -- ---- all that is reached
 
-begun-side : (free : Free) (tables : Tables) (spellings : Spellings) (a b : Config) (role : Role) → SideOf free (bare_pair tables spellings a b) [] role (new_body (base_at role (bare_pair tables spellings a b))) []
+begun-side : (free : Free) (tables : Tables) (spellings : Spellings) (a b : Config) (role : Role) → SideOf free (bare_common tables spellings a b) [] role (new_body (base_at role (bare_common tables spellings a b))) []
 begun-side free tables spellings a b role =
     record {
       state = refl;
@@ -261,7 +261,7 @@ begun-side free tables spellings a b role =
     }
 
 -- what comes to an end that is over is passed over
-over-passes : (tables : Tables) (spellings : Spellings) (a b : Config) (role : Role) (body : Body) (message : Message) → body.link.phase ≡ Over → react (base_at role (bare_pair tables spellings a b)) body message ≡ Passes
+over-passes : (tables : Tables) (spellings : Spellings) (a b : Config) (role : Role) (body : Body) (message : Message) → body.link.phase ≡ Over → react (base_at role (bare_common tables spellings a b)) body message ≡ Passes
 over-passes tables spellings a b role body message over = rw over refl
 
 takes-no_pass : (body : Body) (answers : List Message) (shown : List Indication) → Takes body answers shown ≡ Passes → ⊥
@@ -280,32 +280,32 @@ phase-at : (free : Free) (common : Common) (role : Role) (two : Two) → ModelOf
 phase-at free common Initiator two m = m.a.phase
 phase-at free common Responder two m = m.b.phase
 
-took : (free : Free) (tables : Tables) (spellings : Spellings) (a b : Config) (role : Role) (two : Two) (message : Message) (left : List Message) (body : Body) (answers : List Message) (shown : List Indication) → WritesAll free → ModelOf free (bare_pair tables spellings a b) two → coming_to role two ≡ message ∷ left → react (base_at role (bare_pair tables spellings a b)) (body_at role two) message ≡ Takes body answers shown → ModelOf free (bare_pair tables spellings a b) (stepped role body left answers two)
-took free tables spellings a b role two message left body answers shown writes m comes h = go (phase-at free (bare_pair tables spellings a b) role two m)
+took : (free : Free) (tables : Tables) (spellings : Spellings) (a b : Config) (role : Role) (two : Two) (message : Message) (left : List Message) (body : Body) (answers : List Message) (shown : List Indication) → WritesAll free → ModelOf free (bare_common tables spellings a b) two → coming_to role two ≡ message ∷ left → react (base_at role (bare_common tables spellings a b)) (body_at role two) message ≡ Takes body answers shown → ModelOf free (bare_common tables spellings a b) (stepped role body left answers two)
+took free tables spellings a b role two message left body answers shown writes m comes h = go (phase-at free (bare_common tables spellings a b) role two m)
   where
-    go : ((body_at role two).link.phase ≡ Up) ⊎ ((body_at role two).link.phase ≡ Over) → ModelOf free (bare_pair tables spellings a b) (stepped role body left answers two)
+    go : ((body_at role two).link.phase ≡ Up) ⊎ ((body_at role two).link.phase ≡ Over) → ModelOf free (bare_common tables spellings a b) (stepped role body left answers two)
     go (inl up) =
         let t = taking-up free tables spellings a b role two message left writes m comes up in
         let same : Takes t.body t.answers t.shown ≡ Takes body answers shown = sym t.reacts_so ∙ h in
         let bodies : t.body ≡ body = cc in
         let sendings_ : t.answers ≡ answers = cc in
-        subst (λ x. ModelOf free (bare_pair tables spellings a b) (stepped role x left answers two)) bodies
-        (subst (λ xs. ModelOf free (bare_pair tables spellings a b) (stepped role t.body left xs two)) sendings_ t.modelled)
+        subst (λ x. ModelOf free (bare_common tables spellings a b) (stepped role x left answers two)) bodies
+        (subst (λ xs. ModelOf free (bare_common tables spellings a b) (stepped role t.body left xs two)) sendings_ t.modelled)
     go (inr over) =
         absurd (pass-no_take body answers shown (sym (over-passes tables spellings a b role (body_at role two) message over) ∙ h))
 
-passed : (free : Free) (tables : Tables) (spellings : Spellings) (a b : Config) (role : Role) (two : Two) (message : Message) (left : List Message) → WritesAll free → ModelOf free (bare_pair tables spellings a b) two → coming_to role two ≡ message ∷ left → react (base_at role (bare_pair tables spellings a b)) (body_at role two) message ≡ Passes → ModelOf free (bare_pair tables spellings a b) (stepped role (body_at role two) left [] two)
-passed free tables spellings a b role two message left writes m comes h = go (phase-at free (bare_pair tables spellings a b) role two m)
+passed : (free : Free) (tables : Tables) (spellings : Spellings) (a b : Config) (role : Role) (two : Two) (message : Message) (left : List Message) → WritesAll free → ModelOf free (bare_common tables spellings a b) two → coming_to role two ≡ message ∷ left → react (base_at role (bare_common tables spellings a b)) (body_at role two) message ≡ Passes → ModelOf free (bare_common tables spellings a b) (stepped role (body_at role two) left [] two)
+passed free tables spellings a b role two message left writes m comes h = go (phase-at free (bare_common tables spellings a b) role two m)
   where
-    go : ((body_at role two).link.phase ≡ Up) ⊎ ((body_at role two).link.phase ≡ Over) → ModelOf free (bare_pair tables spellings a b) (stepped role (body_at role two) left [] two)
+    go : ((body_at role two).link.phase ≡ Up) ⊎ ((body_at role two).link.phase ≡ Over) → ModelOf free (bare_common tables spellings a b) (stepped role (body_at role two) left [] two)
     go (inl up) =
         let t = taking-up free tables spellings a b role two message left writes m comes up in
         let no : Takes t.body t.answers t.shown ≡ Passes = sym t.reacts_so ∙ h in
         absurd (takes-no_pass t.body t.answers t.shown no)
     go (inr over) = passing free tables spellings a b role two message left m comes over
 
-never-fails : (free : Free) (tables : Tables) (spellings : Spellings) (a b : Config) (role : Role) (two : Two) (message : Message) (left : List Message) (fault : Fault) (body : Body) (aborts : List Message) (shown : List Indication) → WritesAll free → ModelOf free (bare_pair tables spellings a b) two → coming_to role two ≡ message ∷ left → react (base_at role (bare_pair tables spellings a b)) (body_at role two) message ≡ Fails fault body aborts shown → ⊥
-never-fails free tables spellings a b role two message left fault body aborts shown writes m comes h = go (phase-at free (bare_pair tables spellings a b) role two m)
+never-fails : (free : Free) (tables : Tables) (spellings : Spellings) (a b : Config) (role : Role) (two : Two) (message : Message) (left : List Message) (fault : Fault) (body : Body) (aborts : List Message) (shown : List Indication) → WritesAll free → ModelOf free (bare_common tables spellings a b) two → coming_to role two ≡ message ∷ left → react (base_at role (bare_common tables spellings a b)) (body_at role two) message ≡ Fails fault body aborts shown → ⊥
+never-fails free tables spellings a b role two message left fault body aborts shown writes m comes h = go (phase-at free (bare_common tables spellings a b) role two m)
   where
     go : ((body_at role two).link.phase ≡ Up) ⊎ ((body_at role two).link.phase ≡ Over) → ⊥
     go (inl up) =
@@ -313,7 +313,7 @@ never-fails free tables spellings a b role two message left fault body aborts sh
         takes-no_fault t.body t.answers t.shown fault body aborts shown (sym t.reacts_so ∙ h)
     go (inr over) = passes-no_fault fault body aborts shown (sym (over-passes tables spellings a b role (body_at role two) message over) ∙ h)
 
-pub bare-modelled : (free : Free) (tables : Tables) (spellings : Spellings) (a b : Config) → WritesAll free → ReadsBack (base_at Initiator (bare_pair tables spellings a b)) → (two : Two) → Reached (bare_pair tables spellings a b) two → ModelOf free (bare_pair tables spellings a b) two
+pub bare-modelled : (free : Free) (tables : Tables) (spellings : Spellings) (a b : Config) → WritesAll free → ReadsBack (base_at Initiator (bare_common tables spellings a b)) → (two : Two) → Reached (bare_common tables spellings a b) two → ModelOf free (bare_common tables spellings a b) two
 bare-modelled free tables spellings a b writes back two begins =
     record { world = []; run = tt; a = begun-side free tables spellings a b Initiator; b = begun-side free tables spellings a b Responder }
 bare-modelled free tables spellings a b writes back two (calls before role call answer reached h) =

@@ -35,10 +35,10 @@ use Rattle.agreement.specs.Worlds.Step.{Acts}
 use Rattle.agreement.specs.Worlds.Moment.{By}
 use Rattle.agreement.proofs.Interface.{laws}
 use Rattle.end_model.specs.Seen.{Free, seen}
-use Rattle.end_model.specs.Opens.{IsProper, Numbered}
+use Rattle.end_model.specs.OpenInvocations.{IsProper, Numbered}
 use Rattle.end_model.specs.Acting.{HandsIn, ActsAs, IsSoundBody, ReadsBack}
 use Rattle.end_model.specs.Requests.{sent_all, after_called}
-use Rattle.end_model.specs.Pairs.{WritesAll}
+use Rattle.end_model.specs.BothEnds.{WritesAll}
 use Rattle.end_model.specs.Sharing.{side_of, shared_all_sent, before}
 use Rattle.end_model.proofs.Ladder.{called}
 use Rattle.end_model.proofs.HandingRows.{invoke-in}
@@ -77,7 +77,7 @@ module _ (free : Free) (tables : Tables) (spellings : Spellings) (a b : Config) 
   abbrev proposed : List Proposal
   proposed = taking.proposed free tables spellings a b
 
-  abbrev setup : model.Setup
+  abbrev setup : model.ModelSetup
   setup = taking.setup free tables spellings a b
 
   abbrev AreJoint : World → Role → Body → List Message → Body → List Message → List (List SetItem) → List (List SetItem) → Shared → Type 0

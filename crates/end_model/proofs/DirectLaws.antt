@@ -34,11 +34,11 @@ use Rattle.agreement.proofs.Interface.{takes, laws}
 use Rattle.end_model.specs.Seen.{Free, awaited_seen, pair_seen, set_seen, item_seen, seen}
 use Rattle.end_model.specs.Words.{value_of_item}
 use Rattle.end_model.specs.Acting.{ReadsBack}
-use Rattle.end_model.specs.Pairs.{Common, base_at, Two, body_at, coming_to, Reached, begins, calls}
-use Rattle.end_model.specs.Pairs.{takes as reached_takes, passes, fails, breaks, setup_of}
-use Rattle.end_model.specs.Pairs.{WritesAll}
-use Rattle.end_model.specs.DirectPairs.{direct_pair, ProposesRightly, DirectModelled, DirectTakes}
-use Rattle.end_model.specs.DirectPairs.{DirectOneHolder}
+use Rattle.end_model.specs.BothEnds.{Common, base_at, Two, body_at, coming_to, Reached, begins, calls}
+use Rattle.end_model.specs.BothEnds.{takes as reached_takes, passes, fails, breaks, setup_of}
+use Rattle.end_model.specs.BothEnds.{WritesAll}
+use Rattle.end_model.specs.DirectEnds.{direct_common, ProposesRightly, DirectModelled, DirectTakes}
+use Rattle.end_model.specs.DirectEnds.{DirectOneHolder}
 use Rattle.end_model.specs.Sharing.{SetsSent, sets_to, none_sent, Shares, begins as shares_begin}
 use Rattle.end_model.specs.Sharing.{calls as shares_call, takes as shares_take}
 use Rattle.end_model.specs.Sharing.{passes as shares_pass, fails as shares_fail}
@@ -97,12 +97,12 @@ found-back set k pair h = go (pair_of set k) (sym (lookup-seen set k) ∙ h)
 
 module _ (free : Free) (tables : Tables) (spellings : Spellings) (a b : Config) where
   abbrev common : Common
-  common = direct_pair tables spellings a b
+  common = direct_common tables spellings a b
 
   abbrev base : Role → Base
   base = taking.base free tables spellings a b
 
-  abbrev setup : model.Setup
+  abbrev setup : model.ModelSetup
   setup = taking.setup free tables spellings a b
 
   abbrev Kept : Two → Shared → SetsSent → Type 0
@@ -293,7 +293,7 @@ holds-so base body h = go body.link.turn refl body.link.awaits refl h
 pub direct-one_holder : DirectOneHolder
 direct-one_holder free tables spellings a b writes back list two reached x y =
     let k = kept-of free tables spellings a b writes back list two reached in
-    let common : Common = direct_pair tables spellings a b in
+    let common : Common = direct_common tables spellings a b in
     (laws (setup_of free common)).one_holder k.world k.joint.ends.run
     (subst HoldsTurn (sym k.joint.ends.own.state) (holds-so (base_at Initiator common) two.a x))
     (subst HoldsTurn (sym k.joint.ends.others.state) (holds-so (base_at Responder common) two.b y))

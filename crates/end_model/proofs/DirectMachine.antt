@@ -37,10 +37,10 @@ use Rattle.agreement.specs.Worlds.Moment.{By, Break}
 use Rattle.end_model.specs.Seen.{Free, role_seen, phase_seen, seen}
 use Rattle.end_model.specs.Acting.{ActsAs, IsSoundBody, ReadsBack}
 use Rattle.end_model.specs.Requests.{sent_all, after_called}
-use Rattle.end_model.specs.Pairs.{Common, Two, two_new, body_at, coming_to, stepped, both_broke}
-use Rattle.end_model.specs.Pairs.{WritesAll}
+use Rattle.end_model.specs.BothEnds.{Common, Two, two_new, body_at, coming_to, stepped, both_broke}
+use Rattle.end_model.specs.BothEnds.{WritesAll}
 use Rattle.end_model.specs.Steps.{BreaksSo}
-use Rattle.end_model.specs.DirectPairs.{direct_pair, ProposesRightly}
+use Rattle.end_model.specs.DirectEnds.{direct_common, ProposesRightly}
 use Rattle.end_model.specs.Sharing.{side_of, shared_all_sent, shared_all_answered, SetsSent}
 use Rattle.end_model.specs.Sharing.{sets_to, sets_stepped, before, none_sent, Shares, begins, calls}
 use Rattle.end_model.specs.Sharing.{takes, passes, fails, breaks}
@@ -120,7 +120,7 @@ aborted-over body false = refl
 
 module _ (free : Free) (tables : Tables) (spellings : Spellings) (a b : Config) where
   abbrev pub common : Common
-  common = direct_pair tables spellings a b
+  common = direct_common tables spellings a b
 
   abbrev pub base : Role → Base
   base = taking.base free tables spellings a b
@@ -128,7 +128,7 @@ module _ (free : Free) (tables : Tables) (spellings : Spellings) (a b : Config) 
   abbrev proposed : List Proposal
   proposed = taking.proposed free tables spellings a b
 
-  abbrev setup : model.Setup
+  abbrev setup : model.ModelSetup
   setup = taking.setup free tables spellings a b
 
   abbrev pub AreJoint : World → Role → Body → List Message → Body → List Message → List (List SetItem) → List (List SetItem) → Shared → Type 0

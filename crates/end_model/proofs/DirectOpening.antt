@@ -62,7 +62,7 @@ use Rattle.agreement.proofs.Flights.{rising-altered}
 use Rattle.end_model.specs.Seen.{Free, phase_seen, awaited_seen, set_seen, addition_seen, seen}
 use Rattle.end_model.specs.Words.{added_seen}
 use Rattle.end_model.specs.Acting.{IsSoundBody, TakenAs}
-use Rattle.end_model.specs.DirectPairs.{ProposesRightly}
+use Rattle.end_model.specs.DirectEnds.{ProposesRightly}
 use Rattle.end_model.specs.Sharing.{side_of, shared_all_sent, shared_all_answered, before}
 use Rattle.end_model.proofs.Takes.{fine}
 use Rattle.end_model.proofs.Fitting.{known-syntax, additions-answered}
@@ -138,7 +138,7 @@ module _ (free : Free) (tables : Tables) (spellings : Spellings) (a b : Config) 
   abbrev proposed : List Proposal
   proposed = taking.proposed free tables spellings a b
 
-  abbrev setup : model.Setup
+  abbrev setup : model.ModelSetup
   setup = taking.setup free tables spellings a b
 
   abbrev AreJoint : World → Role → Body → List Message → Body → List Message → List (List SetItem) → List (List SetItem) → Shared → Type 0

@@ -56,14 +56,14 @@ use Rattle.end_model.specs.Seen.{Free, role_seen, phase_seen, awaited_seen, item
 use Rattle.end_model.specs.Seen.{saved_seen, seen, setup_seen}
 use Rattle.end_model.specs.Rows.{at}
 use Rattle.end_model.specs.Meant.{list_meant}
-use Rattle.end_model.specs.Opens.{IsProper, IsReadBack}
+use Rattle.end_model.specs.OpenInvocations.{IsProper, IsReadBack}
 use Rattle.end_model.specs.Words.{Means, AreMeant, results_seen, data_word, AreOurs}
 use Rattle.end_model.specs.Acting.{IsSoundBody, TakenAs}
 use Rattle.end_model.specs.Heard.{MayThen, then_acted, sent_then}
 use Rattle.end_model.specs.Takings.{IsJoined, TakenWhere, nothing}
-use Rattle.end_model.specs.Pairs.{Common, base_at, setup_of, WritesAll}
+use Rattle.end_model.specs.BothEnds.{Common, base_at, setup_of, WritesAll}
 use Rattle.end_model.specs.Steps.{AreOnWay, EndOf}
-use Rattle.end_model.specs.DirectPairs.{direct_pair}
+use Rattle.end_model.specs.DirectEnds.{direct_common}
 use Rattle.end_model.specs.Sharing.{side_of, shared_all_sent, shared_all_answered, before}
 use Rattle.end_model.proofs.AnswersFit.{fits-too}
 use Rattle.end_model.proofs.Fitting.{all-fit, policy-fits, and-left}
@@ -137,7 +137,7 @@ sets-none messages fs flight s =
 
 module _ (free : Free) (tables : Tables) (spellings : Spellings) (a b : Config) where
   abbrev pub common : Common
-  common = direct_pair tables spellings a b
+  common = direct_common tables spellings a b
 
   abbrev pub base : Role → Base
   base role = base_at role common
@@ -145,7 +145,7 @@ module _ (free : Free) (tables : Tables) (spellings : Spellings) (a b : Config) 
   abbrev pub proposed : List Proposal
   proposed = proposals (base Initiator)
 
-  abbrev pub setup : model.Setup
+  abbrev pub setup : model.ModelSetup
   setup = setup_of free common
 
   abbrev pub AreJoint : World → Role → Body → List Message → Body → List Message → List (List SetItem) → List (List SetItem) → Shared → Type 0

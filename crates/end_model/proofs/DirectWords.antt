@@ -21,7 +21,7 @@ use Rattle.agreement.specs.Takings.{is_purged as model_purged}
 use Rattle.end_model.specs.Seen.{role_seen, awaited_seen, item_seen, items_seen}
 use Rattle.end_model.specs.Rows.{at}
 use Rattle.end_model.specs.Meant.{list_meant}
-use Rattle.end_model.specs.Opens.{IsProper, IsReadBack}
+use Rattle.end_model.specs.OpenInvocations.{IsProper, IsReadBack}
 use Rattle.end_model.specs.Words.{Means, AreMeant, results_seen, value_of_item, AreOurs}
 use Rattle.end_model.specs.Requests.{sent_all}
 use Rattle.end_model.specs.Takings.{IsJoined}

@@ -22,7 +22,7 @@ use Rattle.agreement.specs.Takings.{handed_up as model_handed_up, between as mod
 use Rattle.end_model.specs.Seen.{Free, role_seen, set_seen, item_seen, apdu_seen, queued_seen}
 use Rattle.end_model.specs.Seen.{calls_seen, incoming_seen, seen, setup_seen}
 use Rattle.end_model.specs.Rows.{at}
-use Rattle.end_model.specs.Opens.{IsProper, IsReadBack}
+use Rattle.end_model.specs.OpenInvocations.{IsProper, IsReadBack}
 use Rattle.end_model.specs.Words.{value_of_item}
 use Rattle.end_model.specs.Acting.{IsSoundBody, TakenAs}
 use Rattle.end_model.specs.Heard.{IsExpected}

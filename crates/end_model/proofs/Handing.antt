@@ -24,11 +24,11 @@ use Rattle.end_rules.specs.Hearing.{is_silent_at, opening}
 use Rattle.agreement.specs.Messages as model
 use Rattle.agreement.specs.Calls.{is_link_allowed, has_room, close as model_close}
 use Rattle.end_model.specs.Seen.{Free, number_seen, opens_seen_on, calls_seen, setup_seen}
-use Rattle.end_model.specs.Opens.{IsNumber, IsNamed, IsNumbered, AreNumbered}
+use Rattle.end_model.specs.OpenInvocations.{IsNumber, IsNamed, IsNumbered, AreNumbered}
 use Rattle.dialogue.specs.declared.config.Mode.{Mode}
 use Rattle.end_model.proofs.Held.{MaySend, may-send}
-use Rattle.end_model.proofs.Opens.{joined-seen, found, link-found, found-seen, on_opened, on-some}
-use Rattle.end_model.proofs.Opens.{closed-seen, others-seen, length-seen}
+use Rattle.end_model.proofs.OpenInvocations.{joined-seen, found, link-found, found-seen, on_opened, on-some}
+use Rattle.end_model.proofs.OpenInvocations.{closed-seen, others-seen, length-seen}
 
 -- ---- numbers
 

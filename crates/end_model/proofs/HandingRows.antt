@@ -34,8 +34,8 @@ use Rattle.agreement.specs.Acts.{acted}
 use Rattle.end_model.specs.Seen.{Free, number_seen, apdu_seen, item_seen, queued_seen, calls_seen}
 use Rattle.end_model.specs.Seen.{opens_seen_on, is_outcome, allows_outcome, seen, setup_seen}
 use Rattle.end_model.specs.Rows.{at}
-use Rattle.end_model.specs.Opens.{IsNumber, IsProper, IsReadBack, AreNumbered, Numbered}
-use Rattle.end_model.specs.Opens.{fits_argument, operation_of_code}
+use Rattle.end_model.specs.OpenInvocations.{IsNumber, IsProper, IsReadBack, AreNumbered, Numbered}
+use Rattle.end_model.specs.OpenInvocations.{fits_argument, operation_of_code}
 use Rattle.end_model.specs.Words.{IsData, AreOurs}
 use Rattle.end_model.specs.Acting.{ActsAs, HandsActs, SetsIn, IsSoundBody, HandingIn, apdus_of}
 use Rattle.end_model.specs.Acting.{invoked_as}
@@ -44,7 +44,7 @@ use Rattle.end_model.proofs.Facts.{up-seen, free-seen}
 use Rattle.end_model.proofs.Held.{found-pair, some-deletes}
 use Rattle.end_model.proofs.Ladder.{passed, called}
 use Rattle.end_model.proofs.InvokeRungs.{Invokable, invokable}
-use Rattle.end_model.proofs.Opens.{found-seen, answer-found, on_opened, on-some, found}
+use Rattle.end_model.proofs.OpenInvocations.{found-seen, answer-found, on_opened, on-some, found}
 use Rattle.end_model.proofs.Numbered.{more-made, own-fresh, numbered-opening}
 use Rattle.end_model.proofs.Handing.{number-next, next-is_number, has-pair, linking, room}
 use Rattle.end_model.proofs.Handing.{own-opening}

@@ -28,7 +28,7 @@ use Rattle.end_model.specs.Seen.{queued_seen, calls_seen, seen, setup_seen}
 use Rattle.end_model.specs.Rows.{at}
 use Rattle.end_model.specs.Words.{AreOurs}
 use Rattle.end_model.specs.Acting.{IsSoundBody, QueuesIn}
-use Rattle.end_model.specs.Opens.{Numbered, IsProper}
+use Rattle.end_model.specs.OpenInvocations.{Numbered, IsProper}
 use Rattle.end_model.specs.Heard.{MayThen, then_acted, sent_then, HearsIn}
 use Rattle.end_model.proofs.Facts.{up-seen, up-there}
 use Rattle.end_model.proofs.Held.{found-pair, some-deletes}

@@ -37,12 +37,12 @@ use Rattle.end_model.specs.Seen.{Free, number_seen, opens_seen_on, calls_seen, a
 use Rattle.end_model.specs.Seen.{setup_seen, is_outcome, allows_outcome, problem_due, link_due}
 use Rattle.end_model.specs.Seen.{on_open}
 use Rattle.end_model.specs.Rows.{at}
-use Rattle.end_model.specs.Opens.{IsNumber, IsNamed, IsProblem, IsProper, AreNumbered, Numbered}
-use Rattle.end_model.specs.Opens.{fits_argument, operation_of_code}
-use Rattle.end_model.specs.Opens.{IsReadBack}
+use Rattle.end_model.specs.OpenInvocations.{IsNumber, IsNamed, IsProblem, IsProper, AreNumbered, Numbered}
+use Rattle.end_model.specs.OpenInvocations.{fits_argument, operation_of_code}
+use Rattle.end_model.specs.OpenInvocations.{IsReadBack}
 use Rattle.end_model.specs.Heard.{IsExpected}
-use Rattle.end_model.proofs.Opens.{open-found, link-found, answer-found, found, found-seen}
-use Rattle.end_model.proofs.Opens.{on_opened, on-some, joined-seen, length-seen}
+use Rattle.end_model.proofs.OpenInvocations.{open-found, link-found, answer-found, found, found-seen}
+use Rattle.end_model.proofs.OpenInvocations.{on_opened, on-some, joined-seen, length-seen}
 use Rattle.end_model.proofs.Numbered.{numbered-opening, numbered-closed}
 use Rattle.end_model.proofs.Handing.{own-closed}
 use Rattle.end_model.proofs.OutcomeRows.{right-carried}

@@ -32,8 +32,8 @@ use Rattle.end_model.specs.Rows.{at}
 use Rattle.end_model.specs.Words.{Means, AreMeant}
 use Rattle.end_model.specs.Acting.{ActsAs}
 use Rattle.end_model.specs.Steps.{AreOnWay, EndOf, BothEnds, TookIt, PassedIt, BreaksSo}
-use Rattle.end_model.specs.DirectPairs.{direct_pair}
-use Rattle.end_model.specs.Pairs.{Common, base_at, setup_of}
+use Rattle.end_model.specs.DirectEnds.{direct_common}
+use Rattle.end_model.specs.BothEnds.{Common, base_at, setup_of}
 use Rattle.end_model.specs.Sharing.{side_of, shared_all_sent, before}
 use Rattle.end_model.proofs.BareMachine.{flight-own, flight-other}
 use Rattle.end_model.proofs.Machine.{append-nil, acts-kept, breaks-kept, unseen-kept, units-kept}
@@ -152,7 +152,7 @@ sets-off word left f rest (x ∷ xs) s = s.1
 
 module _ (free : Free) (tables : Tables) (spellings : Spellings) (a b : Config) where
   abbrev pub common : Common
-  common = direct_pair tables spellings a b
+  common = direct_common tables spellings a b
 
   abbrev pub base : Role → Base
   base role = base_at role common
@@ -160,7 +160,7 @@ module _ (free : Free) (tables : Tables) (spellings : Spellings) (a b : Config) 
   abbrev pub proposed : List Proposal
   proposed = proposals (base Initiator)
 
-  abbrev pub setup : model.Setup
+  abbrev pub setup : model.ModelSetup
   setup = setup_of free common
 
   -- both ends beside the model, and what they share

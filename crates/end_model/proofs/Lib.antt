@@ -14,7 +14,7 @@ pub mod Resuming
 pub mod Breaking
 pub mod Sendings
 pub mod Ladder
-pub mod Opens
+pub mod OpenInvocations
 pub mod Numbered
 pub mod InvokeRungs
 pub mod Held

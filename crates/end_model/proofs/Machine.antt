@@ -26,7 +26,7 @@ use Rattle.agreement.specs.Worlds.Moment.{Break}
 use Rattle.agreement.proofs.Interface.{acts, takes, passes}
 use Rattle.end_model.specs.Seen.{Free, role_seen, seen}
 use Rattle.end_model.specs.Words.{IsData, ValuesMean, DataMeans, AssociationMeans, Means, AreMeant}
-use Rattle.end_model.specs.Pairs.{Common, base_at, setup_of}
+use Rattle.end_model.specs.BothEnds.{Common, base_at, setup_of}
 use Rattle.end_model.specs.Steps.{AreOnWay, EndOf, ActsKept, TakesKept, PassesKept, BreaksSo}
 use Rattle.end_model.specs.Steps.{BreaksKept, UnseenKept, UnitsKept}
 use Rattle.end_model.proofs.Breaking.{broken-seen}
@@ -97,7 +97,7 @@ append-nil (x ∷ xs) = ap (λ ys. x ∷ ys) (append-nil xs)
 
 pub acts-kept : ActsKept
 acts-kept free common proposed world role body later coming peer to_peer sent act s a =
-    let setup : model.Setup = setup_of free common in
+    let setup : model.ModelSetup = setup_of free common in
     let base : Base = base_at role common in
     let now : state_of setup role world ≡ seen base body = s.own.state in
     let sent_now : AreMeant proposed base sent (sent_by setup (state_of setup role world) act) = subst (λ x. AreMeant proposed base sent (sent_by setup x act)) (sym now) a.means in
@@ -121,7 +121,7 @@ acts-kept free common proposed world role body later coming peer to_peer sent ac
 
 pub takes-kept : TakesKept
 takes-kept free common proposed world role body word left peer to_peer choice s alive kept chosen taking =
-    let setup : model.Setup = setup_of free common in
+    let setup : model.ModelSetup = setup_of free common in
     let base : Base = base_at role common in
     let now : state_of setup role world ≡ seen base body = s.own.state in
     let n = next-word proposed (base_at Initiator common) word left (flight_to setup role world) s.own.flight in
@@ -165,7 +165,7 @@ passing-so role x y message e (inr h) = inr (ap (λ (s : states.State). is_purge
 
 pub passes-kept : PassesKept
 passes-kept free common proposed world role body word left peer to_peer s passed =
-    let setup : model.Setup = setup_of free common in
+    let setup : model.ModelSetup = setup_of free common in
     let base : Base = base_at role common in
     let now : state_of setup role world ≡ seen base body = s.own.state in
     let n = next-word proposed (base_at Initiator common) word left (flight_to setup role world) s.own.flight in
@@ -215,7 +215,7 @@ units-alone common proposed role (Session word ∷ sent) h = absurd h
 
 pub unseen-kept : UnseenKept
 unseen-kept free common proposed world role body later coming peer to_peer sent s same units =
-    let setup : model.Setup = setup_of free common in
+    let setup : model.ModelSetup = setup_of free common in
     record {
       run = s.run;
       own = record { state = s.own.state ∙ sym same; flight = s.own.flight };

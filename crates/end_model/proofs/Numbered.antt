@@ -7,9 +7,9 @@ use Rattle.end_rules.specs.State.{OpenCall, Calls, is_whose, is_key, opened_with
 use Rattle.end_rules.specs.Base.{Base}
 use Rattle.end_rules.specs.Hearing.{is_silent_at, opening}
 use Rattle.end_model.specs.Seen.{number_seen}
-use Rattle.end_model.specs.Opens.{IsNumber, IsNumbered, AreNumbered, Numbered}
+use Rattle.end_model.specs.OpenInvocations.{IsNumber, IsNumbered, AreNumbered, Numbered}
 use Rattle.end_model.proofs.Held.{eq-sym}
-use Rattle.end_model.proofs.Opens.{same-number, key-seen}
+use Rattle.end_model.proofs.OpenInvocations.{same-number, key-seen}
 
 pub more-made : (made later : ℕ) (os : List OpenCall) → made ≤ later → AreNumbered made os → AreNumbered later os
 more-made made later [] le h = tt

@@ -39,8 +39,8 @@ use Rattle.agreement.specs.Laws.{handed_by}
 use Rattle.end_model.specs.Seen.{Free, number_seen, apdu_seen, item_seen, queued_seen, calls_seen}
 use Rattle.end_model.specs.Seen.{is_outcome, seen, setup_seen}
 use Rattle.end_model.specs.Rows.{at}
-use Rattle.end_model.specs.Opens.{IsNumber, IsProper, IsReadBack, AreNumbered, fits_result}
-use Rattle.end_model.specs.Opens.{fits_parameter, operation_of_code, error_of_code}
+use Rattle.end_model.specs.OpenInvocations.{IsNumber, IsProper, IsReadBack, AreNumbered, fits_result}
+use Rattle.end_model.specs.OpenInvocations.{fits_parameter, operation_of_code, error_of_code}
 use Rattle.end_model.specs.Acting.{HandsActs, IsSoundBody, HasBareSet, HandingIn, WritesIn, as_list}
 use Rattle.end_model.specs.Acting.{handing}
 use Rattle.end_model.proofs.Ladder.{passed, called}

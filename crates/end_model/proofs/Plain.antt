@@ -6,7 +6,7 @@ use Rattle.agreement.specs.Messages.Problem.{General, OfInvocation, OfResult, Of
 use Rattle.agreement.specs.Messages.Apdu.{Invoke, Outcome, Reject}
 use Rattle.agreement.specs.Cases.{written_plainly, read_plainly, value_of_parts, apdu_of}
 use Rattle.end_model.specs.Seen.{Free}
-use Rattle.end_model.specs.Pairs.{HasCodec}
+use Rattle.end_model.specs.BothEnds.{HasCodec}
 
 apdu-read : (a : Apdu) → apdu_of (written_plainly a) ≡ Some a
 apdu-read (Invoke number operation None argument) = refl

@@ -36,7 +36,7 @@ use Rattle.end_model.proofs.Marks.{next-seen, mark-sent}
 use Rattle.end_model.proofs.Sendings.{restored-seen, confirmed-of}
 use Rattle.end_model.proofs.Transfers.{discard-sent}
 use Rattle.end_model.proofs.Resuming.{resumption-sent}
-use Rattle.end_model.proofs.Opens.{length-seen}
+use Rattle.end_model.proofs.OpenInvocations.{length-seen}
 
 -- ---- what tests say
 

@@ -35,7 +35,7 @@ use Rattle.agreement.specs.Takings.{MayTake, IsNextConfirmed, IsEndOf, MayResume
 use Rattle.end_model.specs.Seen.{Free, role_seen, set_seen, piece_seen, progress_seen, awaited_seen}
 use Rattle.end_model.specs.Seen.{transfer_seen, incoming_seen, calls_seen, seen, setup_seen}
 use Rattle.end_model.specs.Rows.{at}
-use Rattle.end_model.specs.Opens.{IsProper, AreNumbered}
+use Rattle.end_model.specs.OpenInvocations.{IsProper, AreNumbered}
 use Rattle.end_model.specs.Acting.{IsSoundBody, TakenAs}
 use Rattle.end_model.specs.Takings.{IsJoined, TakenWhere, nothing, IsProperCurrent}
 use Rattle.end_model.proofs.Transfers.{highest-seen, mark-confirmed}

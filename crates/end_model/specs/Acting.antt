@@ -26,7 +26,7 @@ use Rattle.agreement.specs.Worlds.Step.{Acts}
 use Rattle.agreement.specs.Laws.{handed_by}
 use Rattle.end_model.specs.Seen.{Free, role_seen, apdu_seen, seen, setup_seen}
 use Rattle.end_model.specs.Rows.{at}
-use Rattle.end_model.specs.Opens.{Numbered, IsProper}
+use Rattle.end_model.specs.OpenInvocations.{Numbered, IsProper}
 use Rattle.end_model.specs.Words.{AreMeant, AreOurs}
 
 -- What the end does is the act: it may be done, what it leaves is the model's state, and what is sent is meant.

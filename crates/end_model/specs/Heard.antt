@@ -8,7 +8,7 @@ use Rattle.end_rules.specs.Messages.{unit_of}
 use Rattle.end_rules.specs.Purging.{is_purged}
 use Rattle.end_rules.specs.Reacting.{word_fault, after_word, answers_to_word}
 use Rattle.agreement.specs.Sets.{Role}
-use Rattle.agreement.specs.Messages.{Act, Setup, Calls as ModelCalls, Apdu as ModelApdu}
+use Rattle.agreement.specs.Messages.{Act, ModelSetup, Calls as ModelCalls, Apdu as ModelApdu}
 use Rattle.agreement.specs.Messages.{Value as ModelValue, Message as ModelMessage}
 use Rattle.agreement.specs.Messages.Apdu.{Invoke, Outcome, Reject}
 use Rattle.agreement.specs.Messages.Message.{Data}
@@ -20,25 +20,25 @@ use Rattle.agreement.specs.Takings.{MayTake, taken}
 use Rattle.end_model.specs.Seen.{Free, role_seen, item_seen, apdu_seen, calls_seen, seen}
 use Rattle.end_model.specs.Seen.{setup_seen}
 use Rattle.end_model.specs.Rows.{at}
-use Rattle.end_model.specs.Opens.{IsProper, IsReadBack}
+use Rattle.end_model.specs.OpenInvocations.{IsProper, IsReadBack}
 use Rattle.end_model.specs.Words.{data_word, AreOurs}
 use Rattle.end_model.specs.Acting.{IsSoundBody}
 
 -- at most one act follows
-abbrev pub MayThen : Setup → Role → State → Option Act → Type 0
+abbrev pub MayThen : ModelSetup → Role → State → Option Act → Type 0
 MayThen setup role state None = Unit {0}
 MayThen setup role state (Some act) = MayAct setup role state act
 
-abbrev pub then_acted : Setup → State → Option Act → State
+abbrev pub then_acted : ModelSetup → State → Option Act → State
 then_acted setup state None = state
 then_acted setup state (Some act) = acted setup state act
 
-abbrev pub sent_then : Setup → State → Option Act → List ModelMessage
+abbrev pub sent_then : ModelSetup → State → Option Act → List ModelMessage
 sent_then setup state None = []
 sent_then setup state (Some act) = sent_by setup state act
 
 -- an outcome of an invocation that is open here is one that its operation has
-abbrev pub IsExpected : Setup → ModelCalls → ModelApdu → Type 0
+abbrev pub IsExpected : ModelSetup → ModelCalls → ModelApdu → Type 0
 IsExpected setup calls (Invoke number operation link argument) = Unit {0}
 IsExpected setup calls (Outcome number content) = is_open number calls.own_open ≡ true → may_answer setup calls.own_open number content ≡ true
 IsExpected setup calls (Reject number problem) = Unit {0}

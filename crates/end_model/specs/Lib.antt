@@ -1,19 +1,19 @@
 pub mod Seen
 pub mod Rows
 pub mod Meant
-pub mod Opens
+pub mod OpenInvocations
 pub mod Words
 pub mod Acting
 pub mod Heard
 pub mod Requests
 pub mod Takings
-pub mod Pairs
+pub mod BothEnds
 pub mod Openings
 pub mod Connections
 pub mod OwnActs
 pub mod Faultless
 pub mod Steps
-pub mod DirectPairs
+pub mod DirectEnds
 pub mod Sharing
 pub mod FaultlessOthers
 pub use Rattle.dialogue.specs as dialogue

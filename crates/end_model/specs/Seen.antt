@@ -238,7 +238,7 @@ problem_due base calls (model_invoke number operation link argument) =
 problem_due base calls (model_outcome number content) = outcome_due (base.spellings.head Der content)
 problem_due base calls (model_reject number problem) = problem
 
-abbrev pub setup_seen : Free → Mode → Base → model.Setup
+abbrev pub setup_seen : Free → Mode → Base → model.ModelSetup
 setup_seen free mode base =
     record {
       mode = mode_seen mode;

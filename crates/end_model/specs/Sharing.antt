@@ -22,8 +22,8 @@ use Rattle.agreement.specs.Sets.Role.{Initiator, Responder}
 use Rattle.end_model.specs.Seen.{Free}
 use Rattle.end_model.specs.Acting.{ReadsBack}
 use Rattle.end_model.specs.Requests.{after_called}
-use Rattle.end_model.specs.Pairs.{Common, base_at, Two, two_new, body_at, coming_to, stepped, both_broke, WritesAll}
-use Rattle.end_model.specs.DirectPairs.{direct_pair, ProposesRightly}
+use Rattle.end_model.specs.BothEnds.{Common, base_at, Two, two_new, body_at, coming_to, stepped, both_broke, WritesAll}
+use Rattle.end_model.specs.DirectEnds.{direct_common, ProposesRightly}
 
 abbrev pub side_of : Role → Side
 side_of Initiator = A
@@ -81,9 +81,9 @@ pub data Shares (common : Common) : Two → Shared → SetsSent → Type 0 where
 abbrev pub DirectAsSent : Type 0
 DirectAsSent =
     (free : Free) (tables : Tables) (spellings : Spellings) (a b : Config) → WritesAll free →
-    ReadsBack (base_at Initiator (direct_pair tables spellings a b)) → ProposesRightly (direct_pair tables spellings a b) →
+    ReadsBack (base_at Initiator (direct_common tables spellings a b)) → ProposesRightly (direct_common tables spellings a b) →
     (two : Two) (shared : Shared) (sets : SetsSent) (role : Role) (value : DataValue) (left : List Message) (set : List SetItem) (sets_left : List (List SetItem)) (body : Body) (answers : List Message) (shown : List Indication) →
-    Shares (direct_pair tables spellings a b) two shared sets →
+    Shares (direct_common tables spellings a b) two shared sets →
     coming_to role two ≡ Session (OfData (Values (value ∷ []))) ∷ left → sets_to role sets ≡ set ∷ sets_left →
-    react (base_at role (direct_pair tables spellings a b)) (body_at role two) (Session (OfData (Values (value ∷ [])))) ≡ Takes body answers shown →
+    react (base_at role (direct_common tables spellings a b)) (body_at role two) (Session (OfData (Values (value ∷ [])))) ≡ Takes body answers shown →
     (pair_of (body_at role two).sets.held value.id ≡ value.pair) × (pair_of set value.id ≡ value.pair)

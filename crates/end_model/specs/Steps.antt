@@ -18,7 +18,7 @@ use Rattle.agreement.specs.Worlds.Moment.{By, Break}
 use Rattle.end_model.specs.Seen.{Free, mode_seen, phase_seen, seen}
 use Rattle.end_model.specs.Words.{Means, AreMeant}
 use Rattle.end_model.specs.Acting.{ActsAs, TakenAs}
-use Rattle.end_model.specs.Pairs.{Common, base_at, setup_of}
+use Rattle.end_model.specs.BothEnds.{Common, base_at, setup_of}
 
 -- the messages that come to an end are meant by those on their way to it in the model, which has no transport units
 abbrev pub AreOnWay : List Proposal → Base → List Message → List Sending → Type 0

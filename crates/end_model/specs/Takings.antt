@@ -43,7 +43,7 @@ use Rattle.end_model.specs.Seen.{Free, role_seen, set_seen, items_seen, item_see
 use Rattle.end_model.specs.Seen.{calls_seen, seen, setup_seen}
 use Rattle.end_model.specs.Rows.{at}
 use Rattle.end_model.specs.Meant.{list_meant}
-use Rattle.end_model.specs.Opens.{IsProper, IsReadBack}
+use Rattle.end_model.specs.OpenInvocations.{IsProper, IsReadBack}
 use Rattle.end_model.specs.Heard.{IsExpected}
 use Rattle.end_model.specs.Words.{results_seen}
 use Rattle.end_model.specs.Acting.{IsSoundBody, TakenAs}

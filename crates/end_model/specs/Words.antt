@@ -26,7 +26,7 @@ use Rattle.agreement.specs.Messages.Message.{UserAbort as model_abort, Data as m
 use Rattle.agreement.specs.Messages.Message.{Chunk as model_chunk, Alter as model_alter}
 use Rattle.agreement.specs.Messages.Message.{AlterAnswer as model_alter_answer}
 use Rattle.end_model.specs.Seen.{pair_seen, set_seen, item_seen, items_seen}
-use Rattle.end_model.specs.Opens.{IsProper, IsReadBack}
+use Rattle.end_model.specs.OpenInvocations.{IsProper, IsReadBack}
 use Rattle.end_model.specs.Meant.{mark_meant, activity_meant}
 
 -- ---- results

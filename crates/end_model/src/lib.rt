@@ -4,15 +4,15 @@
 #![tactic(auto)]
 
 mod acting;
-mod pairs;
+mod both_ends;
 mod rows;
 mod takings;
 
 pub use acting::{
     alters_act, calls_act, calls_unseen, connections_act, data_heard, handed_in, own_acts,
 };
-pub use pairs::{
-    bare_pairs_are_modelled, direct_pairs_are_modelled, direct_turn_has_one_holder,
+pub use both_ends::{
+    bare_ends_are_modelled, direct_ends_are_modelled, direct_turn_has_one_holder,
     direct_values_are_as_sent, steps_keep_the_run,
 };
 pub use rows::{

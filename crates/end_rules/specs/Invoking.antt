@@ -64,7 +64,7 @@ next_id body = pos (min (suc body.calls.made) last_invocation)
 abbrev pub is_on_module : Base → Body → ℕ → Bool
 is_on_module base body context = has_abstract base.tables.name_oid (pair_of body.sets.held context)
 
--- the operation may be linked to this one (X.880 8.3.6)
+-- the operation may be linked to this one (X.880 8.2.6)
 abbrev pub is_linked_to : Option Operation → ℕ → Bool
 is_linked_to None operation = false
 is_linked_to (Some parent) operation = is_among operation parent.linked

@@ -22,7 +22,7 @@ use Rattle.end_rules.specs.Base.{Carried, Absent, Spelled, Unspelled, InvokeHead
 use Rattle.osi_base.specs.SetPlaces.{pair_of}
 use Rattle.end_rules.specs.Messages.{ValueContent, Remote, Unread, Association, Plea, Part}
 use Rattle.end_rules.specs.Hearing.{carried_in, head_of_apdu, head_of, syntax_of}
-use Rattle.end_wire.specs.Heads.{spelled_head, typed_at, carried_at, said_result, said, said_or_refused, head_at, value_or_lack, apdu_of}
+use Rattle.end_wire.specs.Heads.{spelled_head, typed_at, carried_at, heard_result, heard_head, heard_or_refused, head_at, value_or_lack, apdu_of}
 use Rattle.end_wire.specs.Values.{IsContent, content_of, content_at}
 use Rattle.end_wire.specs.Bare.{bare_base, bare_value}
 use Rattle.end_wire.proofs.HeadLaws.{head_read, no_head}
@@ -71,7 +71,7 @@ module _ (tables : Tables) (syntax : Syntax) where
         ∙ ap (λ (k : Code). Some (apdus.Result id (Some (record { code = k; value = r.value })))) e
 
     of_result : (id : ℤ) (returned : Option Returned) (outcome : Option heads.Outcome) → ReturnedAs tables syntax (room_behind syntax (heads.result id outcome)) returned outcome
-        → apdu_of tables (said tables syntax (heads.result id outcome)) ≡ Some (apdus.Result id returned)
+        → apdu_of tables (heard_head tables syntax (heads.result id outcome)) ≡ Some (apdus.Result id returned)
     of_result id None None p = refl
     of_result id None (Some o) p = absurd p
     of_result id (Some r) None p = absurd p
@@ -85,38 +85,38 @@ module _ (tables : Tables) (syntax : Syntax) where
 
     of_invoke : (id : ℤ) (linked : Option ℤ) (code : Code) (argument : Option Val) (octets : Option (List ℕ))
         → CarriedAs syntax tables.types (room_behind syntax (heads.invoke id linked code octets)) (option_map argument_of (operation_coded tables code)) argument octets
-        → apdu_of tables (said tables syntax (heads.invoke id linked code octets)) ≡ Some (apdus.Invoke id linked code argument)
+        → apdu_of tables (heard_head tables syntax (heads.invoke id linked code octets)) ≡ Some (apdus.Invoke id linked code argument)
     of_invoke id linked code argument octets p =
         ap (option_map (λ (v : Option Val). apdus.Invoke id linked code v))
         (carried_read syntax tables.types readable.types (room_behind syntax (heads.invoke id linked code octets)) (room_small syntax (heads.invoke id linked code octets)) (option_map argument_of (operation_coded tables code)) argument octets p)
 
     of_error : (id : ℤ) (code : Code) (parameter : Option Val) (octets : Option (List ℕ))
         → CarriedAs syntax tables.types (room_behind syntax (heads.error id code octets)) (option_map parameter_of (error_coded tables code)) parameter octets
-        → apdu_of tables (said tables syntax (heads.error id code octets)) ≡ Some (apdus.Error id code parameter)
+        → apdu_of tables (heard_head tables syntax (heads.error id code octets)) ≡ Some (apdus.Error id code parameter)
     of_error id code parameter octets p =
         ap (option_map (λ (v : Option Val). apdus.Error id code v))
         (carried_read syntax tables.types readable.types (room_behind syntax (heads.error id code octets)) (room_small syntax (heads.error id code octets)) (option_map parameter_of (error_coded tables code)) parameter octets p)
 
-    pub said_is : (a : Apdu) (h : heads.Head) → Says tables syntax a h → apdu_of tables (said tables syntax h) ≡ Some a
+    pub said_is : (a : Apdu) (h : heads.Head) → Says tables syntax a h → apdu_of tables (heard_head tables syntax h) ≡ Some a
     said_is (apdus.Invoke id linked code argument) h p =
-        ap (λ (x : heads.Head). apdu_of tables (said tables syntax x)) p.head_is
+        ap (λ (x : heads.Head). apdu_of tables (heard_head tables syntax x)) p.head_is
         ∙ of_invoke id linked code argument p.octets (subst (λ (x : heads.Head). CarriedAs syntax tables.types (room_behind syntax x) (option_map argument_of (operation_coded tables code)) argument p.octets) p.head_is p.typed)
     said_is (apdus.Result id returned) h p =
-        ap (λ (x : heads.Head). apdu_of tables (said tables syntax x)) p.head_is
+        ap (λ (x : heads.Head). apdu_of tables (heard_head tables syntax x)) p.head_is
         ∙ of_result id returned p.outcome (subst (λ (x : heads.Head). ReturnedAs tables syntax (room_behind syntax x) returned p.outcome) p.head_is p.typed)
     said_is (apdus.Error id code parameter) h p =
-        ap (λ (x : heads.Head). apdu_of tables (said tables syntax x)) p.head_is
+        ap (λ (x : heads.Head). apdu_of tables (heard_head tables syntax x)) p.head_is
         ∙ of_error id code parameter p.octets (subst (λ (x : heads.Head). CarriedAs syntax tables.types (room_behind syntax x) (option_map parameter_of (error_coded tables code)) parameter p.octets) p.head_is p.typed)
-    said_is (apdus.Reject id problem) h p = ap (λ (x : heads.Head). apdu_of tables (said tables syntax x)) p
+    said_is (apdus.Reject id problem) h p = ap (λ (x : heads.Head). apdu_of tables (heard_head tables syntax x)) p
 
     -- what octets spell is found in them
-    pub spelled_said : (a : Apdu) (octets : List ℕ) (s : Spells tables syntax a octets) → head_at tables syntax octets ≡ said tables syntax s.head
+    pub spelled_said : (a : Apdu) (octets : List ℕ) (s : Spells tables syntax a octets) → head_at tables syntax octets ≡ heard_head tables syntax s.head
     unfolding head_at
-    spelled_said a octets s = ap (said_or_refused tables syntax octets) (head_read syntax octets s.head s.is_head)
+    spelled_said a octets s = ap (heard_or_refused tables syntax octets) (head_read syntax octets s.head s.is_head)
 
   -- ---- an APDU that is found is said
 
-  of_returned : (id : ℤ) (o : heads.Outcome) (a : Apdu) → AreOctets o.octets → (c : Carried) → said_result tables syntax (heads.result id (Some o)) (Some o) ≡ c
+  of_returned : (id : ℤ) (o : heads.Outcome) (a : Apdu) → AreOctets o.octets → (c : Carried) → heard_result tables syntax (heads.result id (Some o)) (Some o) ≡ c
       → apdu_of tables (ResultHead id (Some o.code) c) ≡ Some a → Says tables syntax a (heads.result id (Some o))
   of_returned id o a are Absent f e = absurd cc
   of_returned id o a are Unspelled f e = absurd cc
@@ -126,7 +126,7 @@ module _ (tables : Tables) (syntax : Syntax) where
       subst (λ (x : Apdu). Says tables syntax x (heads.result id (Some o))) (some_is (apdus.Result id (Some (record { code = o.code; value = w }))) a e)
       (record { outcome = Some o; head_is = refl; typed = (refl, p) })
 
-  pub says_of : (a : Apdu) (h : heads.Head) → CarriesOctets h → apdu_of tables (said tables syntax h) ≡ Some a → Says tables syntax a h
+  pub says_of : (a : Apdu) (h : heads.Head) → CarriesOctets h → apdu_of tables (heard_head tables syntax h) ≡ Some a → Says tables syntax a h
   says_of a (heads.invoke id linked code octets) are e =
       let used : Option Use = option_map argument_of (operation_coded tables code) in
       let limit : ℕ = room_behind syntax (heads.invoke id linked code octets) in
@@ -135,7 +135,7 @@ module _ (tables : Tables) (syntax : Syntax) where
       (record { octets = octets; head_is = refl; typed = carried_spelled syntax tables.types limit used m.value octets are m.is })
   says_of a (heads.result id None) are e =
       subst (λ (x : Apdu). Says tables syntax x (heads.result id None)) (some_is (apdus.Result id None) a e) (record { outcome = None; head_is = refl; typed = tt })
-  says_of a (heads.result id (Some o)) are e = of_returned id o a are (said_result tables syntax (heads.result id (Some o)) (Some o)) refl e
+  says_of a (heads.result id (Some o)) are e = of_returned id o a are (heard_result tables syntax (heads.result id (Some o)) (Some o)) refl e
   says_of a (heads.error id code octets) are e =
       let used : Option Use = option_map parameter_of (error_coded tables code) in
       let limit : ℕ = room_behind syntax (heads.error id code octets) in
@@ -163,14 +163,14 @@ module _ (tables : Tables) (syntax : Syntax) where
   result_back id code a Unspelled e = absurd cc
   result_back id code a (Spelled w) e = ap head_of_apdu (sym (some_is (apdus.Result id (Some (record { code = code; value = w }))) a e))
 
-  pub head_back : (a : Apdu) (h : heads.Head) → apdu_of tables (said tables syntax h) ≡ Some a → head_of_apdu a ≡ said tables syntax h
+  pub head_back : (a : Apdu) (h : heads.Head) → apdu_of tables (heard_head tables syntax h) ≡ Some a → head_of_apdu a ≡ heard_head tables syntax h
   head_back a (heads.invoke id linked code octets) e =
       let used : Option Use = option_map argument_of (operation_coded tables code) in
       let c : Carried = carried_at syntax tables.types (room_behind syntax (heads.invoke id linked code octets)) used octets in
       let m = mapped (λ (v : Option Val). apdus.Invoke id linked code v) (value_or_lack used c) a e in
       ap head_of_apdu (sym m.made) ∙ ap (λ (x : Carried). InvokeHead id linked code x) (carried_back used c m.value m.is)
   head_back a (heads.result id None) e = ap head_of_apdu (sym (some_is (apdus.Result id None) a e))
-  head_back a (heads.result id (Some o)) e = result_back id o.code a (said_result tables syntax (heads.result id (Some o)) (Some o)) e
+  head_back a (heads.result id (Some o)) e = result_back id o.code a (heard_result tables syntax (heads.result id (Some o)) (Some o)) e
   head_back a (heads.error id code octets) e =
       let used : Option Use = option_map parameter_of (error_coded tables code) in
       let c : Carried = carried_at syntax tables.types (room_behind syntax (heads.error id code octets)) used octets in
@@ -187,21 +187,21 @@ module _ (tables : Tables) (readable : IsReadable tables) (syntax : Syntax) (oct
 
   pub content_found : (h : heads.Head) → SpellsHead syntax h octets → CarriesOctets h → IsContent tables syntax octets (content_at tables syntax octets)
   unfolding head_at
-  content_found h p are = by (apdu_of tables (said tables syntax h)) refl
+  content_found h p are = by (apdu_of tables (heard_head tables syntax h)) refl
     where
-      at_head : head_at tables syntax octets ≡ said tables syntax h
-      at_head = ap (said_or_refused tables syntax octets) (head_read syntax octets h p)
+      at_head : head_at tables syntax octets ≡ heard_head tables syntax h
+      at_head = ap (heard_or_refused tables syntax octets) (head_read syntax octets h p)
 
-      at_content : (o : Option Apdu) → apdu_of tables (said tables syntax h) ≡ o → content_of octets o ≡ content_at tables syntax octets
+      at_content : (o : Option Apdu) → apdu_of tables (heard_head tables syntax h) ≡ o → content_of octets o ≡ content_at tables syntax octets
       at_content o e = ap (content_of octets) (sym e ∙ ap (apdu_of tables) (sym at_head))
 
-      none : apdu_of tables (said tables syntax h) ≡ None → (a : Apdu) → Spells tables syntax a octets → ⊥
+      none : apdu_of tables (heard_head tables syntax h) ≡ None → (a : Apdu) → Spells tables syntax a octets → ⊥
       none e a s =
-          let there : apdu_of tables (said tables syntax s.head) ≡ Some a = said_is tables syntax readable a s.head s.says in
-          let same : said tables syntax h ≡ said tables syntax s.head = sym at_head ∙ spelled_said tables syntax readable a octets s in
-          let no : apdu_of tables (said tables syntax h) ≡ Some a = ap (apdu_of tables) same ∙ there in cc
+          let there : apdu_of tables (heard_head tables syntax s.head) ≡ Some a = said_is tables syntax readable a s.head s.says in
+          let same : heard_head tables syntax h ≡ heard_head tables syntax s.head = sym at_head ∙ spelled_said tables syntax readable a octets s in
+          let no : apdu_of tables (heard_head tables syntax h) ≡ Some a = ap (apdu_of tables) same ∙ there in cc
 
-      by : (o : Option Apdu) → apdu_of tables (said tables syntax h) ≡ o → IsContent tables syntax octets (content_at tables syntax octets)
+      by : (o : Option Apdu) → apdu_of tables (heard_head tables syntax h) ≡ o → IsContent tables syntax octets (content_at tables syntax octets)
       by None e = subst (IsContent tables syntax octets) (at_content None e) (refl, none e)
       by (Some a) e =
           subst (IsContent tables syntax octets) (at_content (Some a) e) (record { head = h; is_head = p; says = says_of tables syntax a h are e })

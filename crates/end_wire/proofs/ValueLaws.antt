@@ -32,7 +32,7 @@ use Rattle.stub_tables.specs.Apdus.{argument_of, result_of, parameter_of, operat
 use Rattle.apdu_spelling.specs.Heads as heads
 use Rattle.apdu_spelling.specs.Spellings.{SpelledAs, TypedAs, CarriedAs, ReturnedAs, Says, Spells, SpellsHead, room_behind}
 use Rattle.end_rules.specs.Base.{Carried, Absent, Spelled, Unspelled, InvokeHead, ResultHead, ErrorHead, RejectHead}
-use Rattle.end_wire.specs.Heads.{whole_value, packed_value, value_at, typed_at, carried_at, said_result, said, value_or_lack, apdu_of}
+use Rattle.end_wire.specs.Heads.{whole_value, packed_value, value_at, typed_at, carried_at, heard_result, heard_head, value_or_lack, apdu_of}
 
 abbrev no_value : Option Val
 no_value = None

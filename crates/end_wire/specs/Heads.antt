@@ -72,21 +72,21 @@ carried_at syntax types limit (Some use_) (Some octets) = typed_at syntax types 
 
 -- ---- what a head says
 
-abbrev pub said_result : Tables → Syntax → heads.Head → Option heads.Outcome → Carried
-said_result tables syntax h None = Absent
-said_result tables syntax h (Some o) =
+abbrev pub heard_result : Tables → Syntax → heads.Head → Option heads.Outcome → Carried
+heard_result tables syntax h None = Absent
+heard_result tables syntax h (Some o) =
     carried_at syntax tables.types (room_behind syntax h) (option_map result_of (operation_coded tables o.code)) (Some o.octets)
 
-abbrev pub said : Tables → Syntax → heads.Head → HeardHead
-said tables syntax (heads.invoke id linked code octets) =
+abbrev pub heard_head : Tables → Syntax → heads.Head → HeardHead
+heard_head tables syntax (heads.invoke id linked code octets) =
     InvokeHead id linked code
     (carried_at syntax tables.types (room_behind syntax (heads.invoke id linked code octets)) (option_map argument_of (operation_coded tables code)) octets)
-said tables syntax (heads.result id outcome) =
-    ResultHead id (option_map (λ (o : heads.Outcome). o.code) outcome) (said_result tables syntax (heads.result id outcome) outcome)
-said tables syntax (heads.error id code octets) =
+heard_head tables syntax (heads.result id outcome) =
+    ResultHead id (option_map (λ (o : heads.Outcome). o.code) outcome) (heard_result tables syntax (heads.result id outcome) outcome)
+heard_head tables syntax (heads.error id code octets) =
     ErrorHead id code
     (carried_at syntax tables.types (room_behind syntax (heads.error id code octets)) (option_map parameter_of (error_coded tables code)) octets)
-said tables syntax (heads.reject id problem) = RejectHead id problem
+heard_head tables syntax (heads.reject id problem) = RejectHead id problem
 
 -- the general problem, or a reject that is none; want of memory is none of octets
 abbrev pub refused : HeadFault → HeardHead
@@ -94,13 +94,13 @@ refused (fault.General number) = General number
 refused fault.BadReject = BadReject
 refused fault.NoMemory = BadReject
 
-abbrev pub said_or_refused : Tables → Syntax → List ℕ → Option heads.Head → HeardHead
-said_or_refused tables syntax text (Some h) = said tables syntax h
-said_or_refused tables syntax text None = refused (refusal_of syntax text)
+abbrev pub heard_or_refused : Tables → Syntax → List ℕ → Option heads.Head → HeardHead
+heard_or_refused tables syntax text (Some h) = heard_head tables syntax h
+heard_or_refused tables syntax text None = refused (refusal_of syntax text)
 
 -- what octets say of an APDU
 unfoldable pub head_at : Tables → Syntax → List ℕ → HeardHead
-head_at tables syntax text = said_or_refused tables syntax text (spelled_head syntax text)
+head_at tables syntax text = heard_or_refused tables syntax text (spelled_head syntax text)
 
 -- ---- the APDU that a head says, where its value is one, or its lack allowed
 

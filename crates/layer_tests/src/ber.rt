@@ -2,8 +2,8 @@
 
 use crate::tables::{Member, Row, parts, table};
 use ber_codec::{
-    LIMIT, Read, ReadFault, RowRefusal, TextKind, TypeId, TypeRow, TypeTable, ber_octets, ber_read,
-    ber_read_within, der_read, is_whole,
+    MOST_VALUE_OCTETS, Read, ReadFault, RowRefusal, TextKind, TypeId, TypeRow, TypeTable,
+    ber_octets, ber_read, ber_read_within, der_read, is_whole,
 };
 use osi_base::{Kind, Octets};
 use std::alloc::Global;
@@ -456,7 +456,7 @@ fn is_rewritten(
     written: &[u8],
 ) -> bool {
     assert!(rt; table.has(TypeId(of)));
-    match ber_read_within(alloc, table, TypeId(of), octets, LIMIT) {
+    match ber_read_within(alloc, table, TypeId(of), octets, MOST_VALUE_OCTETS) {
         Ok(read) => is_written(rt, alloc, table, of, read, written),
         Err(_) => written.is_empty(),
     }
@@ -465,7 +465,7 @@ fn is_rewritten(
 /// Whether a row's octets are read in BER and in DER as it says, and its value is written so.
 fn is_so(rt: &impl Abort, alloc: Global, table: &TypeTable, row: &Sample) -> bool {
     let (of, octets, ber, der, written) = row;
-    used_within(rt, alloc, table, *of, octets, LIMIT) == reading(*ber)
+    used_within(rt, alloc, table, *of, octets, MOST_VALUE_OCTETS) == reading(*ber)
         && der_used(rt, alloc, table, *of, octets) == reading(*der)
         && is_rewritten(rt, alloc, table, *of, octets, written)
 }

@@ -13,7 +13,7 @@ use Rattle.linked_ops.specs.Entries.{is_open, is_open_or_none, parent_of, childr
 use Rattle.linked_ops.specs.Rows.{Row, has_key, has_number, has_place, found, first_gone, number_of, key_with, place_with, opening_with, above_in, entries, node_of, node_at, same_place, with_one_number, with_one_key, IsBelow, AreRows}
 use Rattle.linked_ops.specs.Numbers.{number_in}
 use Rattle.linked_ops.specs.Links.{Nodes, first_child_at, first_child_of, linked_in, unlinked_in}
-use Rattle.linked_ops.specs.Along.{keys_along, roots_told}
+use Rattle.linked_ops.specs.KeysAlong.{keys_along, roots_keys}
 use Rattle.linked_ops.specs.Kept.{IsKept, IsSame, IsEntered, AreGone, IsUnder}
 use Rattle.linked_ops.proofs.Behind.{opened, closed_forest}
 use Rattle.linked_ops.proofs.Places.{cases, taken, left_out}
@@ -223,9 +223,9 @@ module _ (rows : List Row) (nodes : Slab Node) (numbers : Numbers) (made : ℕ) 
           ∙ ap (λ (o : Option Row). keys_along wanted left (first_child_at (option_map (node_of rows) o))) (own_place rows apart.places apart.numbers (has_number n) y.0 y.2)
           ∙ children_along rows apart.places apart.numbers apart.keys key y.0 y.1 left l
 
-  pub trees_are : (told : List Key) → told ≡ roots_told (get nodes) rows (length rows) (values_of rows) → told ≡ post_order_of (entries rows)
+  pub trees_are : (told : List Key) → told ≡ roots_keys (get nodes) rows (length rows) (values_of rows) → told ≡ post_order_of (entries rows)
   trees_are told e =
-      e ∙ ap (λ (f : Nodes). roots_told f rows (length rows) (values_of rows)) nodes_are
+      e ∙ ap (λ (f : Nodes). roots_keys f rows (length rows) (values_of rows)) nodes_are
       ∙ roots rows apart.places apart.numbers apart.keys kept.forest rows [] (length rows) refl (omega arith)
 
   pub above_open : (above : Option Key) (u : Option ℕ) → IsUnder numbers above u → is_open_or_none above (entries rows) ≡ true

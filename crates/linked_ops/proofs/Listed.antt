@@ -16,7 +16,7 @@ use Rattle.linked_ops.specs.Keys.{same_key, is_under}
 use Rattle.linked_ops.specs.Entries.{Entry, is_open, parent_of, children_of, orphaned, without, closed}
 use Rattle.linked_ops.specs.Rows.{Row, same_number, is_number, has_key, has_number, has_place, is_child, found, first_gone, number_of, key_with, opening_with, above_in, entries_among, entries, places_under, siblings, first_of, behind, node_of, node_at, AreApart, same_place, with_one_number, with_one_key, IsBelow, AreBelow}
 use Rattle.linked_ops.specs.Links.{Nodes}
-use Rattle.linked_ops.specs.Along.{keys_along, next_of, told}
+use Rattle.linked_ops.specs.KeysAlong.{keys_along, next_of, key_before}
 use Rattle.linked_ops.proofs.Places.{cases, clash, not_true, both_ways, turned, nat_is, nats_are, or_now, or_true, taken, left_out, has, AreOnce, behind_split}
 use Rattle.linked_ops.proofs.Found.{numbers_are, numbers_turned, keys_are, key_is, keys_turned, or_row, some_is, no_some, found_snoc, passes, own, none_passes, found_gone, found_kept, found_none, number_itself, number_either, key_itself, key_either, under_once, under_is, under_none}
 
@@ -157,7 +157,7 @@ module _ (rows : List Row) (places : AreApart same_place rows) (numbers : AreApa
 
     abbrev told_all : List ℕ → List Key
     told_all [] = []
-    told_all (p ∷ ps) = told (g p) (told_all ps)
+    told_all (p ∷ ps) = key_before (g p) (told_all ps)
 
     child_at : (b : ℕ) → has b K ≡ true → (e : Row) × (found (has_place b) rows ≡ Some e) × (siblings e.1.parent rows ≡ K) × (e.1.place ≡ b)
     child_at b h = by_found (found (has_place b) rows) refl
@@ -184,7 +184,7 @@ module _ (rows : List Row) (places : AreApart same_place rows) (numbers : AreApa
         let n : next_of (g b) ≡ first_of bs =
         ap (λ (r : Option Row). next_of (option_map (node_of rows) r)) c.1 ∙ (λ i. behind (c.3 i) (c.2 i)) ∙ ap (behind b) e ∙ behind_split b front bs o in
         let a : K ≡ (front ++ b ∷ []) ++ bs = e ∙ sym (append_assoc front (b ∷ []) bs) in
-        ap (told (g b)) (ap (keys_along g left) n ∙ along left (front ++ b ∷ []) bs a (omega arith))
+        ap (key_before (g b)) (ap (keys_along g left) n ∙ along left (front ++ b ∷ []) bs a (omega arith))
 
     pub under_key : (u : Option ℕ) → is_under k (key_with u rows) ≡ is_number y.0 u
     under_key None = refl
@@ -225,7 +225,7 @@ module _ (rows : List Row) (places : AreApart same_place rows) (numbers : AreApa
         by_test : (b : Bool) → is_child y.0 r ≡ b → told_all (places_under y.0 rs) ≡ children_of k (entries_among rows rs) → told_all (cond (is_child y.0 r) (r.1.place ∷ places_under y.0 rs) (places_under y.0 rs)) ≡ cond (is_under k (key_with r.1.parent rows)) (r.1.key ∷ children_of k (entries_among rows rs)) (children_of k (entries_among rows rs))
         by_test true t more =
             ap told_all (taken (is_child y.0 r) (r.1.place ∷ places_under y.0 rs) (places_under y.0 rs) t)
-            ∙ ap (λ (o : Option Row). told (option_map (node_of rows) o) (told_all (places_under y.0 rs))) a.0 ∙ ap (λ ks. r.1.key ∷ ks) more
+            ∙ ap (λ (o : Option Row). key_before (option_map (node_of rows) o) (told_all (places_under y.0 rs))) a.0 ∙ ap (λ ks. r.1.key ∷ ks) more
             ∙ sym (taken (is_under k (key_with r.1.parent rows)) _ _ (under_key r.1.parent ∙ t))
         by_test false t more =
             ap told_all (left_out (is_child y.0 r) (r.1.place ∷ places_under y.0 rs) (places_under y.0 rs) t) ∙ more

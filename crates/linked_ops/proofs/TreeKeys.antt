@@ -10,7 +10,7 @@ use Rattle.linked_ops.specs.Keys.{is_under}
 use Rattle.linked_ops.specs.Entries.{Entry, is_open, is_open_or_none, under, is_root, post_order_of, AreBehind}
 use Rattle.linked_ops.specs.Rows.{Row, is_number, has_key, has_number, has_place, is_child, found, key_with, entries_among, entries, places_under, siblings, first_of, behind, node_of, node_at, AreApart, same_place, with_one_number, with_one_key}
 use Rattle.linked_ops.specs.Links.{Nodes, first_child_at, first_child_of}
-use Rattle.linked_ops.specs.Along.{reached, next_of, tree_told, trees_along, roots_told}
+use Rattle.linked_ops.specs.KeysAlong.{reached, next_of, tree_before, trees_along, roots_keys}
 use Rattle.linked_ops.proofs.Behind.{open-append}
 use Rattle.linked_ops.proofs.Places.{cases, clash, not_true, taken, left_out, or_parts, AreOnce, behind_split}
 use Rattle.linked_ops.proofs.Found.{numbers_are, place_itself, place_either, number_itself, number_either, key_itself, key_either, under_once}
@@ -47,7 +47,7 @@ tree_is : (nodes : Nodes) (left : ℕ) (at : Option ℕ) (node : Node) → 0 < l
 unfolding trees_along
 tree_is nodes zero at node l e = absurd (omega arith)
 tree_is nodes (suc less) at node l e =
-    ap (λ (o : Option Node). tree_told o (trees_along nodes less (first_child_at o)) (trees_along nodes less (next_of o))) e
+    ap (λ (o : Option Node). tree_before o (trees_along nodes less (first_child_at o)) (trees_along nodes less (next_of o))) e
     ∙ λ i. trees_along nodes (same i) node.first_child ++ (node.key ∷ trees_along nodes (same i) node.next)
   where
     same : less ≡ suc less - 1
@@ -124,7 +124,7 @@ module _ (rows : List Row) (places : AreApart same_place rows) (numbers : AreApa
   at_node : (left p : ℕ) (r : Row) → found (has_place p) rows ≡ Some r → trees_along g (suc left) (Some p) ≡ trees_along g left (first_of (places_under r.0 rows)) ++ (r.1.key ∷ trees_along g left (behind r.1.place (siblings r.1.parent rows)))
   unfolding trees_along
   at_node left p r f =
-      ap (λ (o : Option Row). tree_told (option_map (node_of rows) o) (trees_along g left (first_child_at (option_map (node_of rows) o))) (trees_along g left (next_of (option_map (node_of rows) o)))) f
+      ap (λ (o : Option Row). tree_before (option_map (node_of rows) o) (trees_along g left (first_child_at (option_map (node_of rows) o))) (trees_along g left (next_of (option_map (node_of rows) o)))) f
 
   -- the keys under a row, of whose children these are left
   abbrev IsTree : List Row → Row → Type 0
@@ -155,7 +155,7 @@ module _ (rows : List Row) (places : AreApart same_place rows) (numbers : AreApa
       (λ t. child front r rs y e f t (tree rs (front ++ r ∷ []) r (longer front r rs e) (by_key front r rs e)) (tree rs (front ++ r ∷ []) y (longer front r rs e) f) left l)
       (λ t. other r rs y f t (tree rs (front ++ r ∷ []) y (longer front r rs e) f) left l)
 
-  pub roots : (rest front : List Row) (left : ℕ) → rows ≡ front ++ rest → length rows ≤ left → roots_told g rows left (values_of rest) ≡ post_order_of (E rest)
+  pub roots : (rest front : List Row) (left : ℕ) → rows ≡ front ++ rest → length rows ≤ left → roots_keys g rows left (values_of rest) ≡ post_order_of (E rest)
   roots [] front left e l = refl
   roots (r ∷ rs) front left e l = by_test (is_root (key_with r.1.parent rows)) (roots rs (front ++ r ∷ []) left (longer front r rs e) l)
     where
@@ -172,7 +172,7 @@ module _ (rows : List Row) (places : AreApart same_place rows) (numbers : AreApa
           ∙ ap (λ ps. trees_along g left (first_of ps)) (children_behind front r rs e)
           ∙ tree rs (front ++ r ∷ []) r (longer front r rs e) (by_key front r rs e) left enough
 
-      by_test : (b : Bool) → roots_told g rows left (values_of rs) ≡ post_order_of (E rs) → cond b (trees_along g left (first_child_of g (Some r.1.place)) ++ (r.1.key ∷ [])) [] ++ roots_told g rows left (values_of rs) ≡ cond b (under r.1.key (E rs) ++ (r.1.key ∷ post_order_of (E rs))) (post_order_of (E rs))
+      by_test : (b : Bool) → roots_keys g rows left (values_of rs) ≡ post_order_of (E rs) → cond b (trees_along g left (first_child_of g (Some r.1.place)) ++ (r.1.key ∷ [])) [] ++ roots_keys g rows left (values_of rs) ≡ cond b (under r.1.key (E rs) ++ (r.1.key ∷ post_order_of (E rs))) (post_order_of (E rs))
       by_test true more =
           (λ i. (its_tree i ++ (r.1.key ∷ [])) ++ more i) ∙ append_assoc (under r.1.key (E rs)) (r.1.key ∷ []) (post_order_of (E rs))
       by_test false more = more

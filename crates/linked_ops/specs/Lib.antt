@@ -6,4 +6,4 @@ pub mod Rows
 pub mod Numbers
 pub mod Links
 pub mod Kept
-pub mod Along
+pub mod KeysAlong

@@ -3,7 +3,7 @@
 ghost use Rattle.std.specs.Prelude.{◌≡◌};
 ghost use Rattle.std.specs.Iterator.{YieldsFirst, item_count};
 ghost use Rattle.slab.specs.Slab.{get};
-ghost use Rattle.linked_ops.specs.Along.{keys_along};
+ghost use Rattle.linked_ops.specs.KeysAlong.{keys_along};
 
 use crate::key::Key;
 use crate::links::node_at;

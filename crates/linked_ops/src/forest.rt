@@ -3,7 +3,7 @@
 ghost use Rattle.std.specs.Prelude.{◌≡◌, [], IfOk, ℕ};
 ghost use Rattle.linked_ops.specs.Entries.{is_open, parent_of, children_of, closed, post_order_of, IsForest};
 ghost use Rattle.linked_ops.specs.Opening.{IsOpened};
-ghost use Rattle.linked_ops.specs.Along.{children_left};
+ghost use Rattle.linked_ops.specs.KeysAlong.{children_left};
 
 use crate::children::Children;
 use crate::key::{ForestRefusal, Key};

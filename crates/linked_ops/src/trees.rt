@@ -3,7 +3,7 @@
 ghost use Rattle.std.specs.Prelude.{◌≡◌, ◌++◌, IfOk, OnOk, length};
 ghost use Rattle.std.specs.Map.{values_of};
 ghost use Rattle.slab.specs.Slab.{get};
-ghost use Rattle.linked_ops.specs.Along.{reached, trees_along, root_told, roots_told};
+ghost use Rattle.linked_ops.specs.KeysAlong.{reached, trees_along, root_keys, roots_keys};
 
 use crate::key::Key;
 use crate::links::{first_child, node_at};
@@ -25,7 +25,7 @@ fn reached(nodes: &Slab<Node>, at: Option<usize>) -> Option<Node>
 
 /// Tells the key of the node at a place and those of what follows it, each behind those under it,
 /// at most so many in a row.
-#[tactic(auto, unfolding(crate::specs::Along::trees_along))]
+#[tactic(auto, unfolding(crate::specs::KeysAlong::trees_along))]
 fn tell_along(
     nodes: &Slab<Node>,
     at: Option<usize>,
@@ -55,7 +55,7 @@ fn tell_root(
     opening: &Opening,
     told: &mut Vec<Key>,
 ) -> Result<(), NoMemory>
-    ensures { OnOk result (told.new.items ≡ told.old.items ++ root_told (get nodes.now)
+    ensures { OnOk result (told.new.items ≡ told.old.items ++ root_keys (get nodes.now)
         openings.now.entries (length openings.now.entries) opening.now) }
 {
     if key_with(openings, opening.parent).is_some() {
@@ -74,7 +74,7 @@ pub(crate) fn all_keys(
     nodes: &Slab<Node>,
     openings: &Openings,
 ) -> Result<Vec<Key>, NoMemory>
-    ensures { IfOk result (λ keys. keys.items ≡ roots_told (get nodes.now) openings.now.entries
+    ensures { IfOk result (λ keys. keys.items ≡ roots_keys (get nodes.now) openings.now.entries
         (length openings.now.entries) (values_of openings.now.entries)) }
 {
     let mut told = Vec::new(alloc);

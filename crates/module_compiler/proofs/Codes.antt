@@ -16,7 +16,7 @@ use Rattle.module_faults.specs.declared.least.Found.{Found}
 use Rattle.module_faults.specs.Least.{fault, if_so}
 use Rattle.module_faults.specs.Met.{has_list, with_list, has_number, with_number, Codes, has_by, has_code, with_by, with_code, no_codes}
 use Rattle.module_faults.specs.Locals.{own_code, code_faults, and_code, double_codes}
-use Rattle.module_compiler.specs.Tabling.{code_by}
+use Rattle.module_compiler.specs.ModuleTables.{code_by}
 use Rattle.module_compiler.proofs.OwnCodes.{any_end, either_false}
 use Rattle.module_compiler.proofs.Rows.{nothing_first, nothing_behind}
 

@@ -5,7 +5,7 @@ use Rattle.notation_tokens.specs.declared.token.Located.{Located}
 use Rattle.operation_notation.specs.declared.module.Assignment.{Assignment}
 use Rattle.operation_notation.specs.declared.module.Body.{Body}
 use Rattle.module_faults.specs.Names.{or_none}
-use Rattle.module_compiler.specs.Tabling.{number_by, numbers_of}
+use Rattle.module_compiler.specs.ModuleTables.{number_by, numbers_of}
 
 pub slot_of : {X : Type 0} (xs : List X) (i : ℕ) (x : X) → i < length xs → x ≡ get_or xs i x → slice_get xs i ≡ Some x
 slot_of [] i x lt e = absurd (omega arith)

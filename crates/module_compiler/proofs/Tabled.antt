@@ -41,7 +41,7 @@ use Rattle.module_compiler.specs.Refusals.{HasNoFault}
 use Rattle.module_compiler.specs.Tables.{AreTablesOf}
 use Rattle.module_compiler.specs.Scope.{Ground, numbered, own_numbers}
 use Rattle.module_compiler.specs.Numbering.{Numbered, after, give, type_row, use_of}
-use Rattle.module_compiler.specs.Tabling.{sort_test, number_if, number_by, code_by, code_of, numbers_of, operation_of, error_of, with_operation, with_error, body_of, assignment_of, walk_all, start, whole, whole_of}
+use Rattle.module_compiler.specs.ModuleTables.{sort_test, number_if, number_by, code_by, code_of, numbers_of, operation_of, error_of, with_operation, with_error, body_of, assignment_of, walk_all, start, whole, whole_of}
 use Rattle.module_compiler.proofs.Faultless.{IsFine, AreFine}
 use Rattle.module_compiler.proofs.Codes.{Coded, no_more, passed, coded, coded_few, own_rows}
 use Rattle.module_compiler.proofs.Parts.{no_fault_if}

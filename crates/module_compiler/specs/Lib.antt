@@ -2,7 +2,7 @@ pub mod Printed
 pub mod Scope
 pub mod Kept
 pub mod Numbering
-pub mod Tabling
+pub mod ModuleTables
 pub mod Tables
 pub mod Refusals
 pub mod Laws

@@ -2,7 +2,7 @@
 use Rattle.std.specs.Prelude.{◌≡◌, Some}
 use Rattle.operation_notation.specs.declared.module.ModuleText.{ModuleText}
 use Rattle.stub_tables.specs.declared.tables.Tables.{Tables}
-use Rattle.module_compiler.specs.Tabling.{ground_of, whole_of}
+use Rattle.module_compiler.specs.ModuleTables.{ground_of, whole_of}
 use Rattle.module_compiler.specs.Refusals.{HasNoFault}
 
 -- A module that has no fault has these tables: its name, its object identifier, and the rows, operations and errors of its assignments.

@@ -5,7 +5,7 @@ ghost use Rattle.std.specs.Prelude.{◌≡◌, ◌+◌, ℕ, List, [], Option, S
 ghost use Rattle.std.specs.Option.{option_copied};
 ghost use Rattle.module_compiler.specs.Scope.{own_numbers};
 ghost use Rattle.module_compiler.specs.Numbering.{Gives};
-ghost use Rattle.module_compiler.specs.Tabling.{GivesMade, sort_test, number_by, numbers_of, code_of, operation_of, error_of, assignment_of, walk_all, whole_of};
+ghost use Rattle.module_compiler.specs.ModuleTables.{GivesMade, sort_test, number_by, numbers_of, code_of, operation_of, error_of, assignment_of, walk_all, whole_of};
 
 use crate::fault::Halt;
 use crate::numbering::Numbering;
@@ -82,7 +82,7 @@ fn numbers(alloc: Global, assignments: &[Assignment]) -> Result<Vec<u32>, Halt>
 }
 
 /// The number of the operation, or of the error, of a name.
-#[tactic(auto, unfolding(crate::specs::Tabling::number_by))]
+#[tactic(auto, unfolding(crate::specs::ModuleTables::number_by))]
 fn number_of(scope: &Scope<'_>, numbers: &[u32], sort: Sort, name: &Located) -> Result<u32, Halt>
     requires { numbers.now ≡ own_numbers 0 0 scope.now.assignments }
     ensures { IfOk result (λ n. number_by (sort_test sort) scope.now.assignments name.now.text
@@ -101,7 +101,7 @@ fn number_of(scope: &Scope<'_>, numbers: &[u32], sort: Sort, name: &Located) -> 
 }
 
 /// Names as numbers.
-#[tactic(auto, unfolding(crate::specs::Tabling::numbers_of))]
+#[tactic(auto, unfolding(crate::specs::ModuleTables::numbers_of))]
 fn numbers_of(
     alloc: Global,
     scope: &Scope<'_>,
@@ -135,7 +135,7 @@ fn code_of(alloc: Global, text: &Option<CodeText>) -> Result<Code, Halt>
 }
 
 /// The row of an operation.
-#[tactic(auto, unfolding(crate::specs::Tabling::operation_of))]
+#[tactic(auto, unfolding(crate::specs::ModuleTables::operation_of))]
 fn operation_row(
     alloc: Global,
     scope: &Scope<'_>,
@@ -171,7 +171,7 @@ fn operation_row(
 }
 
 /// The row of an error.
-#[tactic(auto, unfolding(crate::specs::Tabling::error_of))]
+#[tactic(auto, unfolding(crate::specs::ModuleTables::error_of))]
 fn error_row(
     alloc: Global,
     scope: &Scope<'_>,
@@ -191,7 +191,7 @@ fn error_row(
 }
 
 /// One assignment at its place.
-#[tactic(auto, unfolding(crate::specs::Tabling::assignment_of))]
+#[tactic(auto, unfolding(crate::specs::ModuleTables::assignment_of))]
 fn assign(
     alloc: Global,
     scope: &Scope<'_>,
@@ -222,7 +222,7 @@ fn assign(
 }
 
 /// The assignments of a module, one after the other.
-#[tactic(auto, unfolding(crate::specs::Tabling::walk_all))]
+#[tactic(auto, unfolding(crate::specs::ModuleTables::walk_all))]
 fn assign_all(
     alloc: Global,
     scope: &Scope<'_>,
@@ -248,7 +248,7 @@ fn assign_all(
 }
 
 /// The rows, the operations and the errors of a module.
-#[tactic(auto, unfolding(crate::specs::Tabling::whole_of))]
+#[tactic(auto, unfolding(crate::specs::ModuleTables::whole_of))]
 pub(crate) fn tabled(alloc: Global, scope: &Scope<'_>) -> Result<Whole, Halt>
     ensures { IfOk result (λ whole. whole_of scope.now ≡ Some whole) }
 {

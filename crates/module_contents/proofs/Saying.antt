@@ -17,7 +17,7 @@ use Rattle.end_wire.specs.apdu_codec.declared.fault.HeadFault.TheVariants as fau
 use Rattle.end_wire.specs.apdu_codec.Refusals.{refusal_of}
 use Rattle.end_wire.specs.apdu_codec.HeadsRead.{HasFields, HasNone, IsRefused}
 use Rattle.end_rules.specs.Base.{Carried, Absent, Spelled, Unspelled, ResultHead}
-use Rattle.end_wire.specs.Heads.{carried_at, value_or_lack, said, said_or_refused, refused, head_at, apdu_of}
+use Rattle.end_wire.specs.Heads.{carried_at, value_or_lack, heard_head, heard_or_refused, refused, head_at, apdu_of}
 use Rattle.end_wire.proofs.HeadLaws.{head_read, no_head}
 use Rattle.module_contents.specs.Said.{room_in, value_needed, apdu_by, returned_by}
 
@@ -35,7 +35,7 @@ module _ (tables : Tables) (s : Syntax) where
   of_result id code (Spelled v) = refl
   of_result id code Unspelled = refl
 
-  said_by : (h : heads.Head) → apdu_by tables s (fields_in s h) (fields_in s h).kind ≡ apdu_of tables (said tables s h)
+  said_by : (h : heads.Head) → apdu_by tables s (fields_in s h) (fields_in s h).kind ≡ apdu_of tables (heard_head tables s h)
   said_by (heads.invoke id linked code os) =
       let used : Option Use = option_map argument_of (operation_coded tables code) in
       ap (λ (c : Carried). option_map (λ (v : Option Val). apdus.Invoke id linked code v) (value_or_lack used c)) (carried_same (heads.invoke id linked code os) used os)
@@ -53,7 +53,7 @@ module _ (tables : Tables) (s : Syntax) where
   unfolding head_at
   head_says text fields p =
       ap (λ (f : ApduHead). apdu_by tables s f f.kind) p.are ∙ said_by p.head
-      ∙ ap (apdu_of tables) (sym (ap (said_or_refused tables s text) (head_read s text p.head p.spells)))
+      ∙ ap (apdu_of tables) (sym (ap (heard_or_refused tables s text) (head_read s text p.head p.spells)))
 
   none_refused : (f : HeadFault) → None ≡ apdu_of tables (refused f)
   none_refused (fault.General number) = refl
@@ -63,7 +63,7 @@ module _ (tables : Tables) (s : Syntax) where
   no_says : (text : List ℕ) → AreOctets text → HasNone s text → None ≡ apdu_of tables (head_at tables s text)
   unfolding head_at
   no_says text are none =
-      none_refused (refusal_of s text) ∙ ap (apdu_of tables) (sym (ap (said_or_refused tables s text) (no_head s text are none)))
+      none_refused (refusal_of s text) ∙ ap (apdu_of tables) (sym (ap (heard_or_refused tables s text) (no_head s text are none)))
 
   pub general_says : (text : List ℕ) (f : HeadFault) (n : ℕ) → f ≡ fault.General n → AreOctets text → IsRefused s text f → None ≡ apdu_of tables (head_at tables s text)
   general_says text f n e are p = let q : IsRefused s text (fault.General n) = subst (λ (x : HeadFault). IsRefused s text x) e p in no_says text are q.0

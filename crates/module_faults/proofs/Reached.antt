@@ -189,13 +189,13 @@ module _ (lists : List (List ℕ)) (standings : List Standing) (count : length s
   sound_by place h =
       let lt : place < length lists = let s : place < length standings = flagged_within standings place h in omega arith in
       let t = told place lt in
-      t.is.are.sound place (sym t.told ∙ h)
+      t.is.are.sound place (sym t.agrees ∙ h)
 
   whole_by : (place : ℕ) → Reaches lists place place → says standings place ≡ true
   whole_by place r =
       let lt : place < length lists = reach_in lists place [] place place r in
       let t = told place lt in
-      t.told ∙ t.is.whole place r lt
+      t.agrees ∙ t.is.whole place r lt
 
   depth_by : (place : ℕ) → ((place < length lists) ⊎ (length lists ≤ place)) → ℕ
   depth_by place (inl lt) = suc (ins (told place lt).reached)
@@ -210,7 +210,7 @@ module _ (lists : List (List ℕ)) (standings : List Standing) (count : length s
       let t = told to less in
       let same : length t.reached ≡ length f.reached = t.is.are.count ∙ sym f.is.are.count in
       let within : (q : ℕ) → is_in t.reached q ≡ true → q < length lists = λ q k. let s : q < length t.reached = in_within t.reached q k in let c : length t.reached ≡ length lists = t.is.are.count in omega arith in
-      let less : ins t.reached < ins f.reached = ins_lt t.reached f.reached same (λ q k. f.is.whole q (over from to q u (t.is.are.sound q k)) (within q k)) to (sym t.told ∙ n) (f.is.whole to (at_once from to u) less) in
+      let less : ins t.reached < ins f.reached = ins_lt t.reached f.reached same (λ q k. f.is.whole q (over from to q u (t.is.are.sound q k)) (within q k)) to (sym t.agrees ∙ n) (f.is.whole to (at_once from to u) less) in
       omega arith
 
   pub told_of_sets : AreTold lists standings
@@ -238,7 +238,7 @@ pub one_told : (lists : List (List ℕ)) (standings : List Standing) (s : Standi
     → ((q : ℕ) → q < place → IsToldBySet lists standings q) → (q : ℕ) → q < place + 1 → IsToldBySet lists (standings ++ s ∷ []) q
 one_told lists standings s reached place e is said before q lt =
     elim (cases_lt q place) as (λ z. IsToldBySet lists (standings ++ s ∷ []) q) [
-      | inl less ↦ let t = before q less in let within : q < length standings = omega arith in record { reached = t.reached; is = t.is; told = said_before standings (s ∷ []) q within ∙ t.told }
+      | inl less ↦ let t = before q less in let within : q < length standings = omega arith in record { reached = t.reached; is = t.is; agrees = said_before standings (s ∷ []) q within ∙ t.agrees }
       | inr le ↦ let same : place ≡ q = omega arith in
-          subst (λ (z : ℕ). IsToldBySet lists (standings ++ s ∷ []) z) same (record { reached = reached; is = is; told = said_last standings s place e ∙ said })
+          subst (λ (z : ℕ). IsToldBySet lists (standings ++ s ∷ []) z) same (record { reached = reached; is = is; agrees = said_last standings s place e ∙ said })
     ]

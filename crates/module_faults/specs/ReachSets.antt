@@ -54,7 +54,7 @@ pub record IsReach (lists : List (List ℕ)) (place : ℕ) (reached : List Bool)
 pub record IsToldBySet (lists : List (List ℕ)) (standings : List Standing) (place : ℕ) : Type 0 where
   pub reached : List Bool
   pub is : IsReach lists place reached
-  pub told : says standings place ≡ is_in reached place
+  pub agrees : says standings place ≡ is_in reached place
 
 -- What is said of which assignments reach themselves is so; and a number of each falls along names, among those that don't.
 pub record AreTold (lists : List (List ℕ)) (standings : List Standing) : Type 0 where

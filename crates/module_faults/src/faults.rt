@@ -7,7 +7,7 @@ ghost use Rattle.module_faults.specs.Faults.{IsLeastFault};
 use crate::assignment_faults::{double_codes, double_names, of_bodies};
 use crate::least::{Found, Least};
 use crate::names::Names;
-use crate::reach_sets::told;
+use crate::reach_sets::recursion_survey;
 use crate::type_faults::{first_recursive, shown_faults};
 use crate::use_lists::all_uses;
 use operation_notation::Assignment;
@@ -24,8 +24,8 @@ use std::alloc::Global;
 /// counted. No other cause stands in the code: only `place_of`, `double_names` and
 /// `first_recursive` refuse by themselves, and their clauses `refused` say that there are so many
 /// assignments then. What the search for types that reach themselves says is checked, and what
-/// doesn't pass is found another way; that either is so is proved (`told`), and that all types are
-/// learned by it (`learn_all`).
+/// doesn't pass is found another way; that either is so is proved (`recursion_survey`), and that
+/// all types are learned by it (`learn_all`).
 pub fn least_fault(alloc: Global, assignments: &[Assignment]) -> Result<Option<Found>, NoMemory>
     ensures { IfOk result (λ found. IsLeastFault assignments.now found) }
 {
@@ -36,7 +36,7 @@ pub fn least_fault(alloc: Global, assignments: &[Assignment]) -> Result<Option<F
     double_codes(alloc, false, assignments, &mut least)?;
     double_codes(alloc, true, assignments, &mut least)?;
     let uses = all_uses(alloc, &names)?;
-    let survey = told(alloc, &uses)?;
+    let survey = recursion_survey(alloc, &uses)?;
     first_recursive(assignments, &survey.standings, &mut least)?;
     shown_faults(alloc, &names, &survey.standings, &survey.order, &mut least)?;
     Ok(least.found)

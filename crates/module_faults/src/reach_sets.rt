@@ -91,7 +91,7 @@ fn reach(alloc: Global, uses: &UseLists, place: usize) -> Result<Vec<bool>, NoMe
 }
 
 /// A standing that says whether an assignment reaches itself, and nothing else.
-fn said(is_recursive: bool) -> Standing
+fn recursion_only(is_recursive: bool) -> Standing
     ensures { result.is_recursive ≡ is_recursive }
 {
     Standing {
@@ -107,20 +107,20 @@ fn said(is_recursive: bool) -> Standing
 }
 
 /// Which assignments reach themselves, by the sets of what each reaches.
-fn told_by_sets(alloc: Global, uses: &UseLists) -> Result<Vec<Standing>, NoMemory>
+fn standings_by_sets(alloc: Global, uses: &UseLists) -> Result<Vec<Standing>, NoMemory>
     ensures { IfOk result (λ standings. AreTold uses.now standings.items) }
 {
     let mut standings = Vec::new(alloc);
     for place in 0..uses.len() {
         let reached = reach(alloc, uses, place)?;
-        standings.push(said(is_in(&reached, place)))?;
+        standings.push(recursion_only(is_in(&reached, place)))?;
     }
     Ok(standings)
 }
 
 /// Which assignments reach themselves: by the search, and if not all that it says were so, by the
 /// sets.
-pub(crate) fn told(alloc: Global, uses: &UseLists) -> Result<Survey, NoMemory>
+pub(crate) fn recursion_survey(alloc: Global, uses: &UseLists) -> Result<Survey, NoMemory>
     ensures { IfOk result (λ survey. AreTold uses.now survey.standings.items) }
 {
     let survey = surveyed(alloc, uses)?;
@@ -129,6 +129,6 @@ pub(crate) fn told(alloc: Global, uses: &UseLists) -> Result<Survey, NoMemory>
     }
     Ok(Survey {
         order: survey.order,
-        standings: told_by_sets(alloc, uses)?,
+        standings: standings_by_sets(alloc, uses)?,
     })
 }

@@ -23,7 +23,7 @@ use Rattle.rose_roles.specs.end_wire.Bare.{bare_base}
 use Rattle.rose_roles.specs.declared.invoked_with.InvokedWith.{InvokedWith}
 use Rattle.rose_roles.specs.declared.apdu_taken.RoseTaken as takens
 use Rattle.rose_roles.specs.declared.apdu_taken.RoseTaken.TheVariants as taken
-use Rattle.rose_roles.specs.Calls.{Kept, Invoking, Performing, called, side, key_of, operation_or_none, context_or_none, open_call, AreOpen, opens_in, calls_of}
+use Rattle.rose_roles.specs.Calls.{Kept, Invoking, Performing, called, side, key_of, operation_or_none, context_or_none, open_call, AreOpen, open_calls_in, calls_of}
 use Rattle.rose_roles.specs.Heads.{said_by}
 use Rattle.rose_roles.specs.Hearing.{Hears, heard_with}
 use Rattle.rose_roles.proofs.Keys.{bool_cases, ids_are, keys_are, or_rest}
@@ -48,21 +48,21 @@ operation_matches (Some o) None m = absurd m
 none_is : {X : Type 0} (o : Option X) → o ≡ None → is_some o ≡ false
 none_is o e = ap is_some e
 
-pub not_open : (own : Bool) (id : ℤ) (es : List Entry) (i p : Kept) → opened_with own id (opens_in es i p) ≡ None → is_open (key_of own id) es ≡ false
+pub not_open : (own : Bool) (id : ℤ) (es : List Entry) (i p : Kept) → opened_with own id (open_calls_in es i p) ≡ None → is_open (key_of own id) es ≡ false
 not_open own id es i p e =
     bool_cases (is_open (key_of own id) es)
     (λ t. let f = found i p own id es t in let x : Some f.0 ≡ None = sym f.1 ∙ e in absurd cc)
     (λ f. f)
 
-pub link_is : (linked : Option ℤ) (es : List Entry) (i p : Kept) → AreOpen false es p → is_link linked (opens_in es i p) ≡ true → is_open_or_none (option_map (key_of false) linked) es ≡ true
+pub link_is : (linked : Option ℤ) (es : List Entry) (i p : Kept) → AreOpen false es p → is_link linked (open_calls_in es i p) ≡ true → is_open_or_none (option_map (key_of false) linked) es ≡ true
 link_is None es i p h e = refl
 link_is (Some id) es i p h e =
-    h.each id ∙ some_matches (opened_with false id (opens_in es i p)) (called id p) (matching false id es i p h) ∙ e
+    h.each id ∙ some_matches (opened_with false id (open_calls_in es i p)) (called id p) (matching false id es i p h) ∙ e
 
 -- the operation that is called is that of the open invocation
-pub operation_called : (own : Bool) (id : ℤ) (es : List Entry) (i : Invoking) (p : Kept) → AreKept es i p → option_map (λ (x : InvokedWith). x.operation) (called id (side own i.kept p)) ≡ operation_in (opened_with own id (opens_in es i.kept p))
-operation_called true id es i p h = operation_matches (opened_with true id (opens_in es i.kept p)) (called id i.kept) (matching true id es i.kept p h.own)
-operation_called false id es i p h = operation_matches (opened_with false id (opens_in es i.kept p)) (called id p) (matching false id es i.kept p h.peer)
+pub operation_called : (own : Bool) (id : ℤ) (es : List Entry) (i : Invoking) (p : Kept) → AreKept es i p → option_map (λ (x : InvokedWith). x.operation) (called id (side own i.kept p)) ≡ operation_in (opened_with own id (open_calls_in es i.kept p))
+operation_called true id es i p h = operation_matches (opened_with true id (open_calls_in es i.kept p)) (called id i.kept) (matching true id es i.kept p h.own)
+operation_called false id es i p h = operation_matches (opened_with false id (open_calls_in es i.kept p)) (called id p) (matching false id es i.kept p h.peer)
 
 pub some_in : (o : Option OpenCall) (r : Option ℕ) → r ≡ operation_in o → is_some r ≡ is_some o
 some_in None r e = ap is_some e
@@ -88,37 +88,37 @@ module _ (i p : Kept) (b : Bool) (id : ℤ) where
   first_called e None h = tt
   first_called e (Some c) h = ap (λ (x : Option InvokedWith). Some (record { operation = operation_or_none x; context = context_or_none x })) h
 
-  called_there : (es : List Entry) → is_open (key_of b id) es ≡ true → (c : Option InvokedWith) → called id (side b i p) ≡ c → CalledSo (opened_with b id (opens_in es i p)) c
+  called_there : (es : List Entry) → is_open (key_of b id) es ≡ true → (c : Option InvokedWith) → called id (side b i p) ≡ c → CalledSo (opened_with b id (open_calls_in es i p)) c
   called_there [] h c is = absurd cc
   called_there (e ∷ es) h c is =
       bool_cases (same_key e.0 (key_of b id))
       (λ t.
       let same : called e.0.id (side e.0.own i p) ≡ c = ap (λ (z : Key). called z.id (side z.own i p)) (keys_are e.0 (key_of b id) t) ∙ is in
-      subst (λ (o : Option OpenCall). CalledSo o c) (sym (ap (λ (x : Bool). cond x (Some (open_call i p e)) (opened_with b id (opens_in es i p))) (key_test e ∙ t))) (first_called e c same))
+      subst (λ (o : Option OpenCall). CalledSo o c) (sym (ap (λ (x : Bool). cond x (Some (open_call i p e)) (opened_with b id (open_calls_in es i p))) (key_test e ∙ t))) (first_called e c same))
       (λ f.
-      subst (λ (o : Option OpenCall). CalledSo o c) (sym (ap (λ (x : Bool). cond x (Some (open_call i p e)) (opened_with b id (opens_in es i p))) (key_test e ∙ f)))
+      subst (λ (o : Option OpenCall). CalledSo o c) (sym (ap (λ (x : Bool). cond x (Some (open_call i p e)) (opened_with b id (open_calls_in es i p))) (key_test e ∙ f)))
       (called_there es (sym (or_rest (same_key e.0 (key_of b id)) _ f) ∙ h) c is))
 
-pub called_so : (own : Bool) (id : ℤ) (es : List Entry) (i : Invoking) (p : Kept) → AreKept es i p → called id (side own i.kept p) ≡ called_in (opened_with own id (opens_in es i.kept p))
-called_so own id es i p h = by own (opened_with own id (opens_in es i.kept p)) (called id (side own i.kept p)) refl refl (each own)
+pub called_so : (own : Bool) (id : ℤ) (es : List Entry) (i : Invoking) (p : Kept) → AreKept es i p → called id (side own i.kept p) ≡ called_in (opened_with own id (open_calls_in es i.kept p))
+called_so own id es i p h = by own (opened_with own id (open_calls_in es i.kept p)) (called id (side own i.kept p)) refl refl (each own)
   where
     each : (b : Bool) → is_open (key_of b id) es ≡ is_some (called id (side b i.kept p))
     each true = h.own.each id
     each false = h.peer.each id
 
-    by : (b : Bool) (o : Option OpenCall) (c : Option InvokedWith) → opened_with b id (opens_in es i.kept p) ≡ o → called id (side b i.kept p) ≡ c → is_open (key_of b id) es ≡ is_some (called id (side b i.kept p)) → c ≡ called_in o
+    by : (b : Bool) (o : Option OpenCall) (c : Option InvokedWith) → opened_with b id (open_calls_in es i.kept p) ≡ o → called id (side b i.kept p) ≡ c → is_open (key_of b id) es ≡ is_some (called id (side b i.kept p)) → c ≡ called_in o
     by b o (Some c) f g e = sym (subst (λ (x : Option OpenCall). CalledSo i.kept p b id x (Some c)) f (called_there i.kept p b id es (e ∙ ap is_some g) (Some c) g))
     by b None None f g e = refl
     by b (Some o) None f g e = let n = not_found i.kept p b id es (e ∙ ap is_some g) in let x : Some o ≡ None = sym f ∙ n in absurd cc
 
 -- an identifier of the peer that isn't open isn't called
-pub shut_is : (id : ℤ) (es : List Entry) (i : Invoking) (p : Kept) → AreKept es i p → opened_with false id (opens_in es i.kept p) ≡ None → called id p ≡ None
+pub shut_is : (id : ℤ) (es : List Entry) (i : Invoking) (p : Kept) → AreKept es i p → opened_with false id (open_calls_in es i.kept p) ≡ None → called id p ≡ None
 shut_is id es i p h e = called_so false id es i p h ∙ ap called_in e
 
-pub link_back_is : (linked : Option ℤ) (es : List Entry) (i p : Kept) → AreOpen true es i → is_link_back linked (opens_in es i p) ≡ true → is_open_or_none (option_map (key_of true) linked) es ≡ true
+pub link_back_is : (linked : Option ℤ) (es : List Entry) (i p : Kept) → AreOpen true es i → is_link_back linked (open_calls_in es i p) ≡ true → is_open_or_none (option_map (key_of true) linked) es ≡ true
 link_back_is None es i p h e = refl
 link_back_is (Some id) es i p h e =
-    h.each id ∙ some_matches (opened_with true id (opens_in es i p)) (called id i) (matching true id es i p h) ∙ e
+    h.each id ∙ some_matches (opened_with true id (open_calls_in es i p)) (called id i) (matching true id es i p h) ∙ e
 
 -- ---- an identifier that isn't open stays so
 
@@ -267,7 +267,7 @@ quiet_kept es fs i j p q h own peer s = record {
 
 -- the next own invocation was opened
 pub opened_kept : (es fs : List Entry) (i j : Invoking) (p : Kept) (operation context : ℕ) (linked : Option ℤ) → AreKept es i p → i.made < 2147483647 → AreOpen true fs j.kept → AreOpen false fs p
-    → calls_of fs j p ≡ record { opens = opens_in es i.kept p ++ record { own = true; id = pos (i.made + 1); operation = operation; context = context; parent = linked } ∷ []; made = i.made + 1 } → AreKept fs j p
+    → calls_of fs j p ≡ record { opens = open_calls_in es i.kept p ++ record { own = true; id = pos (i.made + 1); operation = operation; context = context; parent = linked } ∷ []; made = i.made + 1 } → AreKept fs j p
 opened_kept es fs i j p operation context linked h few own peer e =
     let made : j.made ≡ i.made + 1 = ap (λ (c : Calls). c.made) e in
     record {
@@ -275,10 +275,10 @@ opened_kept es fs i j p operation context linked h few own peer e =
       peer = peer;
       fresh = λ n less.
           let more : i.made + 1 < n = subst (λ (m : ℕ). m < n) made less in
-          let old : opened_with true (pos n) (opens_in es i.kept p) ≡ None = h.fresh n (omega arith) in
+          let old : opened_with true (pos n) (open_calls_in es i.kept p) ≡ None = h.fresh n (omega arith) in
           let other : int_eq (pos (i.made + 1)) (pos n) ≡ false = apart_numbers (i.made + 1) n more in
           ap (λ (c : Calls). opened_with true (pos n) c.opens) e
-          ∙ shut_last true (pos n) (opens_in es i.kept p) (record { own = true; id = pos (i.made + 1); operation = operation; context = context; parent = linked }) old other;
+          ∙ shut_last true (pos n) (open_calls_in es i.kept p) (record { own = true; id = pos (i.made + 1); operation = operation; context = context; parent = linked }) old other;
       most = let m = h.most in omega (arith, made);
     }
 

@@ -5,7 +5,7 @@ use Rattle.osi_base.specs.Limits.{last_invocation}
 use Rattle.stub_tables.specs.declared.tables.Tables.{Tables}
 use Rattle.rose_roles.specs.apdu_spelling.declared.head.ApduHead.{ApduHead}
 use Rattle.linked_ops.specs.Entries.{Entry}
-use Rattle.rose_roles.specs.Calls.{Kept, Invoking, AreOpen, opens_in}
+use Rattle.rose_roles.specs.Calls.{Kept, Invoking, AreOpen, open_calls_in}
 use Rattle.rose_roles.specs.declared.invoked_with.InvokedWith.{InvokedWith}
 use Rattle.rose_roles.specs.Heads.{HeadCarries}
 use Rattle.rose_roles.specs.end_rules.Base.{Carried}
@@ -15,7 +15,7 @@ use Rattle.rose_roles.specs.end_rules.State.{OpenCall, opened_with}
 pub record AreKept (forest : List Entry) (invoking : Invoking) (performed : Kept) : Type 0 where
   pub own : AreOpen true forest invoking.kept
   pub peer : AreOpen false forest performed
-  pub fresh : (n : ℕ) → invoking.made < n → opened_with true (pos n) (opens_in forest invoking.kept performed) ≡ None
+  pub fresh : (n : ℕ) → invoking.made < n → opened_with true (pos n) (open_calls_in forest invoking.kept performed) ≡ None
   pub most : invoking.made ≤ last_invocation
 
 -- a link names an open invocation of the peer

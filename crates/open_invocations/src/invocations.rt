@@ -8,7 +8,7 @@ ghost use Rattle.rose_roles.specs.end_rules.Base.{Base};
 ghost use Rattle.rose_roles.specs.end_rules.Hearing.{opening};
 ghost use Rattle.open_invocations.specs.Invocations.{is_link, is_link_back, called_in, operation_in, SomeCarried};
 
-use crate::listing::{called_at, opens_in};
+use crate::listing::{called_at, open_calls_in};
 use crate::open_call::OpenCall;
 use linked_ops::Forest;
 use osi_base::{NoMemory, Syntax};
@@ -218,11 +218,11 @@ impl Invocations {
     }
 
     /// The open invocations in order of opening.
-    pub fn opens(&self) -> Result<Vec<OpenCall>, NoMemory>
+    pub fn open_calls(&self) -> Result<Vec<OpenCall>, NoMemory>
         ensures { IfOk result (λ opens. opens.items ≡ self.now.opens) }
     {
         let entries = self.forest.entries()?;
-        opens_in(
+        open_calls_in(
             self.alloc,
             entries.as_slice(),
             &self.invoker,

@@ -1,7 +1,7 @@
 //! The open invocations as a list.
 
 ghost use Rattle.std.specs.Prelude.{◌≡◌, IfOk};
-ghost use Rattle.rose_roles.specs.Calls.{called, side, operation_or_none, context_or_none, parent_in, open_call, opens_in};
+ghost use Rattle.rose_roles.specs.Calls.{called, side, operation_or_none, context_or_none, parent_in, open_call, open_calls_in};
 
 use crate::open_call::OpenCall;
 use linked_ops::Key;
@@ -77,13 +77,13 @@ fn open_call(invoker: &Invoker, performer: &Performer, entry: &(Key, Option<Key>
 }
 
 /// The open invocations in order of opening.
-pub(crate) fn opens_in(
+pub(crate) fn open_calls_in(
     alloc: Global,
     entries: &[(Key, Option<Key>)],
     invoker: &Invoker,
     performer: &Performer,
 ) -> Result<Vec<OpenCall>, NoMemory>
-    ensures { IfOk result (λ opens. opens.items ≡ opens_in entries.now invoker.now.kept
+    ensures { IfOk result (λ opens. opens.items ≡ open_calls_in entries.now invoker.now.kept
         performer.now.kept) }
 {
     let mut opens = Vec::new(alloc);

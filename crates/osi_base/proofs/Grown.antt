@@ -35,7 +35,7 @@ pub part_after : (told new : Option (List ℕ)) (first second third : List ℕ)
 part_after told new first second third part = record {
   count = length first + part.count;
   within = rw (length-append first (second ++ third)) (rw (length-append second third) (omega (arith, part.within)));
-  told = part.told ∙ grown_append told first (take part.count second)
+  is_grown = part.is_grown ∙ grown_append told first (take part.count second)
       ∙ ap (λ octets. grown told octets) (sym (take-append-add first (second ++ third) part.count
       ∙ ap (λ octets. first ++ octets) (take-append-le part.count second third part.within)));
 }

@@ -31,7 +31,7 @@ grown (Some octets) bytes = Some (octets ++ bytes)
 pub record GrewPart (old new : Option (List ℕ)) (bytes : List ℕ) : Type 0 where
   pub count : ℕ
   pub within : count ≤ length bytes
-  pub told : new ≡ grown old (take count bytes)
+  pub is_grown : new ≡ grown old (take count bytes)
 
 -- a log of calls, the newest first, once this call was made
 abbrev pub logged : {Call : Type 0} → Call → Option (List Call) → Option (List Call)

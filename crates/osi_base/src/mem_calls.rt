@@ -2,7 +2,7 @@
 
 ghost use Rattle.std.specs.Prelude.{◌≡◌, ◌↔◌, ◌+◌, ◌^◌, ◌<◌, ◌≤◌, [], Some, IfOk, IfSome, OnOk, OnErr, IsErrOf, min, length, take, drop};
 ghost use Rattle.osi_base.specs.Failing.{IsDue, CallPasses, CallFails};
-ghost use Rattle.osi_base.specs.MemLines.{due_in, next_said, IsAfterCall, Begins, EndsFailed, ReadsOn, KeepsFailed, StaysAsItWas};
+ghost use Rattle.osi_base.specs.MemLines.{due_in, next_peer_octets, IsAfterCall, Begins, EndsFailed, ReadsOn, KeepsFailed, StaysAsItWas};
 ghost use Rattle.osi_base.specs.Outside.{logged, counted};
 ghost use Rattle.osi_base.specs.Lines.{shuts_told};
 ghost use Rattle.osi_base.specs.Limits.{last_count};
@@ -21,23 +21,23 @@ impl MemLine {
         requires { (outcome ≡ Outcome.Failed) ↔ IsDue self.old.failing }
         ensures ok { OnOk result (CallPasses self.old.failing self.new.failing) }
         ensures begins { self.new.octets_read ≡ 0 }
-        ensures next { OnOk result (self.new.said ≡ next_said self.old.peers.items) }
+        ensures next { OnOk result (self.new.peer_octets ≡ next_peer_octets self.old.peers.items) }
         ensures peers { OnOk result (self.new.peers.items ≡ drop 1 self.old.peers.items) }
         ensures failed { OnErr result (CallFails self.old.failing self.new.failing) }
         ensures failed_peers { OnErr result (self.new.peers ≡ self.old.peers) }
-        ensures failed_said { OnErr result (self.new.said ≡ []) }
+        ensures none_of_failed { OnErr result (self.new.peer_octets ≡ []) }
         ensures after { IsAfterCall self.old self.new }
         ensures log { self.new.log ≡ self.old.log }
         ensures no_memory { ¬ (IsErrOf result LineFault.NoMemory) }
     {
         self.failing.is_next();
         self.octets_read = 0;
-        self.said = Octets::new(self.alloc);
+        self.peer_octets = Octets::new(self.alloc);
         match outcome {
             Outcome::Failed => Err(LineFault::Failed),
             Outcome::Done => {
-                if let Some(said) = self.peers.pop_front() {
-                    self.said = said;
+                if let Some(peer_octets) = self.peers.pop_front() {
+                    self.peer_octets = peer_octets;
                 }
                 Ok(())
             }
@@ -48,10 +48,10 @@ impl MemLine {
     fn due(&self, room: usize) -> &[u8]
         ensures due { result.now ≡ due_in self.now room }
         ensures within { self.now.octets_read + length (due_in self.now room) ≤ length
-            self.now.said }
-        ensures fits { length self.now.said < 2 ^ 64 }
+            self.now.peer_octets }
+        ensures fits { length self.now.peer_octets < 2 ^ 64 }
     {
-        let left = &self.said.as_slice()[self.octets_read..];
+        let left = &self.peer_octets.as_slice()[self.octets_read..];
         &left[..self.most.min(room).min(left.len())]
     }
 }

@@ -16,7 +16,7 @@ pub struct MemLine {
     /// What each peer says of the connections to come. After the last, peers say nothing.
     pub peers: VecDeque<Octets>,
     /// What the present peer says and said.
-    pub said: Octets,
+    pub peer_octets: Octets,
     /// How many octets of it were read.
     pub octets_read: usize,
     /// How many octets a call reads or writes at most.
@@ -26,7 +26,7 @@ pub struct MemLine {
     /// The calls so far.
     pub log: CallLog,
     ghost takes_some: { 0 < most },
-    ghost reads_what_is_said: { octets_read ≤ length said },
+    ghost reads_peer_octets: { octets_read ≤ length peer_octets },
 }
 
 impl MemLine {
@@ -40,7 +40,7 @@ impl MemLine {
     ) -> MemLine
         requires { 0 < most }
         ensures peers { result.peers ≡ peers }
-        ensures silent { result.said ≡ [] }
+        ensures silent { result.peer_octets ≡ [] }
         ensures most { result.most ≡ most }
         ensures failing { result.failing ≡ failing }
         ensures log { result.log ≡ Some [] }
@@ -48,7 +48,7 @@ impl MemLine {
         MemLine {
             alloc,
             peers,
-            said: Octets::new(alloc),
+            peer_octets: Octets::new(alloc),
             octets_read: 0,
             most,
             failing,

@@ -39,10 +39,10 @@ use Rattle.end_model.specs.end_rules.Reacting.{Reaction, Passes, Takes, Fails, f
 use Rattle.agreement.specs.Sets.{Role, other}
 use Rattle.agreement.specs.Sets.Role.{Initiator, Responder}
 use Rattle.end_model.specs.Acting.{as_list, invoked_as, apdus_of}
-use Rattle.end_model.specs.Pairs.{Common, base_at, Two, coming_to}
+use Rattle.end_model.specs.BothEnds.{Common, base_at, Two, coming_to}
 use Rattle.end_model.proofs.Ladder.{called, passed}
-use Rattle.reliable_model.specs.Goes.{Ledger}
-use Rattle.outcome_laws.specs.Deals.{rejects_in, still_after, Dealings, dealt_of, Deals, begins, calls, acts, takes, passes, fails as aborts_of_itself, breaks}
+use Rattle.reliable_model.specs.Ledgers.{Ledger}
+use Rattle.outcome_laws.specs.Exchanges.{rejects_in, still_after, Exchanges, exchange_of, ReachedWithExchanges, begins, calls, acts, takes, passes, fails as aborts_of_itself, breaks}
 use Rattle.outcome_laws.specs.Outcomes.{IsIn, AreAnswers, OutcomesAreAnswers}
 use Rattle.outcome_laws.proofs.Words.{association-none, marks-none, settled-none, transport-none}
 use Rattle.outcome_laws.proofs.Once.{keeps, still-keeps}
@@ -294,44 +294,44 @@ aborts-so : (base : Base) (body : Body) (message : Message) (left : List Message
 aborts-so base body message left fault later aborts before shown own peer coming e c h k =
     subst (ReactsWell base.tables own peer) h (reacts-well base body message own peer e (first-carries base.tables peer coming left message before c k))
 
-abbrev StandsAt : Common → Two → Dealings → Role → Type 0
-StandsAt common two dealings role = Stands common.tables (dealt_of (other role) dealings).wrote (coming_to role two) (dealt_of role dealings).shown
+abbrev StandsAt : Common → Two → Exchanges → Role → Type 0
+StandsAt common two exchanges role = Stands common.tables (exchange_of (other role) exchanges).wrote (coming_to role two) (exchange_of role exchanges).shown
 
-stands : (common : Common) (two : Two) (ledger : Ledger) (dealings : Dealings) → is_reliable common.mode ≡ false → Deals common two ledger dealings → (role : Role) → StandsAt common two dealings role
-stands common two ledger dealings e begins Initiator = record { carried = tt; answers = tt }
-stands common two ledger dealings e begins Responder = record { carried = tt; answers = tt }
-stands common two ledger dealings e (calls x l d Initiator call answer reached h) Initiator = stands common x l d e reached Initiator
-stands common two ledger dealings e (calls x l d Responder call answer reached h) Responder = stands common x l d e reached Responder
-stands common two ledger dealings e (calls x l d Initiator call answer reached h) Responder =
+stands : (common : Common) (two : Two) (ledger : Ledger) (exchanges : Exchanges) → is_reliable common.mode ≡ false → ReachedWithExchanges common two ledger exchanges → (role : Role) → StandsAt common two exchanges role
+stands common two ledger exchanges e begins Initiator = record { carried = tt; answers = tt }
+stands common two ledger exchanges e begins Responder = record { carried = tt; answers = tt }
+stands common two ledger exchanges e (calls x l d Initiator call answer reached h) Initiator = stands common x l d e reached Initiator
+stands common two ledger exchanges e (calls x l d Responder call answer reached h) Responder = stands common x l d e reached Responder
+stands common two ledger exchanges e (calls x l d Initiator call answer reached h) Responder =
     more-comes common.tables d.a.wrote (apdus_of (base_at Initiator common) x.a call answer) x.to_b _ d.b.shown (stands common x l d e reached Responder) (due-carries (base_at Initiator common) x.a call answer d.a.wrote e h)
-stands common two ledger dealings e (calls x l d Responder call answer reached h) Initiator =
+stands common two ledger exchanges e (calls x l d Responder call answer reached h) Initiator =
     more-comes common.tables d.b.wrote (apdus_of (base_at Responder common) x.b call answer) x.to_a _ d.a.shown (stands common x l d e reached Initiator) (due-carries (base_at Responder common) x.b call answer d.b.wrote e h)
-stands common two ledger dealings e (acts x l d Initiator own reached h) role = absurd (none-own (base_at Initiator common) x.a own e h)
-stands common two ledger dealings e (acts x l d Responder own reached h) role = absurd (none-own (base_at Responder common) x.b own e h)
-stands common two ledger dealings e (takes x l d Initiator message left body answers shown reached comes h) Initiator =
+stands common two ledger exchanges e (acts x l d Initiator own reached h) role = absurd (none-own (base_at Initiator common) x.a own e h)
+stands common two ledger exchanges e (acts x l d Responder own reached h) role = absurd (none-own (base_at Responder common) x.b own e h)
+stands common two ledger exchanges e (takes x l d Initiator message left body answers shown reached comes h) Initiator =
     (taken-so (base_at Initiator common) x.a message left body answers d.a.shown shown d.a.wrote d.b.wrote x.to_a e comes h (stands common x l d e reached Initiator)).1
-stands common two ledger dealings e (takes x l d Responder message left body answers shown reached comes h) Responder =
+stands common two ledger exchanges e (takes x l d Responder message left body answers shown reached comes h) Responder =
     (taken-so (base_at Responder common) x.b message left body answers d.b.shown shown d.b.wrote d.a.wrote x.to_b e comes h (stands common x l d e reached Responder)).1
-stands common two ledger dealings e (takes x l d Initiator message left body answers shown reached comes h) Responder =
+stands common two ledger exchanges e (takes x l d Initiator message left body answers shown reached comes h) Responder =
     more-comes common.tables d.a.wrote (rejects_in shown) x.to_b answers d.b.shown (stands common x l d e reached Responder)
     (taken-so (base_at Initiator common) x.a message left body answers d.a.shown shown d.a.wrote d.b.wrote x.to_a e comes h (stands common x l d e reached Initiator)).0.sends
-stands common two ledger dealings e (takes x l d Responder message left body answers shown reached comes h) Initiator =
+stands common two ledger exchanges e (takes x l d Responder message left body answers shown reached comes h) Initiator =
     more-comes common.tables d.b.wrote (rejects_in shown) x.to_a answers d.a.shown (stands common x l d e reached Initiator)
     (taken-so (base_at Responder common) x.b message left body answers d.b.shown shown d.b.wrote d.a.wrote x.to_b e comes h (stands common x l d e reached Responder)).0.sends
-stands common two ledger dealings e (passes x l d Initiator message left reached comes h) Initiator = rest-comes common.tables d.b.wrote x.to_a left message d.a.shown comes (stands common x l d e reached Initiator)
-stands common two ledger dealings e (passes x l d Responder message left reached comes h) Responder = rest-comes common.tables d.a.wrote x.to_b left message d.b.shown comes (stands common x l d e reached Responder)
-stands common two ledger dealings e (passes x l d Initiator message left reached comes h) Responder = more-comes common.tables d.a.wrote [] x.to_b [] d.b.shown (stands common x l d e reached Responder) tt
-stands common two ledger dealings e (passes x l d Responder message left reached comes h) Initiator = more-comes common.tables d.b.wrote [] x.to_a [] d.a.shown (stands common x l d e reached Initiator) tt
-stands common two ledger dealings e (aborts_of_itself x l d Initiator message left fault body aborts shown reached comes h) Initiator = rest-comes common.tables d.b.wrote x.to_a left message d.a.shown comes (stands common x l d e reached Initiator)
-stands common two ledger dealings e (aborts_of_itself x l d Responder message left fault body aborts shown reached comes h) Responder = rest-comes common.tables d.a.wrote x.to_b left message d.b.shown comes (stands common x l d e reached Responder)
-stands common two ledger dealings e (aborts_of_itself x l d Initiator message left fault body aborts shown reached comes h) Responder =
+stands common two ledger exchanges e (passes x l d Initiator message left reached comes h) Initiator = rest-comes common.tables d.b.wrote x.to_a left message d.a.shown comes (stands common x l d e reached Initiator)
+stands common two ledger exchanges e (passes x l d Responder message left reached comes h) Responder = rest-comes common.tables d.a.wrote x.to_b left message d.b.shown comes (stands common x l d e reached Responder)
+stands common two ledger exchanges e (passes x l d Initiator message left reached comes h) Responder = more-comes common.tables d.a.wrote [] x.to_b [] d.b.shown (stands common x l d e reached Responder) tt
+stands common two ledger exchanges e (passes x l d Responder message left reached comes h) Initiator = more-comes common.tables d.b.wrote [] x.to_a [] d.a.shown (stands common x l d e reached Initiator) tt
+stands common two ledger exchanges e (aborts_of_itself x l d Initiator message left fault body aborts shown reached comes h) Initiator = rest-comes common.tables d.b.wrote x.to_a left message d.a.shown comes (stands common x l d e reached Initiator)
+stands common two ledger exchanges e (aborts_of_itself x l d Responder message left fault body aborts shown reached comes h) Responder = rest-comes common.tables d.a.wrote x.to_b left message d.b.shown comes (stands common x l d e reached Responder)
+stands common two ledger exchanges e (aborts_of_itself x l d Initiator message left fault body aborts shown reached comes h) Responder =
     more-comes common.tables d.a.wrote [] x.to_b aborts d.b.shown (stands common x l d e reached Responder)
     (aborts-so (base_at Initiator common) x.a message left fault body aborts d.a.shown shown d.a.wrote d.b.wrote x.to_a e comes h (stands common x l d e reached Initiator))
-stands common two ledger dealings e (aborts_of_itself x l d Responder message left fault body aborts shown reached comes h) Initiator =
+stands common two ledger exchanges e (aborts_of_itself x l d Responder message left fault body aborts shown reached comes h) Initiator =
     more-comes common.tables d.b.wrote [] x.to_a aborts d.a.shown (stands common x l d e reached Initiator)
     (aborts-so (base_at Responder common) x.b message left fault body aborts d.b.shown shown d.b.wrote d.a.wrote x.to_b e comes h (stands common x l d e reached Responder))
-stands common two ledger dealings e (breaks x l d reached) Initiator = record { carried = tt; answers = (stands common x l d e reached Initiator).answers }
-stands common two ledger dealings e (breaks x l d reached) Responder = record { carried = tt; answers = (stands common x l d e reached Responder).answers }
+stands common two ledger exchanges e (breaks x l d reached) Initiator = record { carried = tt; answers = (stands common x l d e reached Initiator).answers }
+stands common two ledger exchanges e (breaks x l d reached) Responder = record { carried = tt; answers = (stands common x l d e reached Responder).answers }
 
 pub outcomes-are-answers : OutcomesAreAnswers
-outcomes-are-answers common two ledger dealings e reached role = (stands common two ledger dealings e reached role).answers
+outcomes-are-answers common two ledger exchanges e reached role = (stands common two ledger exchanges e reached role).answers

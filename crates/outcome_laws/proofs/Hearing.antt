@@ -16,7 +16,7 @@ use Rattle.end_model.specs.end_rules.Messages.{DataValue}
 use Rattle.end_model.specs.end_rules.State.{Body, OpenCall, Calls, is_empty, opened_with, close}
 use Rattle.end_model.specs.end_rules.Invoking.{carrier_in}
 use Rattle.end_model.specs.end_rules.Hearing.{Rejecting, Heard, rejected, told, unless_problem, first_problem, problem_if, invoke_problem, invoked, is_right_result, result_problem, known_error_problem, hear_result_of, error_problem, error_told, hear_error_of, is_of_invocation, hear_reject, hear, value_in, Taken, sent_on, queued, with_reject, shown_first, on_heard, take_head, head_of, take_values}
-use Rattle.outcome_laws.specs.Deals.{Asked}
+use Rattle.outcome_laws.specs.Exchanges.{Asked}
 use Rattle.outcome_laws.specs.Outcomes.{returns_at, has_error}
 use Rattle.outcome_laws.proofs.Shown.{notes_in}
 use Rattle.outcome_laws.proofs.Open.{Once, once-untold, once-still, once-close, once-told, once-peer}

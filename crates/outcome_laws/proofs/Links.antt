@@ -24,9 +24,9 @@ use Rattle.end_model.specs.end_rules.TakesActivities.{received, handed_up, shown
 use Rattle.end_model.specs.end_rules.Reacting.{Takes, react}
 use Rattle.agreement.specs.Sets.{Role}
 use Rattle.agreement.specs.Sets.Role.{Initiator, Responder}
-use Rattle.end_model.specs.Pairs.{Common, base_at, Two}
-use Rattle.reliable_model.specs.Goes.{Ledger}
-use Rattle.outcome_laws.specs.Deals.{Asked, asked_by, still_after, Dealings, dealt_of, Deals, begins, calls as asks, acts, takes, passes, fails as aborts_of_itself, breaks}
+use Rattle.end_model.specs.BothEnds.{Common, base_at, Two}
+use Rattle.reliable_model.specs.Ledgers.{Ledger}
+use Rattle.outcome_laws.specs.Exchanges.{Asked, asked_by, still_after, Exchanges, exchange_of, ReachedWithExchanges, begins, calls as asks, acts, takes, passes, fails as aborts_of_itself, breaks}
 use Rattle.outcome_laws.specs.Outcomes.{IsIn}
 use Rattle.outcome_laws.specs.Links.{Link, link_in, links_in, Fits, AllFit, LinksAreAllowed}
 use Rattle.outcome_laws.proofs.Shown.{in-later, notes_in, links-append, unnoted-links}
@@ -197,33 +197,33 @@ taken-links base asked body message later answers before shown h o k =
     go true e = fit-both base.tables asked before shown k of_message
     go false e = subst (AllFit base.tables []) (sym (anew message refl e)) tt
 
-links : (common : Common) (two : Two) (ledger : Ledger) (dealings : Dealings) → Deals common two ledger dealings → (role : Role) → AllFit common.tables (dealt_of role dealings).asked (links_in (dealt_of role dealings).shown)
-links common two ledger dealings begins Initiator = tt
-links common two ledger dealings begins Responder = tt
-links common two ledger dealings (asks x l d Initiator call answer reached h) Initiator = fit-on common.tables d.a.asked (asked_by call answer) (links_in d.a.shown) (links common x l d reached Initiator)
-links common two ledger dealings (asks x l d Responder call answer reached h) Initiator = links common x l d reached Initiator
-links common two ledger dealings (takes x l d Initiator message left body answers shown reached comes h) Initiator =
+links : (common : Common) (two : Two) (ledger : Ledger) (exchanges : Exchanges) → ReachedWithExchanges common two ledger exchanges → (role : Role) → AllFit common.tables (exchange_of role exchanges).asked (links_in (exchange_of role exchanges).shown)
+links common two ledger exchanges begins Initiator = tt
+links common two ledger exchanges begins Responder = tt
+links common two ledger exchanges (asks x l d Initiator call answer reached h) Initiator = fit-on common.tables d.a.asked (asked_by call answer) (links_in d.a.shown) (links common x l d reached Initiator)
+links common two ledger exchanges (asks x l d Responder call answer reached h) Initiator = links common x l d reached Initiator
+links common two ledger exchanges (takes x l d Initiator message left body answers shown reached comes h) Initiator =
     taken-links (base_at Initiator common) d.a.asked x.a message body answers d.a.shown shown h (once common x l d reached Initiator) (links common x l d reached Initiator)
-links common two ledger dealings (takes x l d Responder message left body answers shown reached comes h) Initiator = links common x l d reached Initiator
-links common two ledger dealings (acts x l d Initiator own reached h) Initiator = links common x l d reached Initiator
-links common two ledger dealings (passes x l d Initiator message left reached comes h) Initiator = links common x l d reached Initiator
-links common two ledger dealings (aborts_of_itself x l d Initiator message left fault body aborts shown reached comes h) Initiator = links common x l d reached Initiator
-links common two ledger dealings (acts x l d Responder own reached h) Initiator = links common x l d reached Initiator
-links common two ledger dealings (passes x l d Responder message left reached comes h) Initiator = links common x l d reached Initiator
-links common two ledger dealings (aborts_of_itself x l d Responder message left fault body aborts shown reached comes h) Initiator = links common x l d reached Initiator
-links common two ledger dealings (breaks x l d reached) Initiator = links common x l d reached Initiator
-links common two ledger dealings (asks x l d Responder call answer reached h) Responder = fit-on common.tables d.b.asked (asked_by call answer) (links_in d.b.shown) (links common x l d reached Responder)
-links common two ledger dealings (asks x l d Initiator call answer reached h) Responder = links common x l d reached Responder
-links common two ledger dealings (takes x l d Responder message left body answers shown reached comes h) Responder =
+links common two ledger exchanges (takes x l d Responder message left body answers shown reached comes h) Initiator = links common x l d reached Initiator
+links common two ledger exchanges (acts x l d Initiator own reached h) Initiator = links common x l d reached Initiator
+links common two ledger exchanges (passes x l d Initiator message left reached comes h) Initiator = links common x l d reached Initiator
+links common two ledger exchanges (aborts_of_itself x l d Initiator message left fault body aborts shown reached comes h) Initiator = links common x l d reached Initiator
+links common two ledger exchanges (acts x l d Responder own reached h) Initiator = links common x l d reached Initiator
+links common two ledger exchanges (passes x l d Responder message left reached comes h) Initiator = links common x l d reached Initiator
+links common two ledger exchanges (aborts_of_itself x l d Responder message left fault body aborts shown reached comes h) Initiator = links common x l d reached Initiator
+links common two ledger exchanges (breaks x l d reached) Initiator = links common x l d reached Initiator
+links common two ledger exchanges (asks x l d Responder call answer reached h) Responder = fit-on common.tables d.b.asked (asked_by call answer) (links_in d.b.shown) (links common x l d reached Responder)
+links common two ledger exchanges (asks x l d Initiator call answer reached h) Responder = links common x l d reached Responder
+links common two ledger exchanges (takes x l d Responder message left body answers shown reached comes h) Responder =
     taken-links (base_at Responder common) d.b.asked x.b message body answers d.b.shown shown h (once common x l d reached Responder) (links common x l d reached Responder)
-links common two ledger dealings (takes x l d Initiator message left body answers shown reached comes h) Responder = links common x l d reached Responder
-links common two ledger dealings (acts x l d Initiator own reached h) Responder = links common x l d reached Responder
-links common two ledger dealings (passes x l d Initiator message left reached comes h) Responder = links common x l d reached Responder
-links common two ledger dealings (aborts_of_itself x l d Initiator message left fault body aborts shown reached comes h) Responder = links common x l d reached Responder
-links common two ledger dealings (acts x l d Responder own reached h) Responder = links common x l d reached Responder
-links common two ledger dealings (passes x l d Responder message left reached comes h) Responder = links common x l d reached Responder
-links common two ledger dealings (aborts_of_itself x l d Responder message left fault body aborts shown reached comes h) Responder = links common x l d reached Responder
-links common two ledger dealings (breaks x l d reached) Responder = links common x l d reached Responder
+links common two ledger exchanges (takes x l d Initiator message left body answers shown reached comes h) Responder = links common x l d reached Responder
+links common two ledger exchanges (acts x l d Initiator own reached h) Responder = links common x l d reached Responder
+links common two ledger exchanges (passes x l d Initiator message left reached comes h) Responder = links common x l d reached Responder
+links common two ledger exchanges (aborts_of_itself x l d Initiator message left fault body aborts shown reached comes h) Responder = links common x l d reached Responder
+links common two ledger exchanges (acts x l d Responder own reached h) Responder = links common x l d reached Responder
+links common two ledger exchanges (passes x l d Responder message left reached comes h) Responder = links common x l d reached Responder
+links common two ledger exchanges (aborts_of_itself x l d Responder message left fault body aborts shown reached comes h) Responder = links common x l d reached Responder
+links common two ledger exchanges (breaks x l d reached) Responder = links common x l d reached Responder
 
 pub links-are-allowed : LinksAreAllowed
-links-are-allowed common two ledger dealings reached role = links common two ledger dealings reached role
+links-are-allowed common two ledger exchanges reached role = links common two ledger exchanges reached role

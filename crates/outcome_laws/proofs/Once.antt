@@ -27,12 +27,12 @@ use Rattle.agreement.specs.Sets.{Role}
 use Rattle.agreement.specs.Sets.Role.{Initiator, Responder}
 use Rattle.end_model.specs.Rows.{at}
 use Rattle.end_model.specs.Requests.{sent_all, after_called}
-use Rattle.end_model.specs.Pairs.{Common, base_at, Two, body_at}
+use Rattle.end_model.specs.BothEnds.{Common, base_at, Two, body_at}
 use Rattle.end_model.proofs.Ladder.{called, passed}
 use Rattle.end_model.proofs.InvokeRungs.{invokable}
 use Rattle.end_model.proofs.HandingRows.{next-is}
-use Rattle.reliable_model.specs.Goes.{Ledger}
-use Rattle.outcome_laws.specs.Deals.{Asked, asked_by, Dealings, dealt_of, still_after, Deals, begins, calls, acts, takes, passes, fails, breaks}
+use Rattle.reliable_model.specs.Ledgers.{Ledger}
+use Rattle.outcome_laws.specs.Exchanges.{Asked, asked_by, Exchanges, exchange_of, still_after, ReachedWithExchanges, begins, calls, acts, takes, passes, fails, breaks}
 use Rattle.outcome_laws.specs.Outcomes.{OneOutcome, OutcomesAreAllowed}
 use Rattle.outcome_laws.proofs.Open.{Once, once-new, once-cut, once-close, once-asked, once-own}
 use Rattle.outcome_laws.proofs.Words.{ReactsOnce, reacts-once}
@@ -196,34 +196,34 @@ still-keeps base body (Session (OfAssociation (Abort transport user))) xs = refl
 still-keeps base body (Session (OfAssociation AbortAccept)) xs = refl
 still-keeps base body (Session (OfAssociation (Connect session presentation values))) xs = refl
 
-pub once : (common : Common) (two : Two) (ledger : Ledger) (dealings : Dealings) → Deals common two ledger dealings → (role : Role) → Once common.tables (dealt_of role dealings).asked (body_at role two).calls (dealt_of role dealings).shown
-once common two ledger dealings begins Initiator = once-new common.tables
-once common two ledger dealings begins Responder = once-new common.tables
-once common two ledger dealings (calls x l d Initiator call answer reached h) Initiator = called-once common.mode (base_at Initiator common) x.a call answer d.a.asked d.a.shown h (once common x l d reached Initiator)
-once common two ledger dealings (calls x l d Responder call answer reached h) Responder = called-once common.mode (base_at Responder common) x.b call answer d.b.asked d.b.shown h (once common x l d reached Responder)
-once common two ledger dealings (calls x l d Initiator call answer reached h) Responder = once common x l d reached Responder
-once common two ledger dealings (calls x l d Responder call answer reached h) Initiator = once common x l d reached Initiator
-once common two ledger dealings (acts x l d Initiator own reached h) Initiator = acted-once (base_at Initiator common) x.a own d.a.asked d.a.shown (once common x l d reached Initiator)
-once common two ledger dealings (acts x l d Responder own reached h) Responder = acted-once (base_at Responder common) x.b own d.b.asked d.b.shown (once common x l d reached Responder)
-once common two ledger dealings (acts x l d Initiator own reached h) Responder = once common x l d reached Responder
-once common two ledger dealings (acts x l d Responder own reached h) Initiator = once common x l d reached Initiator
-once common two ledger dealings (takes x l d Initiator message left body answers shown reached comes h) Initiator = taken-once (base_at Initiator common) x.a message body answers d.a.asked d.a.shown shown h (once common x l d reached Initiator)
-once common two ledger dealings (takes x l d Responder message left body answers shown reached comes h) Responder = taken-once (base_at Responder common) x.b message body answers d.b.asked d.b.shown shown h (once common x l d reached Responder)
-once common two ledger dealings (takes x l d Initiator message left body answers shown reached comes h) Responder = once common x l d reached Responder
-once common two ledger dealings (takes x l d Responder message left body answers shown reached comes h) Initiator = once common x l d reached Initiator
-once common two ledger dealings (passes x l d Initiator message left reached comes h) Initiator = once common x l d reached Initiator
-once common two ledger dealings (passes x l d Initiator message left reached comes h) Responder = once common x l d reached Responder
-once common two ledger dealings (passes x l d Responder message left reached comes h) Initiator = once common x l d reached Initiator
-once common two ledger dealings (passes x l d Responder message left reached comes h) Responder = once common x l d reached Responder
-once common two ledger dealings (fails x l d Initiator message left fault body aborts shown reached comes h) Initiator = failed-once (base_at Initiator common) x.a message fault body aborts d.a.asked d.a.shown shown h (once common x l d reached Initiator)
-once common two ledger dealings (fails x l d Responder message left fault body aborts shown reached comes h) Responder = failed-once (base_at Responder common) x.b message fault body aborts d.b.asked d.b.shown shown h (once common x l d reached Responder)
-once common two ledger dealings (fails x l d Initiator message left fault body aborts shown reached comes h) Responder = once common x l d reached Responder
-once common two ledger dealings (fails x l d Responder message left fault body aborts shown reached comes h) Initiator = once common x l d reached Initiator
-once common two ledger dealings (breaks x l d reached) Initiator = broke-once (base_at Initiator common) x.a d.a.asked d.a.shown (once common x l d reached Initiator)
-once common two ledger dealings (breaks x l d reached) Responder = broke-once (base_at Responder common) x.b d.b.asked d.b.shown (once common x l d reached Responder)
+pub once : (common : Common) (two : Two) (ledger : Ledger) (exchanges : Exchanges) → ReachedWithExchanges common two ledger exchanges → (role : Role) → Once common.tables (exchange_of role exchanges).asked (body_at role two).calls (exchange_of role exchanges).shown
+once common two ledger exchanges begins Initiator = once-new common.tables
+once common two ledger exchanges begins Responder = once-new common.tables
+once common two ledger exchanges (calls x l d Initiator call answer reached h) Initiator = called-once common.mode (base_at Initiator common) x.a call answer d.a.asked d.a.shown h (once common x l d reached Initiator)
+once common two ledger exchanges (calls x l d Responder call answer reached h) Responder = called-once common.mode (base_at Responder common) x.b call answer d.b.asked d.b.shown h (once common x l d reached Responder)
+once common two ledger exchanges (calls x l d Initiator call answer reached h) Responder = once common x l d reached Responder
+once common two ledger exchanges (calls x l d Responder call answer reached h) Initiator = once common x l d reached Initiator
+once common two ledger exchanges (acts x l d Initiator own reached h) Initiator = acted-once (base_at Initiator common) x.a own d.a.asked d.a.shown (once common x l d reached Initiator)
+once common two ledger exchanges (acts x l d Responder own reached h) Responder = acted-once (base_at Responder common) x.b own d.b.asked d.b.shown (once common x l d reached Responder)
+once common two ledger exchanges (acts x l d Initiator own reached h) Responder = once common x l d reached Responder
+once common two ledger exchanges (acts x l d Responder own reached h) Initiator = once common x l d reached Initiator
+once common two ledger exchanges (takes x l d Initiator message left body answers shown reached comes h) Initiator = taken-once (base_at Initiator common) x.a message body answers d.a.asked d.a.shown shown h (once common x l d reached Initiator)
+once common two ledger exchanges (takes x l d Responder message left body answers shown reached comes h) Responder = taken-once (base_at Responder common) x.b message body answers d.b.asked d.b.shown shown h (once common x l d reached Responder)
+once common two ledger exchanges (takes x l d Initiator message left body answers shown reached comes h) Responder = once common x l d reached Responder
+once common two ledger exchanges (takes x l d Responder message left body answers shown reached comes h) Initiator = once common x l d reached Initiator
+once common two ledger exchanges (passes x l d Initiator message left reached comes h) Initiator = once common x l d reached Initiator
+once common two ledger exchanges (passes x l d Initiator message left reached comes h) Responder = once common x l d reached Responder
+once common two ledger exchanges (passes x l d Responder message left reached comes h) Initiator = once common x l d reached Initiator
+once common two ledger exchanges (passes x l d Responder message left reached comes h) Responder = once common x l d reached Responder
+once common two ledger exchanges (fails x l d Initiator message left fault body aborts shown reached comes h) Initiator = failed-once (base_at Initiator common) x.a message fault body aborts d.a.asked d.a.shown shown h (once common x l d reached Initiator)
+once common two ledger exchanges (fails x l d Responder message left fault body aborts shown reached comes h) Responder = failed-once (base_at Responder common) x.b message fault body aborts d.b.asked d.b.shown shown h (once common x l d reached Responder)
+once common two ledger exchanges (fails x l d Initiator message left fault body aborts shown reached comes h) Responder = once common x l d reached Responder
+once common two ledger exchanges (fails x l d Responder message left fault body aborts shown reached comes h) Initiator = once common x l d reached Initiator
+once common two ledger exchanges (breaks x l d reached) Initiator = broke-once (base_at Initiator common) x.a d.a.asked d.a.shown (once common x l d reached Initiator)
+once common two ledger exchanges (breaks x l d reached) Responder = broke-once (base_at Responder common) x.b d.b.asked d.b.shown (once common x l d reached Responder)
 
 pub one-outcome : OneOutcome
-one-outcome common two ledger dealings reached role = (once common two ledger dealings reached role).distinct
+one-outcome common two ledger exchanges reached role = (once common two ledger exchanges reached role).distinct
 
 pub outcomes-are-allowed : OutcomesAreAllowed
-outcomes-are-allowed common two ledger dealings reached role = (once common two ledger dealings reached role).allowed
+outcomes-are-allowed common two ledger exchanges reached role = (once common two ledger exchanges reached role).allowed

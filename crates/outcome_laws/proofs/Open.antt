@@ -13,7 +13,7 @@ use Rattle.end_model.specs.end_rules.Base.{Base}
 use Rattle.end_model.specs.end_rules.State.{OpenCall, Calls, is_key, opened_with, closed, close, orphaned}
 use Rattle.end_model.specs.end_rules.Hearing.{is_silent_at, opening}
 use Rattle.end_model.proofs.Numbered.{opened-snoc, opened-closed, same-own, same-id, same-key, or-first, or-second, or-none}
-use Rattle.outcome_laws.specs.Deals.{AreDistinct, Asked, outcome_in, outcomes_in}
+use Rattle.outcome_laws.specs.Exchanges.{AreDistinct, Asked, outcome_in, outcomes_in}
 use Rattle.outcome_laws.specs.Outcomes.{IsIn, IfOutcome, allows, Allowed, AreAllowed}
 use Rattle.outcome_laws.proofs.Shown.{in-later, outcomes-append, each-on, each-append, each-quiet, notes_in, unnoted}
 

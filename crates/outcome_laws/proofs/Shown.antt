@@ -3,7 +3,7 @@ use Rattle.std.proofs.Common.{inl, inr, ◌≡◌, refl, ◌∙◌, sym, ap, sub
 use Rattle.std.proofs.lemmas.List.{append_assoc}
 use Rattle.std.specs.Prelude.{ℤ}
 use Rattle.dialogue.specs.declared.indication.Indication.{Indication}
-use Rattle.outcome_laws.specs.Deals.{outcome_in, outcomes_in}
+use Rattle.outcome_laws.specs.Exchanges.{outcome_in, outcomes_in}
 use Rattle.outcome_laws.specs.Outcomes.{IsIn, IfOutcome, EachOutcome}
 use Rattle.outcome_laws.specs.Links.{Link, link_in, links_in}
 

@@ -40,9 +40,9 @@ use Rattle.agreement.specs.Sets.Role.{Initiator, Responder}
 use Rattle.end_model.specs.Rows.{at}
 use Rattle.end_model.specs.Acting.{as_list, invoked_as, apdus_of}
 use Rattle.end_model.specs.Requests.{sent_all, after_called}
-use Rattle.end_model.specs.Pairs.{Common, base_at, Two, body_at}
-use Rattle.reliable_model.specs.Goes.{Encoding, encoding_of, encoded_by, deeds_of, Ledger}
-use Rattle.outcome_laws.specs.Deals.{rejects_in, Dealings, dealt_of, Deals, begins, calls, acts, takes, passes, fails as aborts_of_itself, breaks}
+use Rattle.end_model.specs.BothEnds.{Common, base_at, Two, body_at}
+use Rattle.reliable_model.specs.Ledgers.{Encoding, encoding_of, encoded_by, transfer_log_of, Ledger}
+use Rattle.outcome_laws.specs.Exchanges.{rejects_in, Exchanges, exchange_of, ReachedWithExchanges, begins, calls, acts, takes, passes, fails as aborts_of_itself, breaks}
 use Rattle.outcome_laws.specs.Outcomes.{IsIn}
 use Rattle.outcome_laws.proofs.Shown.{in-later}
 use Rattle.outcome_laws.proofs.Writers.{Within, within-more, in-first, in-either, rejects-append}
@@ -410,48 +410,48 @@ pub record Source (wrote : List Apdu) (body : Body) (encoded : List Encoding) : 
   pub sends : Sourced wrote body.sending
   pub encodes : EncodedIn wrote encoded
 
-pub source : (common : Common) (two : Two) (ledger : Ledger) (dealings : Dealings) → Deals common two ledger dealings → (role : Role) → Source (dealt_of role dealings).wrote (body_at role two) (deeds_of role ledger.deeds).encoded
-source common two ledger dealings begins Initiator = record { sends = record { waiting = tt; going = tt }; encodes = tt }
-source common two ledger dealings begins Responder = record { sends = record { waiting = tt; going = tt }; encodes = tt }
-source common two ledger dealings (calls x l d Initiator call answer reached h) Initiator =
+pub source : (common : Common) (two : Two) (ledger : Ledger) (exchanges : Exchanges) → ReachedWithExchanges common two ledger exchanges → (role : Role) → Source (exchange_of role exchanges).wrote (body_at role two) (transfer_log_of role ledger.transfer_log).encoded
+source common two ledger exchanges begins Initiator = record { sends = record { waiting = tt; going = tt }; encodes = tt }
+source common two ledger exchanges begins Responder = record { sends = record { waiting = tt; going = tt }; encodes = tt }
+source common two ledger exchanges (calls x l d Initiator call answer reached h) Initiator =
     let s = source common x l d reached Initiator in
-    record { sends = called-so common.mode (base_at Initiator common) x.a call answer d.a.wrote s.sends; encodes = encoded-more (apdus_of (base_at Initiator common) x.a call answer) d.a.wrote (deeds_of Initiator l.deeds).encoded s.encodes }
-source common two ledger dealings (calls x l d Responder call answer reached h) Initiator = source common x l d reached Initiator
-source common two ledger dealings (acts x l d Initiator own reached h) Initiator =
+    record { sends = called-so common.mode (base_at Initiator common) x.a call answer d.a.wrote s.sends; encodes = encoded-more (apdus_of (base_at Initiator common) x.a call answer) d.a.wrote (transfer_log_of Initiator l.transfer_log).encoded s.encodes }
+source common two ledger exchanges (calls x l d Responder call answer reached h) Initiator = source common x l d reached Initiator
+source common two ledger exchanges (acts x l d Initiator own reached h) Initiator =
     let s = source common x l d reached Initiator in
-    record { sends = acted-so (base_at Initiator common) x.a own d.a.wrote s.sends; encodes = encoded-so x.a l.shared.set own d.a.wrote (deeds_of Initiator l.deeds).encoded s.sends s.encodes }
-source common two ledger dealings (acts x l d Responder own reached h) Initiator = source common x l d reached Initiator
-source common two ledger dealings (takes x l d Initiator message left body answers shown reached comes h) Initiator =
+    record { sends = acted-so (base_at Initiator common) x.a own d.a.wrote s.sends; encodes = encoded-so x.a l.shared.set own d.a.wrote (transfer_log_of Initiator l.transfer_log).encoded s.sends s.encodes }
+source common two ledger exchanges (acts x l d Responder own reached h) Initiator = source common x l d reached Initiator
+source common two ledger exchanges (takes x l d Initiator message left body answers shown reached comes h) Initiator =
     let s = source common x l d reached Initiator in
-    record { sends = taken-so (base_at Initiator common) x.a message body answers shown d.a.wrote h s.sends; encodes = encoded-more (rejects_in shown) d.a.wrote (deeds_of Initiator l.deeds).encoded s.encodes }
-source common two ledger dealings (takes x l d Responder message left body answers shown reached comes h) Initiator = source common x l d reached Initiator
-source common two ledger dealings (passes x l d Initiator message left reached comes h) Initiator = source common x l d reached Initiator
-source common two ledger dealings (passes x l d Responder message left reached comes h) Initiator = source common x l d reached Initiator
-source common two ledger dealings (aborts_of_itself x l d Initiator message left fault body aborts shown reached comes h) Initiator =
+    record { sends = taken-so (base_at Initiator common) x.a message body answers shown d.a.wrote h s.sends; encodes = encoded-more (rejects_in shown) d.a.wrote (transfer_log_of Initiator l.transfer_log).encoded s.encodes }
+source common two ledger exchanges (takes x l d Responder message left body answers shown reached comes h) Initiator = source common x l d reached Initiator
+source common two ledger exchanges (passes x l d Initiator message left reached comes h) Initiator = source common x l d reached Initiator
+source common two ledger exchanges (passes x l d Responder message left reached comes h) Initiator = source common x l d reached Initiator
+source common two ledger exchanges (aborts_of_itself x l d Initiator message left fault body aborts shown reached comes h) Initiator =
     let s = source common x l d reached Initiator in
     record { sends = failed-so (base_at Initiator common) x.a message fault body aborts shown d.a.wrote h s.sends; encodes = s.encodes }
-source common two ledger dealings (aborts_of_itself x l d Responder message left fault body aborts shown reached comes h) Initiator = source common x l d reached Initiator
-source common two ledger dealings (breaks x l d reached) Initiator =
+source common two ledger exchanges (aborts_of_itself x l d Responder message left fault body aborts shown reached comes h) Initiator = source common x l d reached Initiator
+source common two ledger exchanges (breaks x l d reached) Initiator =
     let s = source common x l d reached Initiator in
     record { sends = broke-so (base_at Initiator common) x.a d.a.wrote s.sends; encodes = s.encodes }
-source common two ledger dealings (calls x l d Responder call answer reached h) Responder =
+source common two ledger exchanges (calls x l d Responder call answer reached h) Responder =
     let s = source common x l d reached Responder in
-    record { sends = called-so common.mode (base_at Responder common) x.b call answer d.b.wrote s.sends; encodes = encoded-more (apdus_of (base_at Responder common) x.b call answer) d.b.wrote (deeds_of Responder l.deeds).encoded s.encodes }
-source common two ledger dealings (calls x l d Initiator call answer reached h) Responder = source common x l d reached Responder
-source common two ledger dealings (acts x l d Responder own reached h) Responder =
+    record { sends = called-so common.mode (base_at Responder common) x.b call answer d.b.wrote s.sends; encodes = encoded-more (apdus_of (base_at Responder common) x.b call answer) d.b.wrote (transfer_log_of Responder l.transfer_log).encoded s.encodes }
+source common two ledger exchanges (calls x l d Initiator call answer reached h) Responder = source common x l d reached Responder
+source common two ledger exchanges (acts x l d Responder own reached h) Responder =
     let s = source common x l d reached Responder in
-    record { sends = acted-so (base_at Responder common) x.b own d.b.wrote s.sends; encodes = encoded-so x.b l.shared.set own d.b.wrote (deeds_of Responder l.deeds).encoded s.sends s.encodes }
-source common two ledger dealings (acts x l d Initiator own reached h) Responder = source common x l d reached Responder
-source common two ledger dealings (takes x l d Responder message left body answers shown reached comes h) Responder =
+    record { sends = acted-so (base_at Responder common) x.b own d.b.wrote s.sends; encodes = encoded-so x.b l.shared.set own d.b.wrote (transfer_log_of Responder l.transfer_log).encoded s.sends s.encodes }
+source common two ledger exchanges (acts x l d Initiator own reached h) Responder = source common x l d reached Responder
+source common two ledger exchanges (takes x l d Responder message left body answers shown reached comes h) Responder =
     let s = source common x l d reached Responder in
-    record { sends = taken-so (base_at Responder common) x.b message body answers shown d.b.wrote h s.sends; encodes = encoded-more (rejects_in shown) d.b.wrote (deeds_of Responder l.deeds).encoded s.encodes }
-source common two ledger dealings (takes x l d Initiator message left body answers shown reached comes h) Responder = source common x l d reached Responder
-source common two ledger dealings (passes x l d Initiator message left reached comes h) Responder = source common x l d reached Responder
-source common two ledger dealings (passes x l d Responder message left reached comes h) Responder = source common x l d reached Responder
-source common two ledger dealings (aborts_of_itself x l d Responder message left fault body aborts shown reached comes h) Responder =
+    record { sends = taken-so (base_at Responder common) x.b message body answers shown d.b.wrote h s.sends; encodes = encoded-more (rejects_in shown) d.b.wrote (transfer_log_of Responder l.transfer_log).encoded s.encodes }
+source common two ledger exchanges (takes x l d Initiator message left body answers shown reached comes h) Responder = source common x l d reached Responder
+source common two ledger exchanges (passes x l d Initiator message left reached comes h) Responder = source common x l d reached Responder
+source common two ledger exchanges (passes x l d Responder message left reached comes h) Responder = source common x l d reached Responder
+source common two ledger exchanges (aborts_of_itself x l d Responder message left fault body aborts shown reached comes h) Responder =
     let s = source common x l d reached Responder in
     record { sends = failed-so (base_at Responder common) x.b message fault body aborts shown d.b.wrote h s.sends; encodes = s.encodes }
-source common two ledger dealings (aborts_of_itself x l d Initiator message left fault body aborts shown reached comes h) Responder = source common x l d reached Responder
-source common two ledger dealings (breaks x l d reached) Responder =
+source common two ledger exchanges (aborts_of_itself x l d Initiator message left fault body aborts shown reached comes h) Responder = source common x l d reached Responder
+source common two ledger exchanges (breaks x l d reached) Responder =
     let s = source common x l d reached Responder in
     record { sends = broke-so (base_at Responder common) x.b d.b.wrote s.sends; encodes = s.encodes }

@@ -24,19 +24,19 @@ use Rattle.agreement.specs.Sets.{Role, other}
 use Rattle.agreement.specs.Sets.Role.{Initiator, Responder}
 use Rattle.end_model.specs.Seen.{Free}
 use Rattle.end_model.specs.Acting.{apdus_of}
-use Rattle.end_model.specs.Pairs.{Common, base_at, Two, body_at, coming_to}
+use Rattle.end_model.specs.BothEnds.{Common, base_at, Two, body_at, coming_to}
 use Rattle.reliable_model.specs.Codecs.{Carries}
-use Rattle.reliable_model.specs.Goes.{Encoding, deeds_of, Ledger}
-use Rattle.reliable_model.specs.ReliablePairs.{reliable_pair, IsFit}
+use Rattle.reliable_model.specs.Ledgers.{Encoding, transfer_log_of, Ledger}
+use Rattle.reliable_model.specs.ReliableEnds.{reliable_common, IsFit}
 use Rattle.reliable_model.specs.Transfers.{TakesTransferEnd, IsNewest, ArrivesWhole}
 use Rattle.reliable_model.proofs.Laws.{reliable-whole}
-use Rattle.outcome_laws.specs.Deals.{rejects_in, still_after, Dealings, dealt_of, Deals, begins, calls, acts, takes, passes, fails as aborts_of_itself, breaks}
+use Rattle.outcome_laws.specs.Exchanges.{rejects_in, still_after, Exchanges, exchange_of, ReachedWithExchanges, begins, calls, acts, takes, passes, fails as aborts_of_itself, breaks}
 use Rattle.outcome_laws.specs.Outcomes.{IsIn, AreAnswers}
 use Rattle.outcome_laws.specs.Transferred.{TransferredAnswers}
 use Rattle.outcome_laws.proofs.Words.{association-none, settled-none, marks-none, transport-none, lost-more, discard-none}
 use Rattle.outcome_laws.proofs.Once.{keeps, still-keeps}
 use Rattle.outcome_laws.proofs.Writers.{within-more, answers-on, answers-append, quiet, values-show}
-use Rattle.outcome_laws.proofs.Places.{deals-go}
+use Rattle.outcome_laws.proofs.Places.{exchanges-reached}
 use Rattle.outcome_laws.proofs.Sources.{EncodedIn, Source, source}
 use Rattle.outcome_laws.proofs.Answering.{still-answers}
 
@@ -136,13 +136,13 @@ newest-in wrote e (x ∷ es) h k = subst (λ (y : Encoding). IsIn y.apdu wrote) 
 
 module _ (free : Free) (tables : Tables) (spellings : Spellings) (a b : Config) where
   abbrev common : Common
-  common = reliable_pair tables spellings a b
+  common = reliable_common tables spellings a b
 
   abbrev base : Role → Base
   base role = base_at role common
 
-  brings : (two : Two) (ledger : Ledger) (dealings : Dealings) (role : Role) (message : Message) (left : List Message) (later : Body) (answers : List Message) (shown : List Indication) → Carries free (base Initiator) → IsFit common → Deals common two ledger dealings → coming_to role two ≡ message ∷ left → react (base role) (body_at role two) message ≡ Takes later answers shown → (number : ℕ) → message ≡ Session (OfActivities (End number)) → (body_at role two).receiving.was_handed ≡ false → Brings (base role) (body_at role two) (dealt_of (other role) dealings).wrote
-  brings two ledger dealings role message left later answers shown carries fit reached comes h number m new =
+  brings : (two : Two) (ledger : Ledger) (exchanges : Exchanges) (role : Role) (message : Message) (left : List Message) (later : Body) (answers : List Message) (shown : List Indication) → Carries free (base Initiator) → IsFit common → ReachedWithExchanges common two ledger exchanges → coming_to role two ≡ message ∷ left → react (base role) (body_at role two) message ≡ Takes later answers shown → (number : ℕ) → message ≡ Session (OfActivities (End number)) → (body_at role two).receiving.was_handed ≡ false → Brings (base role) (body_at role two) (exchange_of (other role) exchanges).wrote
+  brings two ledger exchanges role message left later answers shown carries fit reached comes h number m new =
       let ends : TakesTransferEnd common two role =
       record {
         number = number;
@@ -154,45 +154,45 @@ module _ (free : Free) (tables : Tables) (spellings : Spellings) (a b : Config) 
         taken = ap (react (base role) (body_at role two)) (sym m) ∙ h;
         is_new = new;
       } in
-      let whole : ArrivesWhole common two ledger role = reliable-whole free tables spellings a b carries fit two ledger (deals-go common two ledger dealings reached) role ends in
-      let from : Source (dealt_of (other role) dealings).wrote (body_at (other role) two) (deeds_of (other role) ledger.deeds).encoded = source common two ledger dealings reached (other role) in
-      record { item = whole.item; arrived = whole.arrived; written = newest-in (dealt_of (other role) dealings).wrote _ (deeds_of (other role) ledger.deeds).encoded whole.encoded from.encodes }
+      let whole : ArrivesWhole common two ledger role = reliable-whole free tables spellings a b carries fit two ledger (exchanges-reached common two ledger exchanges reached) role ends in
+      let from : Source (exchange_of (other role) exchanges).wrote (body_at (other role) two) (transfer_log_of (other role) ledger.transfer_log).encoded = source common two ledger exchanges reached (other role) in
+      record { item = whole.item; arrived = whole.arrived; written = newest-in (exchange_of (other role) exchanges).wrote _ (transfer_log_of (other role) ledger.transfer_log).encoded whole.encoded from.encodes }
 
-  taken-answers : (two : Two) (ledger : Ledger) (dealings : Dealings) (role : Role) (message : Message) (left : List Message) (later : Body) (answers : List Message) (shown : List Indication) → Carries free (base Initiator) → IsFit common → Deals common two ledger dealings → coming_to role two ≡ message ∷ left → react (base role) (body_at role two) message ≡ Takes later answers shown → AreAnswers tables (dealt_of (other role) dealings).wrote (dealt_of role dealings).shown → AreAnswers tables (dealt_of (other role) dealings).wrote (still_after (base role) (body_at role two) message (dealt_of role dealings).shown ++ shown)
-  taken-answers two ledger dealings role message left later answers shown carries fit reached comes h k =
-      answers-append tables (dealt_of (other role) dealings).wrote (still_after (base role) (body_at role two) message (dealt_of role dealings).shown) shown
-      (still-answers tables (dealt_of (other role) dealings).wrote (base role) (body_at role two) message (dealt_of role dealings).shown k)
-      (subst (AreAnswers tables (dealt_of (other role) dealings).wrote) (sym (shows-so (base role) (body_at role two) message later answers shown h))
-      (message-answers (base role) (body_at role two) message (dealt_of (other role) dealings).wrote refl (brings two ledger dealings role message left later answers shown carries fit reached comes h)))
+  taken-answers : (two : Two) (ledger : Ledger) (exchanges : Exchanges) (role : Role) (message : Message) (left : List Message) (later : Body) (answers : List Message) (shown : List Indication) → Carries free (base Initiator) → IsFit common → ReachedWithExchanges common two ledger exchanges → coming_to role two ≡ message ∷ left → react (base role) (body_at role two) message ≡ Takes later answers shown → AreAnswers tables (exchange_of (other role) exchanges).wrote (exchange_of role exchanges).shown → AreAnswers tables (exchange_of (other role) exchanges).wrote (still_after (base role) (body_at role two) message (exchange_of role exchanges).shown ++ shown)
+  taken-answers two ledger exchanges role message left later answers shown carries fit reached comes h k =
+      answers-append tables (exchange_of (other role) exchanges).wrote (still_after (base role) (body_at role two) message (exchange_of role exchanges).shown) shown
+      (still-answers tables (exchange_of (other role) exchanges).wrote (base role) (body_at role two) message (exchange_of role exchanges).shown k)
+      (subst (AreAnswers tables (exchange_of (other role) exchanges).wrote) (sym (shows-so (base role) (body_at role two) message later answers shown h))
+      (message-answers (base role) (body_at role two) message (exchange_of (other role) exchanges).wrote refl (brings two ledger exchanges role message left later answers shown carries fit reached comes h)))
 
   more-wrote : (more wrote : List Apdu) (shown : List Indication) → AreAnswers tables wrote shown → AreAnswers tables (more ++ wrote) shown
   more-wrote more wrote shown h = answers-on tables wrote (more ++ wrote) shown (within-more more wrote) h
 
-  all : (two : Two) (ledger : Ledger) (dealings : Dealings) → Carries free (base Initiator) → IsFit common → Deals common two ledger dealings → (role : Role) → AreAnswers tables (dealt_of (other role) dealings).wrote (dealt_of role dealings).shown
-  all two ledger dealings c f begins Initiator = tt
-  all two ledger dealings c f begins Responder = tt
-  all two ledger dealings c f (calls x l d Initiator call answer reached h) Initiator = all x l d c f reached Initiator
-  all two ledger dealings c f (calls x l d Responder call answer reached h) Initiator = more-wrote (apdus_of (base Responder) x.b call answer) d.b.wrote d.a.shown (all x l d c f reached Initiator)
-  all two ledger dealings c f (acts x l d Initiator own reached h) Initiator = all x l d c f reached Initiator
-  all two ledger dealings c f (acts x l d Responder own reached h) Initiator = all x l d c f reached Initiator
-  all two ledger dealings c f (takes x l d Initiator message left body answers shown reached comes h) Initiator = taken-answers x l d Initiator message left body answers shown c f reached comes h (all x l d c f reached Initiator)
-  all two ledger dealings c f (takes x l d Responder message left body answers shown reached comes h) Initiator = more-wrote (rejects_in shown) d.b.wrote d.a.shown (all x l d c f reached Initiator)
-  all two ledger dealings c f (passes x l d Initiator message left reached comes h) Initiator = all x l d c f reached Initiator
-  all two ledger dealings c f (aborts_of_itself x l d Initiator message left fault body aborts shown reached comes h) Initiator = all x l d c f reached Initiator
-  all two ledger dealings c f (passes x l d Responder message left reached comes h) Initiator = all x l d c f reached Initiator
-  all two ledger dealings c f (aborts_of_itself x l d Responder message left fault body aborts shown reached comes h) Initiator = all x l d c f reached Initiator
-  all two ledger dealings c f (breaks x l d reached) Initiator = all x l d c f reached Initiator
-  all two ledger dealings c f (calls x l d Responder call answer reached h) Responder = all x l d c f reached Responder
-  all two ledger dealings c f (calls x l d Initiator call answer reached h) Responder = more-wrote (apdus_of (base Initiator) x.a call answer) d.a.wrote d.b.shown (all x l d c f reached Responder)
-  all two ledger dealings c f (acts x l d Responder own reached h) Responder = all x l d c f reached Responder
-  all two ledger dealings c f (acts x l d Initiator own reached h) Responder = all x l d c f reached Responder
-  all two ledger dealings c f (takes x l d Responder message left body answers shown reached comes h) Responder = taken-answers x l d Responder message left body answers shown c f reached comes h (all x l d c f reached Responder)
-  all two ledger dealings c f (takes x l d Initiator message left body answers shown reached comes h) Responder = more-wrote (rejects_in shown) d.a.wrote d.b.shown (all x l d c f reached Responder)
-  all two ledger dealings c f (passes x l d Initiator message left reached comes h) Responder = all x l d c f reached Responder
-  all two ledger dealings c f (aborts_of_itself x l d Initiator message left fault body aborts shown reached comes h) Responder = all x l d c f reached Responder
-  all two ledger dealings c f (passes x l d Responder message left reached comes h) Responder = all x l d c f reached Responder
-  all two ledger dealings c f (aborts_of_itself x l d Responder message left fault body aborts shown reached comes h) Responder = all x l d c f reached Responder
-  all two ledger dealings c f (breaks x l d reached) Responder = all x l d c f reached Responder
+  all : (two : Two) (ledger : Ledger) (exchanges : Exchanges) → Carries free (base Initiator) → IsFit common → ReachedWithExchanges common two ledger exchanges → (role : Role) → AreAnswers tables (exchange_of (other role) exchanges).wrote (exchange_of role exchanges).shown
+  all two ledger exchanges c f begins Initiator = tt
+  all two ledger exchanges c f begins Responder = tt
+  all two ledger exchanges c f (calls x l d Initiator call answer reached h) Initiator = all x l d c f reached Initiator
+  all two ledger exchanges c f (calls x l d Responder call answer reached h) Initiator = more-wrote (apdus_of (base Responder) x.b call answer) d.b.wrote d.a.shown (all x l d c f reached Initiator)
+  all two ledger exchanges c f (acts x l d Initiator own reached h) Initiator = all x l d c f reached Initiator
+  all two ledger exchanges c f (acts x l d Responder own reached h) Initiator = all x l d c f reached Initiator
+  all two ledger exchanges c f (takes x l d Initiator message left body answers shown reached comes h) Initiator = taken-answers x l d Initiator message left body answers shown c f reached comes h (all x l d c f reached Initiator)
+  all two ledger exchanges c f (takes x l d Responder message left body answers shown reached comes h) Initiator = more-wrote (rejects_in shown) d.b.wrote d.a.shown (all x l d c f reached Initiator)
+  all two ledger exchanges c f (passes x l d Initiator message left reached comes h) Initiator = all x l d c f reached Initiator
+  all two ledger exchanges c f (aborts_of_itself x l d Initiator message left fault body aborts shown reached comes h) Initiator = all x l d c f reached Initiator
+  all two ledger exchanges c f (passes x l d Responder message left reached comes h) Initiator = all x l d c f reached Initiator
+  all two ledger exchanges c f (aborts_of_itself x l d Responder message left fault body aborts shown reached comes h) Initiator = all x l d c f reached Initiator
+  all two ledger exchanges c f (breaks x l d reached) Initiator = all x l d c f reached Initiator
+  all two ledger exchanges c f (calls x l d Responder call answer reached h) Responder = all x l d c f reached Responder
+  all two ledger exchanges c f (calls x l d Initiator call answer reached h) Responder = more-wrote (apdus_of (base Initiator) x.a call answer) d.a.wrote d.b.shown (all x l d c f reached Responder)
+  all two ledger exchanges c f (acts x l d Responder own reached h) Responder = all x l d c f reached Responder
+  all two ledger exchanges c f (acts x l d Initiator own reached h) Responder = all x l d c f reached Responder
+  all two ledger exchanges c f (takes x l d Responder message left body answers shown reached comes h) Responder = taken-answers x l d Responder message left body answers shown c f reached comes h (all x l d c f reached Responder)
+  all two ledger exchanges c f (takes x l d Initiator message left body answers shown reached comes h) Responder = more-wrote (rejects_in shown) d.a.wrote d.b.shown (all x l d c f reached Responder)
+  all two ledger exchanges c f (passes x l d Initiator message left reached comes h) Responder = all x l d c f reached Responder
+  all two ledger exchanges c f (aborts_of_itself x l d Initiator message left fault body aborts shown reached comes h) Responder = all x l d c f reached Responder
+  all two ledger exchanges c f (passes x l d Responder message left reached comes h) Responder = all x l d c f reached Responder
+  all two ledger exchanges c f (aborts_of_itself x l d Responder message left fault body aborts shown reached comes h) Responder = all x l d c f reached Responder
+  all two ledger exchanges c f (breaks x l d reached) Responder = all x l d c f reached Responder
 
 pub transferred-answers : TransferredAnswers
-transferred-answers free tables spellings a b carries fit two ledger dealings reached role = all free tables spellings a b two ledger dealings carries fit reached role
+transferred-answers free tables spellings a b carries fit two ledger exchanges reached role = all free tables spellings a b two ledger exchanges carries fit reached role

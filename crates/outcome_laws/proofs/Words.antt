@@ -27,7 +27,7 @@ use Rattle.end_model.specs.end_rules.TakesData.{with_parts, values_taken, settle
 use Rattle.end_model.specs.end_rules.TakesMarks.{marked_in, mark_shown, confirmed_in, with_turn, shown_turn, priority_in, shown_plea, shown_please, shown_of_mark}
 use Rattle.end_model.specs.end_rules.TakesActivities.{invocation_in, cut_invocation, shown_cut, received, handed_up, shown_of_activity}
 use Rattle.end_model.specs.end_rules.Reacting.{Reaction, Passes, Takes, Fails, fails, after_word, shown_of_word, fault_above, word_fault, contexts_of_word, on_word, react_to_word, on_transport, react_to_transport, react_to_session, react_alive, react}
-use Rattle.outcome_laws.specs.Deals.{Asked, kept_unless, still_after}
+use Rattle.outcome_laws.specs.Exchanges.{Asked, kept_unless, still_after}
 use Rattle.outcome_laws.proofs.Open.{Once, once-new, once-still, once-cut, once-close}
 use Rattle.outcome_laws.proofs.Shown.{notes_in, notes-append}
 use Rattle.outcome_laws.proofs.Hearing.{values-once}

@@ -18,7 +18,7 @@ use Rattle.end_model.specs.end_rules.Messages.{ValueContent, Remote, DataValue, 
 use Rattle.end_model.specs.end_rules.State.{Body, OpenCall, Calls, opened_with, close}
 use Rattle.end_model.specs.end_rules.Invoking.{carrier_in}
 use Rattle.end_model.specs.end_rules.Hearing.{Rejecting, Heard, rejected, told, unless_problem, invoke_problem, invoked, result_problem, hear_result_of, error_problem, error_told, hear_error_of, is_of_invocation, hear_reject, hear, carried_in, code_returned, value_returned, value_in, head_of_apdu, Taken, sent_on, queued, with_reject, on_heard, take_head, head_of, take_values}
-use Rattle.outcome_laws.specs.Deals.{reject_in, rejects_in}
+use Rattle.outcome_laws.specs.Exchanges.{reject_in, rejects_in}
 use Rattle.outcome_laws.specs.Outcomes.{IsIn, value_of, Answered, AreAnswers}
 use Rattle.outcome_laws.proofs.Shown.{in-later, each-on, each-append, each-quiet, notes_in, unnoted}
 use Rattle.outcome_laws.proofs.Hearing.{with-reject}

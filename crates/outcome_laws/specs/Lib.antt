@@ -1,4 +1,4 @@
-pub mod Deals
+pub mod Exchanges
 pub mod Outcomes
 pub mod Links
 pub mod Transferred

@@ -1,4 +1,4 @@
--- Linked invocations that an end is shown: each is linked to an own invocation, whose operation may have it linked (X.880 8.3).
+-- Linked invocations that an end is shown: each is linked to an own invocation, whose operation may have it linked (X.880 8.2.6).
 use Rattle.std.specs.Prelude.{◌≡◌, ℕ, ℤ, List, [], ◌∷◌, ◌++◌, true, Some}
 use Rattle.stub_tables.specs.declared.tables.Tables.{Tables}
 use Rattle.stub_tables.specs.Lookup.{operation_at}
@@ -6,7 +6,7 @@ use Rattle.dialogue.specs.declared.indication.Indication.{Indication}
 use Rattle.dialogue.specs.declared.indication.Indication.TheVariants as indications
 use Rattle.end_model.specs.end_rules.Invoking.{is_linked_to}
 use Rattle.agreement.specs.Sets.{Role}
-use Rattle.outcome_laws.specs.Deals.{Asked, dealt_of, EverDeals}
+use Rattle.outcome_laws.specs.Exchanges.{Asked, exchange_of, EverExchanges}
 use Rattle.outcome_laws.specs.Outcomes.{IsIn}
 
 -- to which invocation one of this operation is linked
@@ -34,4 +34,4 @@ AllFit tables asked (link ∷ links) = Fits tables asked link × AllFit tables a
 
 abbrev pub LinksAreAllowed : Type 0
 LinksAreAllowed =
-    EverDeals (λ tables two ledger dealings. (role : Role) → AllFit tables (dealt_of role dealings).asked (links_in (dealt_of role dealings).shown))
+    EverExchanges (λ tables two ledger exchanges. (role : Role) → AllFit tables (exchange_of role exchanges).asked (links_in (exchange_of role exchanges).shown))

@@ -13,9 +13,9 @@ use Rattle.dialogue.specs.declared.indication.Indication.TheVariants as indicati
 use Rattle.end_model.specs.end_rules.Base.{is_reliable}
 use Rattle.end_model.specs.end_rules.Hearing.{is_of_invocation}
 use Rattle.agreement.specs.Sets.{Role, other}
-use Rattle.end_model.specs.Pairs.{Common, Two}
-use Rattle.reliable_model.specs.Goes.{Ledger}
-use Rattle.outcome_laws.specs.Deals.{outcome_in, outcomes_in, Asked, Dealings, dealt_of, Deals, EverDeals, AreDistinct}
+use Rattle.end_model.specs.BothEnds.{Common, Two}
+use Rattle.reliable_model.specs.Ledgers.{Ledger}
+use Rattle.outcome_laws.specs.Exchanges.{outcome_in, outcomes_in, Asked, Exchanges, exchange_of, ReachedWithExchanges, EverExchanges, AreDistinct}
 
 abbrev pub IsIn : {X : Type 0} → X → List X → Type 0
 IsIn x [] = ⊥
@@ -78,14 +78,14 @@ AreAllowed tables asked shown = EachOutcome (Allowed tables asked) shown
 
 -- In every mode each outcome that an end is told is one of an own invocation, of a kind that its operation allows.
 abbrev pub OutcomesAreAllowed : Type 0
-OutcomesAreAllowed = EverDeals (λ tables two ledger dealings. (role : Role) → AreAllowed tables (dealt_of role dealings).asked (dealt_of role dealings).shown)
+OutcomesAreAllowed = EverExchanges (λ tables two ledger exchanges. (role : Role) → AreAllowed tables (exchange_of role exchanges).asked (exchange_of role exchanges).shown)
 
 -- of no invocation an end is told two outcomes
 abbrev pub OneOutcome : Type 0
-OneOutcome = EverDeals (λ tables two ledger dealings. (role : Role) → AreDistinct (outcomes_in (dealt_of role dealings).shown))
+OneOutcome = EverExchanges (λ tables two ledger exchanges. (role : Role) → AreDistinct (outcomes_in (exchange_of role exchanges).shown))
 
 -- Outside reliable mode each outcome that an end is told is an APDU that the other end wrote.
 abbrev pub OutcomesAreAnswers : Type 0
 OutcomesAreAnswers =
-    (common : Common) (two : Two) (ledger : Ledger) (dealings : Dealings) → is_reliable common.mode ≡ false → Deals common two ledger dealings →
-    (role : Role) → AreAnswers common.tables (dealt_of (other role) dealings).wrote (dealt_of role dealings).shown
+    (common : Common) (two : Two) (ledger : Ledger) (exchanges : Exchanges) → is_reliable common.mode ≡ false → ReachedWithExchanges common two ledger exchanges →
+    (role : Role) → AreAnswers common.tables (exchange_of (other role) exchanges).wrote (exchange_of role exchanges).shown

@@ -5,9 +5,9 @@ use Rattle.stub_tables.specs.declared.operation.Code.TheVariants.{Local}
 use Rattle.dialogue.specs.declared.config.Mode.TheVariants.{Bare}
 use Rattle.end_model.specs.end_rules.Cases.{calc, plain_spellings, config_of}
 use Rattle.end_model.specs.end_rules.Messages.{Message}
-use Rattle.end_model.specs.Pairs.{Common, Two}
-use Rattle.reliable_model.specs.Goes.{Ledger}
-use Rattle.outcome_laws.specs.Deals.{outcomes_in, Asked, Dealings, Deals}
+use Rattle.end_model.specs.BothEnds.{Common, Two}
+use Rattle.reliable_model.specs.Ledgers.{Ledger}
+use Rattle.outcome_laws.specs.Exchanges.{outcomes_in, Asked, Exchanges, ReachedWithExchanges}
 
 abbrev pub bare_calc : Common
 bare_calc =
@@ -17,11 +17,11 @@ bare_calc =
 pub record OneAnswer : Type 0 where
   pub two : Two
   pub ledger : Ledger
-  pub dealings : Dealings
-  pub deals : Deals bare_calc two ledger dealings
-  pub asked : dealings.a.asked ≡ record { id = pos 1; operation = 0 } ∷ []
-  pub invoked : dealings.a.wrote ≡ apdus.Invoke (pos 1) None (Local (pos 1)) None ∷ []
-  pub answered : dealings.b.wrote ≡ apdus.Result (pos 1) None ∷ []
-  pub told : outcomes_in dealings.a.shown ≡ pos 1 ∷ []
-  pub untold : outcomes_in dealings.b.shown ≡ []
+  pub exchanges : Exchanges
+  pub reached_exchanges : ReachedWithExchanges bare_calc two ledger exchanges
+  pub asked : exchanges.a.asked ≡ record { id = pos 1; operation = 0 } ∷ []
+  pub invoked : exchanges.a.wrote ≡ apdus.Invoke (pos 1) None (Local (pos 1)) None ∷ []
+  pub answered : exchanges.b.wrote ≡ apdus.Result (pos 1) None ∷ []
+  pub told : outcomes_in exchanges.a.shown ≡ pos 1 ∷ []
+  pub untold : outcomes_in exchanges.b.shown ≡ []
   pub coming : two.to_a ≡ []

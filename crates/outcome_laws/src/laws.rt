@@ -1,6 +1,6 @@
 //! Each law is the contract of a function with an empty body.
 
-ghost use Rattle.outcome_laws.specs.Deals.{AllDeal, DealsGo, EachMetOrComing};
+ghost use Rattle.outcome_laws.specs.Exchanges.{AllHaveExchanges, ExchangesAreReached, EachMetOrComing};
 ghost use Rattle.outcome_laws.specs.Links.{LinksAreAllowed};
 ghost use Rattle.outcome_laws.specs.Outcomes.{OneOutcome, OutcomesAreAllowed, OutcomesAreAnswers};
 ghost use Rattle.outcome_laws.specs.Transferred.{TransferredAnswers};
@@ -16,8 +16,8 @@ pub fn one_outcome()
     ensures allowed { OutcomesAreAllowed }
     ensures links { LinksAreAllowed }
     ensures places { EachMetOrComing }
-    ensures goes { DealsGo }
-    ensures all { AllDeal }
+    ensures goes { ExchangesAreReached }
+    ensures all { AllHaveExchanges }
 {}
 
 /// Each outcome that an end is told is an answer of the other end: an APDU that it handed in, or a

@@ -106,8 +106,8 @@ arcs_judged r arcs small one value =
 -- all is read
 pub reads_end : (os : List ℕ) (i number : ℕ) (arcs : List ℕ) (r total : Option (List ℕ)) → length os ≤ i → r ≡ judged arcs
     → arcs_behind arcs (subidentifiers_of number false (drop i os)) ≡ total → r ≡ total
-reads_end os i number arcs r total le judge so_far =
-    judge ∙ sym (finished arcs) ∙ sym (ap (λ (x : List ℕ). arcs_behind arcs (subidentifiers_of number false x)) (drop_all i os le)) ∙ so_far
+reads_end os i number arcs r total le some_or_refuse so_far =
+    some_or_refuse ∙ sym (finished arcs) ∙ sym (ap (λ (x : List ℕ). arcs_behind arcs (subidentifiers_of number false x)) (drop_all i os le)) ∙ so_far
   where
     finished : (arcs : List ℕ) → arcs_behind arcs (Some []) ≡ judged arcs
     finished [] = refl

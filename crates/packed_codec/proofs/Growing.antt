@@ -13,7 +13,7 @@ use Rattle.packed_codec.specs.declared.fault.PackedFault.TheVariants as faults
 use Rattle.packed_codec.specs.Reading.{Spot, Reading, ◌>>=◌, within}
 use Rattle.packed_codec.specs.Fields.{announced_at, field_at, octet_at, count_at}
 use Rattle.packed_codec.specs.Numbers.{is_size}
-use Rattle.packed_codec.specs.Rules.{Reader, judge, boolean_rule, boolean_at, null_at, sized_at, number_at, string_at, bits_at, bits_size, bits_rule, present_at, marked_at, part_at, parts_at, sequence_at, items_at, spent, list_at, alternative_at, choice_at, dead, read_by, set_item_at, set_items_at, set_of_at}
+use Rattle.packed_codec.specs.Rules.{Reader, some_or_refuse, boolean_rule, boolean_at, null_at, sized_at, number_at, string_at, bits_at, bits_size, bits_rule, present_at, marked_at, part_at, parts_at, sequence_at, items_at, spent, list_at, alternative_at, choice_at, dead, read_by, set_item_at, set_items_at, set_of_at}
 use Rattle.asn1_types.specs.Writing.{written}
 use Rattle.asn1_types.specs.Rising.{behind_last}
 
@@ -99,7 +99,7 @@ sized_grows : (limit place : ℕ) (few : ℕ → Bool) (rule : List ℕ → Opti
 unfolding sized_at
 sized_grows limit place few rule n s more =
     Grows-bind (with_spot more) (with_spot more) (announced_at limit place (few n) n s) (announced_at limit place (few n) n (grown more s)) _ _ (announced_grows limit place (few n) n s more) (λ c e.
-    Grows-same (with_spot more) (judge s.place (rule c.0)) _ _ (λ v. refl))
+    Grows-same (with_spot more) (some_or_refuse s.place (rule c.0)) _ _ (λ v. refl))
 
 number_grows : (rule : List ℕ → Option Value) → GrowsRun (number_at rule)
 unfolding number_at
@@ -122,7 +122,7 @@ unfolding boolean_at
 boolean_grows = record {
   grows = λ limit s more.
       Grows-bind (with_spot more) (with_spot more) (octet_at limit s) (octet_at limit (grown more s)) _ _ (octet_grows limit s more) (λ o e.
-      Grows-same (with_spot more) (judge s.place (boolean_rule o.0)) _ _ (λ v. refl));
+      Grows-same (with_spot more) (some_or_refuse s.place (boolean_rule o.0)) _ _ (λ v. refl));
 }
 
 null_grows : GrowsRun null_at

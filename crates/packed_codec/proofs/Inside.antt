@@ -14,7 +14,7 @@ use Rattle.packed_codec.specs.declared.fault.PackedFault.TheVariants as faults
 use Rattle.packed_codec.specs.Reading.{Spot, Reading, ◌>>=◌, within}
 use Rattle.packed_codec.specs.Fields.{moved, announced_at, field_at, octet_at, count_at}
 use Rattle.packed_codec.specs.Numbers.{is_size}
-use Rattle.packed_codec.specs.Rules.{Reader, judge, boolean_rule, boolean_at, null_at, sized_at, number_at, string_at, bits_at, bits_size, bits_rule, present_at, part_at, parts_at, sequence_at, items_at, spent, list_at, alternative_at, choice_at, dead, read_by, set_item_at, set_items_at, set_of_at}
+use Rattle.packed_codec.specs.Rules.{Reader, some_or_refuse, boolean_rule, boolean_at, null_at, sized_at, number_at, string_at, bits_at, bits_size, bits_rule, present_at, part_at, parts_at, sequence_at, items_at, spent, list_at, alternative_at, choice_at, dead, read_by, set_item_at, set_items_at, set_of_at}
 use Rattle.asn1_types.specs.Writing.{written}
 use Rattle.asn1_types.specs.Rising.{behind_last}
 
@@ -40,7 +40,7 @@ either_inside : {A : Type 0} (a : A → Spot) (end : ℕ) (b : Bool) (r s : Read
 either_inside a end true r s h k = h
 either_inside a end false r s h k = k
 
-judged_inside : {B : Type 0} (b : B → Spot) (end place : ℕ) (o : Option Value) (f : Value → Reading B) → place ≤ end → ((v : Value) → Inside b end (f v)) → Inside b end (judge place o >>= f)
+judged_inside : {B : Type 0} (b : B → Spot) (end place : ℕ) (o : Option Value) (f : Value → Reading B) → place ≤ end → ((v : Value) → Inside b end (f v)) → Inside b end (some_or_refuse place o >>= f)
 judged_inside b end place None f le k = le
 judged_inside b end place (Some v) f le k = k v
 

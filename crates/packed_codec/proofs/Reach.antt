@@ -14,7 +14,7 @@ use Rattle.packed_codec.specs.Reading.{Spot, Reading, ◌>>=◌, within}
 use Rattle.packed_codec.specs.Fields.{moved, announced_at, field_at, octet_at, count_at}
 use Rattle.packed_codec.specs.Numbers.{is_size}
 use Rattle.packed_codec.specs.Laws.{ShortIsWithin}
-use Rattle.packed_codec.specs.Rules.{start, reads, read_at, Reader, judge, boolean_rule, boolean_at, null_at, sized_at, number_at, string_at, bits_at, bits_size, bits_rule, present_at, part_at, parts_at, sequence_at, items_at, spent, list_at, alternative_at, choice_at, dead, read_by, set_item_at, set_items_at, set_of_at}
+use Rattle.packed_codec.specs.Rules.{start, reads, read_at, Reader, some_or_refuse, boolean_rule, boolean_at, null_at, sized_at, number_at, string_at, bits_at, bits_size, bits_rule, present_at, part_at, parts_at, sequence_at, items_at, spent, list_at, alternative_at, choice_at, dead, read_by, set_item_at, set_items_at, set_of_at}
 use Rattle.asn1_types.specs.Writing.{written}
 use Rattle.asn1_types.specs.Rising.{behind_last}
 
@@ -45,7 +45,7 @@ either_bounded : {A : Type 0} (a : A → Spot) (limit end : ℕ) (b : Bool) (r s
 either_bounded a limit end true r s h k = h
 either_bounded a limit end false r s h k = k
 
-judged_bounded : {B : Type 0} (b : B → Spot) (limit end place : ℕ) (o : Option Value) (f : Value → Reading B) → ((v : Value) → Bounded b limit end (f v)) → Bounded b limit end (judge place o >>= f)
+judged_bounded : {B : Type 0} (b : B → Spot) (limit end place : ℕ) (o : Option Value) (f : Value → Reading B) → ((v : Value) → Bounded b limit end (f v)) → Bounded b limit end (some_or_refuse place o >>= f)
 judged_bounded b limit end place None f k = tt
 judged_bounded b limit end place (Some v) f k = k v
 

@@ -13,7 +13,7 @@ use Rattle.ber_spelling.specs.Octets.{AreOctets}
 use Rattle.packed_codec.specs.Reading.{Spot}
 use Rattle.packed_codec.specs.Fields.{announced_at, octet_at, count_at}
 use Rattle.packed_codec.specs.Numbers.{is_size}
-use Rattle.packed_codec.specs.Rules.{Reader, judge, boolean_rule, boolean_at, null_at, sized_at, number_at, string_at, bits_at, bits_size, bits_rule}
+use Rattle.packed_codec.specs.Rules.{Reader, some_or_refuse, boolean_rule, boolean_at, null_at, sized_at, number_at, string_at, bits_at, bits_size, bits_rule}
 use Rattle.packed_codec.specs.Writing.{Writer, counted, with_size, boolean_written, nothing_written, bits_written, items}
 use Rattle.packed_codec.proofs.Taking.{bind_ok, if_ok, ok_is, Took, took_octets, took_text, announced_found, announced_again, octet_found, octet_again, count_found, count_again}
 
@@ -56,7 +56,7 @@ took_as test write limit s v to c w f none t = record {
   fit = f;
 }
 
-judge_is : (place : ℕ) (o : Option Value) (v : Value) → judge place o ≡ Ok v → o ≡ Some v
+judge_is : (place : ℕ) (o : Option Value) (v : Value) → some_or_refuse place o ≡ Ok v → o ≡ Some v
 judge_is place None v e = absurd cc
 judge_is place (Some x) v e = ap (λ (y : Value). Some y) (ok_is x v e)
 
@@ -74,7 +74,7 @@ unfolding boolean_at
 boolean_found = record {
   found = λ limit s v to are here e.
       let b = bind_ok (octet_at limit s) _ (v, to) e in
-      let c = bind_ok (judge s.place (boolean_rule b.0.0)) _ (v, to) b.2 in
+      let c = bind_ok (some_or_refuse s.place (boolean_rule b.0.0)) _ (v, to) b.2 in
       let same = ok_is {A = Value × Spot} (c.0, b.0.1) (v, to) c.2 in
       let x = boolean_is b.0.0 c.0 (judge_is s.place (boolean_rule b.0.0) c.0 c.1) in
       subst (λ (y : Value × Spot). ReadAs boolean_fits boolean_written limit s y.0 y.1) same
@@ -150,7 +150,7 @@ sized_found : (test : Value → Bool) (write : Writer) (wrap : List ℕ → List
 unfolding sized_at
 sized_found test write wrap few rule h limit place n s v to are e =
     let b = bind_ok (announced_at limit place (few n) n s) _ (v, to) e in
-    let c = bind_ok (judge s.place (rule b.0.0)) _ (v, to) b.2 in
+    let c = bind_ok (some_or_refuse s.place (rule b.0.0)) _ (v, to) b.2 in
     let same = ok_is {A = Value × Spot} (c.0, b.0.1) (v, to) c.2 in
     let f = announced_found limit place (few n) n s b.0.1 b.0.0 b.1 in
     let x = h.sound b.0.0 c.0 (took_text limit s b.0.1 b.0.0 f.took are) (ap few f.len ∙ f.allow) (judge_is s.place (rule b.0.0) c.0 c.1) in

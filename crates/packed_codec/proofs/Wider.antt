@@ -15,7 +15,7 @@ use Rattle.packed_codec.specs.Fields.{moved, announced_at, field_at, octet_at, c
 use Rattle.packed_codec.specs.Numbers.{is_size}
 use Rattle.packed_codec.specs.Laws.{WiderStays, WiderIsLong}
 use Rattle.packed_codec.proofs.Reach.{used_within}
-use Rattle.packed_codec.specs.Rules.{start, reads, read_at, Reader, judge, boolean_rule, boolean_at, null_at, sized_at, number_at, string_at, bits_at, bits_size, bits_rule, present_at, marked_at, part_at, parts_at, sequence_at, items_at, spent, list_at, alternative_at, choice_at, dead, read_by, set_item_at, set_items_at, set_of_at}
+use Rattle.packed_codec.specs.Rules.{start, reads, read_at, Reader, some_or_refuse, boolean_rule, boolean_at, null_at, sized_at, number_at, string_at, bits_at, bits_size, bits_rule, present_at, marked_at, part_at, parts_at, sequence_at, items_at, spent, list_at, alternative_at, choice_at, dead, read_by, set_item_at, set_items_at, set_of_at}
 use Rattle.asn1_types.specs.Writing.{written}
 use Rattle.asn1_types.specs.Rising.{behind_last}
 

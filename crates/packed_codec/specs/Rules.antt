@@ -25,9 +25,9 @@ Reader = ℕ → Spot → Reading (Value × Spot)
 -- ---- single octets, numbers and strings
 
 -- the field at a place, if its rule makes it a value
-abbrev pub judge : ℕ → Option Value → Reading Value
-judge place None = refuse place
-judge place (Some v) = Ok v
+abbrev pub some_or_refuse : ℕ → Option Value → Reading Value
+some_or_refuse place None = refuse place
+some_or_refuse place (Some v) = Ok v
 
 abbrev pub boolean_rule : ℕ → Option Value
 boolean_rule zero = Some (boolean false)
@@ -37,7 +37,7 @@ boolean_rule (suc (suc n)) = None
 unfoldable pub boolean_at : Reader
 boolean_at limit s = do
   o ← octet_at limit s
-  v ← judge s.place (boolean_rule o.0)
+  v ← some_or_refuse s.place (boolean_rule o.0)
   Ok (v, o.1)
 
 unfoldable pub null_at : Reader
@@ -47,7 +47,7 @@ null_at limit s = Ok (null, s)
 unfoldable pub sized_at : ℕ → ℕ → (ℕ → Bool) → (List ℕ → Option Value) → ℕ × Spot → Reading (Value × Spot)
 sized_at limit place few rule n = do
   c ← announced_at limit place (few n.0) n.0 n.1
-  v ← judge n.1.place (rule c.0)
+  v ← some_or_refuse n.1.place (rule c.0)
   Ok (v, c.1)
 
 -- a size of one octet, 1 to 8; another announces nothing

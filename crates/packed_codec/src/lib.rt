@@ -22,5 +22,5 @@ pub use laws::{
     wider_stays, written_is_read,
 };
 pub use measure::{arcs_len, integer_len, packed_len};
-pub use whole_values::{LIMIT, Read, packed_read, packed_read_within};
+pub use whole_values::{MOST_VALUE_OCTETS, Read, packed_read, packed_read_within};
 pub use writing::packed_write;

@@ -14,7 +14,7 @@ use asn1_types::{TypeId, TypeTable, Val};
 use std::alloc::Global;
 
 /// How many octets a value may have.
-pub const LIMIT: u32 = 262_144;
+pub const MOST_VALUE_OCTETS: u32 = 262_144;
 
 /// How many items the lists of one value may have together.
 const MOST_ITEMS: u32 = 131_072;
@@ -48,7 +48,7 @@ pub fn packed_read(
     ensures exact { Gives (λ r. (r.value, r.used)) result
         (read_at table.now of.0 most_octets bytes.now) }
 {
-    read_whole(alloc, table, of, bytes, LIMIT)
+    read_whole(alloc, table, of, bytes, MOST_VALUE_OCTETS)
 }
 
 /// As `packed_read`, with at most `most` octets.

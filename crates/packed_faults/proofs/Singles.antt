@@ -10,7 +10,7 @@ use Rattle.ber_spelling.specs.Octets.{AreOctets}
 use Rattle.packed_codec.specs.Reading.{Spot, Reading, ◌>>=◌, refuse}
 use Rattle.packed_codec.specs.Fields.{announced_at, octet_at, count_at}
 use Rattle.packed_codec.specs.Numbers.{is_size}
-use Rattle.packed_codec.specs.Rules.{judge, boolean_rule, boolean_at, null_at, sized_at, number_at, string_at, bits_size, bits_rule, bits_at}
+use Rattle.packed_codec.specs.Rules.{some_or_refuse, boolean_rule, boolean_at, null_at, sized_at, number_at, string_at, bits_size, bits_rule, bits_at}
 use Rattle.packed_codec.specs.Writing.{Writer, counted, with_size}
 use Rattle.packed_codec.proofs.Taking.{done, announced_found}
 use Rattle.packed_codec.proofs.Spelled.{Sized}
@@ -31,10 +31,10 @@ no_rule (suc zero) le = absurd (omega arith)
 no_rule (suc (suc n)) le = refl
 
 abbrev judged : ℕ → ℕ × Spot → Reading (Value × Spot)
-judged place o = judge place (boolean_rule o.0) >>= λ v. done {A = Value × Spot} (v, o.1)
+judged place o = some_or_refuse place (boolean_rule o.0) >>= λ v. done {A = Value × Spot} (v, o.1)
 
 abbrev judged_so : ℕ → Spot → Option Value → Reading (Value × Spot)
-judged_so place to o = judge place o >>= λ v. done {A = Value × Spot} (v, to)
+judged_so place to o = some_or_refuse place o >>= λ v. done {A = Value × Spot} (v, to)
 
 pub judge_err : (place : ℕ) (to : Spot) (o : Option Value) (f : PackedFault) → judged_so place to o ≡ Err f → (o ≡ None) × IsAt place f
 judge_err place to None f e = (refl, refusal_is {A = Value × Spot} place f e)
@@ -76,7 +76,7 @@ module _ (few : ℕ → Bool) (rule : List ℕ → Option Value) (Right : List �
     (right : (c : List ℕ) (v : Value) → AreOctets c → few (length c) ≡ true → rule c ≡ Some v → Right c)
     (wrong : (c : List ℕ) → rule c ≡ None → Right c → ⊥) where
   abbrev behind : ℕ → List ℕ × Spot → Reading (Value × Spot)
-  behind at c = judge at (rule c.0) >>= λ v. done {A = Value × Spot} (v, c.1)
+  behind at c = some_or_refuse at (rule c.0) >>= λ v. done {A = Value × Spot} (v, c.1)
 
   sized_err : (limit place n : ℕ) (to : Spot) (f : PackedFault) → (f ≡ Short → ⊥) → AreOctets to.rest → sized_at limit place few rule (n, to) ≡ Err f → SizedFault few Right place n limit to f
   unfolding sized_at

@@ -73,7 +73,7 @@ module _ (rows : List TypeRow) (sound : AreSoundRows rows) where
 
       after_step : (before after : List (Option Value)) (v : Value) (first others : List ℕ) → FieldStep rows fields [] before strict levels after first → Follows after v others → Follows before v (first ++ others)
       after_step before after v first others (inl k) more = after_known before after v first others k more
-      after_step before after v first others (inr p) more = absurd (let none : None ≡ Some p.told = p.allowed in cc)
+      after_step before after v first others (inr p) more = absurd (let none : None ≡ Some p.settled = p.allowed in cc)
 
       follow : (steps : List (List ℕ × List (Option Value))) (before last : List (Option Value)) (v : Value) (contents : List ℕ) → fields_done fields last ≡ Some v → Steps (λ a b s. FieldStep rows fields [] a strict levels b s) steps before last contents → Follows before v contents
       follow [] before last v contents e p = subst (Follows before v) (sym p.1) (ends before v (ap (fields_done fields) p.0 ∙ e))

@@ -29,7 +29,7 @@ use Rattle.passed_fields.specs.declared.field.Field as known
 use Rattle.passed_fields.specs.declared.field.Passed as over
 use Rattle.passed_fields.specs.declared.field.Holds.{Holds}
 use Rattle.passed_fields.specs.declared.field.Holds.TheVariants as holds
-use Rattle.passed_fields.specs.Passing.{is_of, are_optional, nones, is_over, told_behind, told_by, or_else, passes}
+use Rattle.passed_fields.specs.Passing.{is_of, are_optional, nones, is_over, settled_behind, settled_by, or_else, passes}
 use Rattle.passed_fields.specs.Reading.{some_done, some_items_at, some_at, tag_of, held_by, known_at, pass_at, field_by, field_at, fields_done, fields_at, fielded_at}
 use Rattle.passed_fields.specs.Spelling.{HasTag, SomeItems, HeldIs, KnownStep, PassedStep, FieldStep, FieldsAre, FieldedIs}
 use Rattle.passed_fields.proofs.Tags.{headed_some, constructed_some, whole_some, text_tag}
@@ -145,13 +145,13 @@ module _ (rows : List TypeRow) where
   over_low : (p : over.Passed) (class : Class) (number : ℕ) → is_over p class number ≡ true → number < 31
   over_low p class number e = ltb-true number 31 (and_parts (same_class class Context && nat_le p.low number && nat_le number p.high) (nat_lt number 31) e).1
 
-  passes_low : (ps : List over.Passed) (told : ℕ) (class : Class) (number after : ℕ) → passes ps told class number ≡ Some after → number < 31
-  passes_low [] told class number after e = absurd cc
-  passes_low (p ∷ ps) told class number after e = by_test (is_over p class number) refl (λ k. passes_low ps told class number after k)
+  passes_low : (ps : List over.Passed) (settled : ℕ) (class : Class) (number after : ℕ) → passes ps settled class number ≡ Some after → number < 31
+  passes_low [] settled class number after e = absurd cc
+  passes_low (p ∷ ps) settled class number after e = by_test (is_over p class number) refl (λ k. passes_low ps settled class number after k)
     where
-      by_test : (b : Bool) → is_over p class number ≡ b → (passes ps told class number ≡ Some after → number < 31) → number < 31
+      by_test : (b : Bool) → is_over p class number ≡ b → (passes ps settled class number ≡ Some after → number < 31) → number < 31
       by_test true t ih = over_low p class number t
-      by_test false t ih = ih (let f : Bool → Option ℕ = λ b. or_else (if b then told_behind p.before told else None) (passes ps told class number) in sym (ap f t) ∙ e)
+      by_test false t ih = ih (let f : Bool → Option ℕ = λ b. or_else (if b then settled_behind p.before settled else None) (passes ps settled class number) in sym (ap f t) ∙ e)
 
 module _ (rows : List TypeRow) (fields : List known.Field) (passed : List over.Passed) where
   pub field_found : (before : List (Option Value)) → Found (field_at rows fields passed before) (FieldStep rows fields passed before)
@@ -160,21 +160,21 @@ module _ (rows : List TypeRow) (fields : List known.Field) (passed : List over.P
     found = λ scope place rest o s w to are opens e. by_pass scope place rest o s w to are opens (passes passed (length before) o.class o.number) refl e;
   }
     where
-      by_pass : (scope : Scope) (place : ℕ) (rest : List ℕ) (o : Opened) (s : Spot) (w : List (Option Value)) (to : Spot) → AreOctets rest → identifier_at scope place rest ≡ Ok (o, s) → (told : Option ℕ) → passes passed (length before) o.class o.number ≡ told
-          → field_by rows fields before told scope o s ≡ Ok (w, to) → ReadAs (FieldStep rows fields passed before) scope place rest w to
+      by_pass : (scope : Scope) (place : ℕ) (rest : List ℕ) (o : Opened) (s : Spot) (w : List (Option Value)) (to : Spot) → AreOctets rest → identifier_at scope place rest ≡ Ok (o, s) → (settled : Option ℕ) → passes passed (length before) o.class o.number ≡ settled
+          → field_by rows fields before settled scope o s ≡ Ok (w, to) → ReadAs (FieldStep rows fields passed before) scope place rest w to
       by_pass scope place rest o s w to are opens None allowed e =
           let r = (known_found rows (drop (length before) fields) before).found scope place rest o s w to are opens e in
           record { text = r.text; taken = r.taken; spelled = inl r.spelled; is_in = r.is_in }
-      by_pass scope place rest o s w to are opens (Some told) allowed e =
-          let b = bind_ok (whole_at 32 tt scope o s) (λ u. Ok (before ++ nones (told - length before), u.1)) (w, to) e in
-          let same = ok_is {A = List (Option Value) × Spot} (before ++ nones (told - length before), b.0.1) (w, to) b.2 in
+      by_pass scope place rest o s w to are opens (Some settled) allowed e =
+          let b = bind_ok (whole_at 32 tt scope o s) (λ u. Ok (before ++ nones (settled - length before), u.1)) (w, to) e in
+          let same = ok_is {A = List (Option Value) × Spot} (before ++ nones (settled - length before), b.0.1) (w, to) b.2 in
           let r = (whole_found 32 tt).found scope place rest o s b.0.0 b.0.1 are opens b.1 in
-          let low = passes_low rows passed (length before) o.class o.number told allowed in
+          let low = passes_low rows passed (length before) o.class o.number settled allowed in
           let tag = text_tag scope place rest o s r.text b.0.1.rest opens r.taken.parts (whole_some 32 r.text r.spelled.1) low in
           subst (λ (y : List (Option Value) × Spot). ReadAs (FieldStep rows fields passed before) scope place rest y.0 y.1) same (record {
             text = r.text;
             taken = r.taken;
-            spelled = inr (record { class = o.class; number = o.number; told = told; has_tag = tag; allowed = allowed; level = r.spelled.0; whole = r.spelled.1; is_after = refl });
+            spelled = inr (record { class = o.class; number = o.number; settled = settled; has_tag = tag; allowed = allowed; level = r.spelled.0; whole = r.spelled.1; is_after = refl });
             is_in = r.is_in;
           })
 

@@ -51,9 +51,9 @@ module _ (rows : List TypeRow) where
     unfolding field_at
     field_grows before = record { grows = λ scope o s more. by_pass scope o s more (passes passed (length before) o.class o.number) }
       where
-        by_pass : (scope : Scope) (o : Opened) (s : Spot) (more : List ℕ) (told : Option ℕ) → Grows (with_spot more) (field_by rows fields before told scope o s) (field_by rows fields before told scope (grown_opened more o) (grown more s))
+        by_pass : (scope : Scope) (o : Opened) (s : Spot) (more : List ℕ) (settled : Option ℕ) → Grows (with_spot more) (field_by rows fields before settled scope o s) (field_by rows fields before settled scope (grown_opened more o) (grown more s))
         by_pass scope o s more None = (known_grows (drop (length before) fields) before).grows scope o s more
-        by_pass scope o s more (Some told) =
+        by_pass scope o s more (Some settled) =
             Grows-bind (with_spot more) (with_spot more) (whole_at 32 tt scope o s) (whole_at 32 tt scope (grown_opened more o) (grown more s)) _ _ ((whole_grows 32 tt).grows scope o s more) (λ v e. refl)
 
     pub fields_grow : (tag : tags.Tag) → GrowsRun (fielded_at rows fields passed tag)

@@ -75,9 +75,9 @@ module _ (rows : List TypeRow) where
     unfolding field_at
     field_inside before = record { each = λ end scope o s le e. by_pass end scope o s le e (passes passed (length before) o.class o.number) }
       where
-        by_pass : (end : ℕ) (scope : Scope) (o : Opened) (s : Spot) → o.start.place ≤ end → EndsAt end s → (told : Option ℕ) → Inside (second end) end (field_by rows fields before told scope o s)
+        by_pass : (end : ℕ) (scope : Scope) (o : Opened) (s : Spot) → o.start.place ≤ end → EndsAt end s → (settled : Option ℕ) → Inside (second end) end (field_by rows fields before settled scope o s)
         by_pass end scope o s le e None = (known_inside (drop (length before) fields) before).each end scope o s le e
-        by_pass end scope o s le e (Some told) = Inside-bind (second end) (second end) end (whole_at 32 tt scope o s) _ (whole_inside.each end scope o s le e) (λ v k. k)
+        by_pass end scope o s le e (Some settled) = Inside-bind (second end) (second end) end (whole_at 32 tt scope o s) _ (whole_inside.each end scope o s le e) (λ v k. k)
 
     pub fields_inside : (tag : tags.Tag) → InsideRun (fielded_at rows fields passed tag)
     fields_inside tag = constructed_inside (fields_at rows fields passed) tag (all_inside (field_at rows fields passed) (fields_done fields) field_inside [])

@@ -25,7 +25,7 @@ use Rattle.passed_fields.specs.declared.field.Passed as over
 use Rattle.passed_fields.specs.declared.field.Holds.{Holds}
 use Rattle.passed_fields.specs.declared.field.Holds.TheVariants as holds
 use Rattle.passed_fields.specs.Known.{is_kept, has_other_tag, are_apart}
-use Rattle.passed_fields.specs.Passing.{is_of, are_optional, nones, is_over, told_by, or_else, passes}
+use Rattle.passed_fields.specs.Passing.{is_of, are_optional, nones, is_over, settled_by, or_else, passes}
 use Rattle.passed_fields.specs.Reading.{some_done, some_items_at, some_at, tag_of, held_by, known_at, field_by, field_at, fields_done, fields_at, fielded_at}
 use Rattle.passed_fields.specs.Spelling.{HasTag, SomeItems, HeldIs, KnownStep, PassedStep, FieldStep, FieldsAre, FieldedIs}
 use Rattle.passed_fields.proofs.Tags.{tag_opens}
@@ -72,11 +72,11 @@ module _ (rows : List TypeRow) (sound : AreSoundRows rows) where
   kept_tagged [] class number k = not_is (is_no_tag class number) k
   kept_tagged (p ∷ ps) class number k = kept_tagged ps class number (and_parts (not (is_over p class number)) (is_kept ps class number) k).1
 
-  kept_passes : (passed : List over.Passed) (told : ℕ) (class : Class) (number : ℕ) → is_kept passed class number ≡ true → passes passed told class number ≡ None
-  kept_passes [] told class number k = refl
-  kept_passes (p ∷ ps) told class number k =
+  kept_passes : (passed : List over.Passed) (settled : ℕ) (class : Class) (number : ℕ) → is_kept passed class number ≡ true → passes passed settled class number ≡ None
+  kept_passes [] settled class number k = refl
+  kept_passes (p ∷ ps) settled class number k =
       let a = and_parts (not (is_over p class number)) (is_kept ps class number) k in
-      rw (not_is (is_over p class number) a.0) (kept_passes ps told class number a.1)
+      rw (not_is (is_over p class number) a.0) (kept_passes ps settled class number a.1)
 
   other : (f g : known.Field) (fs : List known.Field) (n : ℕ) → has_other_tag f fs ≡ true → slice_get fs n ≡ Some g → is_of f g.class g.number ≡ false
   other f g [] n h e = absurd cc
@@ -147,7 +147,7 @@ module _ (rows : List TypeRow) (sound : AreSoundRows rows) where
     field_back before scope place after text rest (inr k) here =
         let r = (whole_only 32 tt).only scope place tt text rest (k.level, k.whole) here in
         let t = tag_opens scope place text rest r.first r.others r.opened r.spot k.class k.number r.begins r.opens k.has_tag in
-        let over : passes passed (length before) r.opened.class r.opened.number ≡ Some k.told = rw (t.0, t.1) k.allowed in
+        let over : passes passed (length before) r.opened.class r.opened.number ≡ Some k.settled = rw (t.0, t.1) k.allowed in
         back IsTagged Whatever (whole_at 32 tt) (field_at rows fields passed before) scope place text rest tt after r tt
         (rw (over, r.reads) (ap (λ (y : List (Option Value)). Ok (y, record { place = place + length text; rest = rest })) (sym k.is_after)))
 

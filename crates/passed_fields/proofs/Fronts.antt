@@ -25,7 +25,7 @@ use Rattle.fixed_tables.specs.declared.pdu.PduFault as units
 use Rattle.fixed_tables.specs.declared.pdu.PduFault.TheVariants as unit
 use Rattle.fixed_tables.specs.Faults.{fault_in}
 use Rattle.fixed_tables.specs.Whole.{of_whole}
-use Rattle.passed_fields.specs.Front.{front_at, all_at, IsFirstOf}
+use Rattle.passed_fields.specs.AllOctets.{front_at, all_at, IsFirstOf}
 
 abbrev was : Value × ℕ → Reading (Value × ℕ)
 was x = Ok x

@@ -1,4 +1,4 @@
-pub mod Front
+pub mod AllOctets
 pub mod Known
 pub mod Passing
 pub mod Reading

@@ -21,16 +21,16 @@ nones zero = []
 nones (suc n) = None ∷ nones n
 
 -- of how many known fields it is told whether they stand, once one is passed over behind so many
-abbrev pub told_behind : Option ℕ → ℕ → Option ℕ
-told_behind None told = Some told
-told_behind (Some before) told = if nat_le told before then Some before else None
+abbrev pub settled_behind : Option ℕ → ℕ → Option ℕ
+settled_behind None settled = Some settled
+settled_behind (Some before) settled = if nat_le settled before then Some before else None
 
 -- the tag is one of those that are passed over
 abbrev pub is_over : over.Passed → Class → ℕ → Bool
 is_over p class number = same_class class Context && nat_le p.low number && nat_le number p.high && nat_lt number 31
 
-abbrev pub told_by : over.Passed → ℕ → Class → ℕ → Option ℕ
-told_by p told class number = if is_over p class number then told_behind p.before told else None
+abbrev pub settled_by : over.Passed → ℕ → Class → ℕ → Option ℕ
+settled_by p settled class number = if is_over p class number then settled_behind p.before settled else None
 
 abbrev pub or_else : Option ℕ → Option ℕ → Option ℕ
 or_else None more = more
@@ -38,5 +38,5 @@ or_else (Some n) more = Some n
 
 -- whether a field with this tag is passed over where so many known fields are told
 abbrev pub passes : List over.Passed → ℕ → Class → ℕ → Option ℕ
-passes [] told class number = None
-passes (p ∷ ps) told class number = or_else (told_by p told class number) (passes ps told class number)
+passes [] settled class number = None
+passes (p ∷ ps) settled class number = or_else (settled_by p settled class number) (passes ps settled class number)

@@ -47,12 +47,12 @@ known_at rows (f ∷ fs) before scope opened spot =
 
 -- one whole value of any type, of which nothing is kept
 abbrev pub pass_at : List (Option Value) → ℕ → Scope → Opened → Spot → Reading (List (Option Value) × Spot)
-pass_at before told scope opened spot = do
+pass_at before settled scope opened spot = do
   u ← whole_at most_levels tt scope opened spot
-  Ok (before ++ nones (told - length before), u.1)
+  Ok (before ++ nones (settled - length before), u.1)
 
 abbrev pub field_by : List TypeRow → List known.Field → List (Option Value) → Option ℕ → Scope → Opened → Spot → Reading (List (Option Value) × Spot)
-field_by rows fields before (Some told) scope opened spot = pass_at before told scope opened spot
+field_by rows fields before (Some settled) scope opened spot = pass_at before settled scope opened spot
 field_by rows fields before None scope opened spot = known_at rows (drop (length before) fields) before scope opened spot
 
 -- one field: of the first known ones it is told whether they stand

@@ -45,12 +45,12 @@ pub record KnownStep (rows : List TypeRow) (next : List known.Field) (before : L
 pub record PassedStep (passed : List over.Passed) (before : List (Option Value)) (levels : ℕ) (after : List (Option Value)) (spelled : List ℕ) : Type 0 where
   pub class : Class
   pub number : ℕ
-  pub told : ℕ
+  pub settled : ℕ
   pub has_tag : HasTag class number spelled
-  pub allowed : passes passed (length before) class number ≡ Some told
+  pub allowed : passes passed (length before) class number ≡ Some settled
   pub level : 0 < levels
   pub whole : IsWhole most_levels spelled
-  pub is_after : after ≡ before ++ nones (told - length before)
+  pub is_after : after ≡ before ++ nones (settled - length before)
 
 abbrev pub FieldStep : List TypeRow → List known.Field → List over.Passed → List (Option Value) → Bool → ℕ → List (Option Value) → List ℕ → Type 0
 FieldStep rows fields passed before strict levels after spelled =

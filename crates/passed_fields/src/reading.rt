@@ -7,7 +7,7 @@ ghost use Rattle.asn1_types.specs.ValueView.{values_of, parts_of};
 ghost use Rattle.ber_spelling.specs.Reading.{Gives, GoesOn, IsBehind, opened_of, spot_of};
 ghost use Rattle.ber_spelling.specs.Rules.{all_items_at, list_item_at, reads};
 ghost use Rattle.passed_fields.specs.Known.{HasRow, HaveRows};
-ghost use Rattle.passed_fields.specs.Passing.{is_of, are_optional, nones, told_behind, told_by, passes};
+ghost use Rattle.passed_fields.specs.Passing.{is_of, are_optional, nones, settled_behind, settled_by, passes};
 ghost use Rattle.passed_fields.specs.Reading as spec;
 ghost use Rattle.passed_fields.specs.Reading.{some_done, some_items_at, some_at, tag_of, held_by, known_at, pass_at, field_at, fields_done, fields_at, fielded_at};
 
@@ -157,8 +157,8 @@ fn known<'a>(
 }
 
 /// Of how many known fields it is told whether they stand, behind one that is passed over.
-fn told_by(passed: &Passed, told: usize, class: Class, number: u64) -> Option<usize>
-    ensures { result ≡ told_by passed.now told class number }
+fn settled_by(passed: &Passed, settled: usize, class: Class, number: u64) -> Option<usize>
+    ensures { result ≡ settled_by passed.now settled class number }
 {
     let is_over = same_class(class, Class::Context)
         && passed.low as u64 <= number
@@ -168,21 +168,21 @@ fn told_by(passed: &Passed, told: usize, class: Class, number: u64) -> Option<us
         return None;
     }
     match passed.before {
-        None => Some(told),
-        Some(before) if told <= before => Some(before),
+        None => Some(settled),
+        Some(before) if settled <= before => Some(before),
         Some(_) => None,
     }
 }
 
-/// As `told_by`, of the first of these that allow it.
-fn passes(passed: &[Passed], told: usize, class: Class, number: u64) -> Option<usize>
-    ensures { result ≡ passes passed.now told class number }
+/// As `settled_by`, of the first of these that allow it.
+fn passes(passed: &[Passed], settled: usize, class: Class, number: u64) -> Option<usize>
+    ensures { result ≡ passes passed.now settled class number }
 {
     match passed {
         [] => None,
-        [first, rest @ ..] => match told_by(first, told, class, number) {
-            Some(told) => Some(told),
-            None => passes(rest, told, class, number),
+        [first, rest @ ..] => match settled_by(first, settled, class, number) {
+            Some(settled) => Some(settled),
+            None => passes(rest, settled, class, number),
         },
     }
 }
@@ -202,19 +202,19 @@ fn add_nones(found: &mut MaybeVals, count: usize) -> Result<(), NoMemory>
 /// One value of any type, of which nothing is kept.
 fn pass<'a>(
     found: MaybeVals,
-    told: usize,
+    settled: usize,
     scope: &Scope,
     opened: &Opened<'a>,
     spot: Spot<'a>,
 ) -> Result<(MaybeVals, Spot<'a>), ReadFault>
     requires { HasPlaces spot.place spot.rest.now }
     ensures gives { Gives (λ x. (x.0.items, spot_of x.1)) result
-        (pass_at found.items told scope.now (opened_of opened.now) (spot_of spot.entry)) }
+        (pass_at found.items settled scope.now (opened_of opened.now) (spot_of spot.entry)) }
     ensures stops { IfOk result (λ x. GoesOn spot.entry.place (length spot.entry.rest.now) x.1) }
 {
     let mut found = found;
     let end = whole_value(32, scope, opened, spot)?;
-    let count = told.saturating_sub(found.len());
+    let count = settled.saturating_sub(found.len());
     add_nones(&mut found, count)?;
     Ok((found, end))
 }
@@ -238,7 +238,7 @@ fn field<'a>(
     ensures stops { IfOk result (λ x. GoesOn spot.entry.place (length spot.entry.rest.now) x.1) }
 {
     match passes(fields.passed, found.len(), opened.class, opened.number) {
-        Some(told) => pass(found, told, scope, opened, spot),
+        Some(settled) => pass(found, settled, scope, opened, spot),
         None => {
             let next = behind(fields.known, found.len());
             known(alloc, table, next, found, scope, opened, spot)
@@ -248,11 +248,11 @@ fn field<'a>(
 
 /// The fields behind so many.
 #[tactic(auto, using(crate::proofs::Nones::drop_past))]
-fn behind(fields: &[Field], told: usize) -> &[Field]
-    ensures { result.now ≡ drop told fields.now }
+fn behind(fields: &[Field], settled: usize) -> &[Field]
+    ensures { result.now ≡ drop settled fields.now }
 {
-    if told <= fields.len() {
-        &fields[told..]
+    if settled <= fields.len() {
+        &fields[settled..]
     } else {
         &[]
     }
@@ -272,11 +272,11 @@ fn ended(fields: &[Field], found: MaybeVals) -> Result<Option<Val>, NoMemory>
     ensures { IfOk result (λ value. value ≡ fields_done fields.now found.items) }
 {
     let mut found = found;
-    let told = found.len();
-    if !are_optional(behind(fields, told)) {
+    let settled = found.len();
+    if !are_optional(behind(fields, settled)) {
         return Ok(None);
     }
-    let count = fields.len().saturating_sub(told);
+    let count = fields.len().saturating_sub(settled);
     add_nones(&mut found, count)?;
     Ok(Some(Val {
         node: Node::Parts(found),

@@ -12,7 +12,7 @@ use Rattle.end_rules.specs.Messages.{TransportUnit, ConnectionRequest, Connectio
 use Rattle.association_worlds.specs.association_wire.Written.{request_ends, confirm_ends, written_unit, written, tsdu_of}
 use Rattle.association_worlds.specs.association_reading.Front.{Front, OfTransport, fronts_of, all_fronts}
 use Rattle.osi_base.specs.Limits.{IsUnitSize}
-use Rattle.association_worlds.specs.Ways.{IsOfTransport, IsCarried, front_of, Sent, text_of, texts, fronts_of_sent, AreWritten}
+use Rattle.association_worlds.specs.InTransit.{IsOfTransport, IsCarried, front_of, Sent, text_of, texts, fronts_of_sent, AreWritten}
 use Rattle.association_worlds.proofs.Streams.{word-front, small-octets, texts-octets}
 use Rattle.association_worlds.proofs.Kept.{fronts-append}
 use Rattle.prefix_laws.specs.Laws.{HandsUpLast, BeginningsBringNothing}

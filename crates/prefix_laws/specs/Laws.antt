@@ -8,7 +8,7 @@ use Rattle.tpkt.specs.Wire.{Tpdu, Splits, begun_after, begun_by, handed_for, han
 use Rattle.tpkt.specs.Written.{written_tsdu}
 use Rattle.tpkt.specs.Reader.{nothing, reading}
 use Rattle.association_worlds.specs.association_reading.Front.{all_fronts}
-use Rattle.association_worlds.specs.Ways.{Sent, text_of, texts, fronts_of_sent, AreWritten}
+use Rattle.association_worlds.specs.InTransit.{Sent, text_of, texts, fronts_of_sent, AreWritten}
 
 -- A stream is whole units, of which the last hands up this packet and those before it nothing; no data of a TSDU are left behind it.
 pub record HandsUpLast (begun stream : List ℕ) (packet : Packet) : Type 0 where

@@ -28,7 +28,7 @@ use Rattle.passed_fields.specs.declared.field.Field as known
 use Rattle.passed_fields.specs.declared.field.Passed as over
 use Rattle.passed_fields.specs.Known.{are_apart}
 use Rattle.passed_fields.specs.Reading.{some_at, fielded_at}
-use Rattle.passed_fields.specs.Front.{all_at}
+use Rattle.passed_fields.specs.AllOctets.{all_at}
 use Rattle.passed_fields.proofs.FieldsFound.{some_found, fields_found}
 use Rattle.passed_fields.proofs.FieldsOnly.{some_only, fields_only}
 use Rattle.passed_fields.proofs.FieldsGrow.{some_grows, fields_grow}

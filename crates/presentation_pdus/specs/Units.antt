@@ -18,7 +18,7 @@ use Rattle.passed_fields.specs.declared.field.Field as known
 use Rattle.passed_fields.specs.declared.field.Passed as over
 use Rattle.passed_fields.specs.Reading.{some_at, fielded_at}
 use Rattle.passed_fields.specs.Spelling.{SomeItems, FieldedIs}
-use Rattle.passed_fields.specs.Front.{all_at}
+use Rattle.passed_fields.specs.AllOctets.{all_at}
 use Rattle.presentation_pdus.specs.declared.place.PpduPlace.{PpduPlace}
 use Rattle.presentation_pdus.specs.declared.place.PpduPlace.TheVariants as place
 use Rattle.presentation_pdus.specs.declared.place.PpduFault as faults

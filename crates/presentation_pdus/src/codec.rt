@@ -3,7 +3,7 @@
 ghost use Rattle.std.specs.Prelude.{◌≡◌, IfOk};
 ghost use Rattle.osi_base.specs.Limits.{most_spelled};
 ghost use Rattle.fixed_tables.specs.Whole.{GivesWhole, of_whole};
-ghost use Rattle.passed_fields.specs.Front.{all_at};
+ghost use Rattle.passed_fields.specs.AllOctets.{all_at};
 ghost use Rattle.presentation_pdus.specs.Rows.{ppdu_rows};
 ghost use Rattle.presentation_pdus.specs.Units.{ppdu_run, reason_of, of_fault, ppdu_at, GivesPpdu};
 ghost use Rattle.presentation_pdus.specs.Words.{written_ppdu};

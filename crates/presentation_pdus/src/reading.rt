@@ -7,7 +7,7 @@ ghost use Rattle.ber_spelling.specs.Reading.{Gives, GoesOn, IsBehind, opened_of,
 ghost use Rattle.ber_spelling.specs.declared.fault.ReadFault.TheVariants.{NotSpelled};
 ghost use Rattle.ber_spelling.specs.Rules.{reads, plain};
 ghost use Rattle.passed_fields.specs.Known.{HaveRows};
-ghost use Rattle.passed_fields.specs.Front.{front_at};
+ghost use Rattle.passed_fields.specs.AllOctets.{front_at};
 ghost use Rattle.passed_fields.specs.Reading.{fielded_at};
 ghost use Rattle.presentation_pdus.specs.Rows.{row_count, HasRowsAndPlaces};
 ghost use Rattle.presentation_pdus.specs.Fields.{context_tag, sequence_tag, user_tag, mode_row, connect_fields, connect_passed, accept_fields, accept_passed, reject_fields, alter_fields, alter_ack_fields, restart_fields, user_abort_fields, provider_abort_fields};

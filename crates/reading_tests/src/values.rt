@@ -10,7 +10,7 @@ use osi_base::Name;
 use std::alloc::Global;
 use std::process::Abort;
 use std::test::*;
-use value_reading::{Front, read_form, read_typed};
+use value_reading::{ValueAndRest, read_form, read_typed};
 use value_text::{Text, put_typed, put_value};
 
 /// The names and numbers of an ENUMERATED.
@@ -122,7 +122,7 @@ fn front<'a>(
     table: &TypeTable,
     by: By,
     text: &'a str,
-) -> Option<Front<'a>> {
+) -> Option<ValueAndRest<'a>> {
     let read = match by {
         Type(of) => read_typed(alloc, table, TypeId(of), text.as_bytes()),
         Form => read_form(alloc, text.as_bytes()),
@@ -154,7 +154,7 @@ fn is_so(
     alloc: Global,
     table: &TypeTable,
     by: By,
-    front: &Front<'_>,
+    front: &ValueAndRest<'_>,
     read: Read,
 ) -> bool {
     match read {

@@ -1,7 +1,7 @@
 -- Where events lead is computed as far as a row asks.
 use Rattle.std.proofs.Common.{◌≡◌, refl, List}
 use Rattle.std.specs.Prelude.{true, Option, Some, None, is_some}
-use Rattle.end_model.specs.Pairs.{Common}
+use Rattle.end_model.specs.BothEnds.{Common}
 use Rattle.reliable_cases.specs.Played.{Event, Place, start_of, played, Leads}
 use Rattle.reliable_cases.proofs.Reached.{played-reached}
 

@@ -9,8 +9,8 @@ use Rattle.end_rules.specs.ByItself.{OwnAct, next_own}
 use Rattle.end_rules.specs.Reacting.{Reaction, Passes, Takes, Fails, react}
 use Rattle.agreement.specs.Sets.{Role}
 use Rattle.agreement.specs.Sets.Role.{Initiator, Responder}
-use Rattle.end_model.specs.Pairs.{Common, base_at, body_at, coming_to}
-use Rattle.reliable_model.specs.Goes.{Goes, begins, calls, acts, takes, passes, breaks}
+use Rattle.end_model.specs.BothEnds.{Common, base_at, body_at, coming_to}
+use Rattle.reliable_model.specs.Ledgers.{ReachedWithLedger, begins, calls, acts, takes, passes, breaks}
 use Rattle.reliable_cases.specs.Played.{Event, Calls, Acts, Takes_, Breaks, Place, telling, after_call_at, after_own_at, after_reaction, after_coming, after_event, played_on, PlayedIsReached}
 
 one-place : (p q : Place) → Some p ≡ Some q → p ≡ q
@@ -18,7 +18,7 @@ one-place p q h = cc
 
 module _ (common : Common) where
   abbrev At : Place → Type 0
-  At place = Goes common place.two place.ledger
+  At place = ReachedWithLedger common place.two place.ledger
 
   to : (p q : Place) → Some p ≡ Some q → At p → At q
   to p q h g = subst At (one-place p q h) g

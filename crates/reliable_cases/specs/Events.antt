@@ -6,7 +6,7 @@ use Rattle.end_rules.specs.Base.{General, Spellings}
 use Rattle.osi_base.specs.SetPlaces.{pair_of}
 use Rattle.end_rules.specs.Cases.{calc, config_of, repeated, arrived_on}
 use Rattle.agreement.specs.Sets.Role.{Initiator, Responder}
-use Rattle.end_model.specs.Pairs.{Common}
+use Rattle.end_model.specs.BothEnds.{Common}
 use Rattle.reliable_cases.specs.Played.{Event, Calls, Acts, Takes_, Breaks}
 
 -- plain spellings: an APDU has five octets, and a transfer 2,049, which are three parts at checkpoint 1

@@ -12,8 +12,8 @@ use Rattle.end_rules.specs.History.{after_step, step_of}
 use Rattle.agreement.specs.Sets.{Role}
 use Rattle.agreement.specs.Sets.Role.{Initiator, Responder}
 use Rattle.end_model.specs.Requests.{after_called}
-use Rattle.end_model.specs.Pairs.{Common, base_at, Two, two_new, body_at, coming_to, stepped, both_broke}
-use Rattle.reliable_model.specs.Goes.{Ledger, first_ledger, own_messages, after_sending, after_own, after_taking, Goes}
+use Rattle.end_model.specs.BothEnds.{Common, base_at, Two, two_new, body_at, coming_to, stepped, both_broke}
+use Rattle.reliable_model.specs.Ledgers.{Ledger, first_ledger, own_messages, after_sending, after_own, after_taking, ReachedWithLedger}
 
 -- a call of an end, a step that it makes by itself, the taking of what comes next to it, a break
 pub data Event : Type 0 where
@@ -81,8 +81,8 @@ played common events = played_on common events (Some (start_of common))
 
 -- What is played is reached.
 abbrev pub PlayedIsReached : Type 0
-PlayedIsReached = (common : Common) (events : List Event) (place : Place) → played common events ≡ Some place → Goes common place.two place.ledger
+PlayedIsReached = (common : Common) (events : List Event) (place : Place) → played common events ≡ Some place → ReachedWithLedger common place.two place.ledger
 
 -- All events happen, and this holds of where they lead.
 abbrev pub Leads : Common → List Event → (Place → Type 0) → Type 0
-Leads common events Law = (place : Place) × (played common events ≡ Some place) × Goes common place.two place.ledger × Law place
+Leads common events Law = (place : Place) × (played common events ≡ Some place) × ReachedWithLedger common place.two place.ledger × Law place

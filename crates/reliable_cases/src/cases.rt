@@ -8,7 +8,7 @@ ghost use Rattle.end_rules.specs.State.{is_current, is_suspended, is_running, co
 ghost use Rattle.end_rules.specs.Messages.{OfActivities, Session, Start};
 ghost use Rattle.end_rules.specs.ByItself.{SendsNow, next_own};
 ghost use Rattle.agreement.specs.Sets.Role.{Initiator, Responder};
-ghost use Rattle.end_model.specs.Pairs.{base_at};
+ghost use Rattle.end_model.specs.BothEnds.{base_at};
 ghost use Rattle.reliable_cases.specs.Played.{Leads, PlayedIsReached};
 ghost use Rattle.reliable_cases.specs.Events.{calc_pair, opening, begun, transferred, broken, resumed, confirmed_again, interrupted, interrupted_resumed, discarded, next_after_discard, given, broken_giving, without_turn, end_unconfirmed};
 ghost use Rattle.reliable_cases.specs.Copies.{next_without_turn, next_early};
@@ -43,7 +43,7 @@ pub fn transfer_is_whole()
     ensures whole { Leads calc_pair transferred (λ place.
         (place.told_a ≡ indications.Opened ∷ indications.Transferred 1 ∷ [])
         × (place.told_b ≡ indications.Opened ∷ indications.Invoked (pos 1) 0 None None ∷ [])
-        × (place.ledger.deeds.b.arrived ≡ 1 ∷ [])
+        × (place.ledger.transfer_log.b.arrived ≡ 1 ∷ [])
         × (place.two.a.sending.current ≡ None)) }
 {}
 
@@ -54,7 +54,7 @@ pub fn break_suspends()
         × (place.told_b ≡ indications.Opened ∷ indications.Recovered ∷ [])
         × (is_current is_suspended place.two.a.sending.current ≡ true)
         × (confirmed_of place.two.a.sending.current ≡ 1)
-        × (place.ledger.deeds.b.arrived ≡ [])) }
+        × (place.ledger.transfer_log.b.arrived ≡ [])) }
 {}
 
 /// The resumption goes on behind mark 1, and all arrives once.
@@ -63,7 +63,7 @@ pub fn resumption_goes_on()
         (place.told_a ≡ indications.Opened ∷ indications.Recovered ∷ indications.Transferred 1 ∷ [])
         × (place.told_b ≡ indications.Opened ∷ indications.Recovered ∷ indications.Resumed 1 1
         ∷ indications.Invoked (pos 1) 0 None None ∷ [])
-        × (place.ledger.deeds.b.arrived ≡ 1 ∷ [])
+        × (place.ledger.transfer_log.b.arrived ≡ 1 ∷ [])
         × (place.two.a.sending.current ≡ None)) }
 {}
 
@@ -74,7 +74,7 @@ pub fn end_is_confirmed_again()
         (place.told_a ≡ indications.Opened ∷ indications.Recovered ∷ indications.Transferred 1 ∷ [])
         × (place.told_b ≡ indications.Opened ∷ indications.Invoked (pos 1) 0 None None
         ∷ indications.Recovered ∷ indications.Resumed 1 2 ∷ [])
-        × (place.ledger.deeds.b.arrived ≡ 1 ∷ [])
+        × (place.ledger.transfer_log.b.arrived ≡ 1 ∷ [])
         × (place.two.a.sending.current ≡ None)) }
 {}
 
@@ -92,7 +92,7 @@ pub fn discard_cuts()
         (place.told_a
         ≡ indications.Opened ∷ indications.Cut true (pos 1) ∷ indications.Discarded 1 ∷ [])
         × (place.told_b ≡ indications.Opened ∷ indications.Discarded 1 ∷ [])
-        × (place.ledger.deeds.b.arrived ≡ [])
+        × (place.ledger.transfer_log.b.arrived ≡ [])
         × (place.two.a.sending.current ≡ None)
         × (place.two.a.sending.started ≡ 1)) }
 {}
@@ -121,7 +121,7 @@ pub fn interrupted_goes_on()
         ≡ indications.Opened ∷ indications.Interrupted 1 ∷ indications.Transferred 1 ∷ [])
         × (place.told_b ≡ indications.Opened ∷ indications.Interrupted 1 ∷ indications.Resumed 1 1
         ∷ indications.Invoked (pos 1) 0 None None ∷ [])
-        × (place.ledger.deeds.b.arrived ≡ 1 ∷ [])
+        × (place.ledger.transfer_log.b.arrived ≡ 1 ∷ [])
         × (place.two.a.sending.current ≡ None)) }
 {}
 
@@ -132,7 +132,7 @@ pub fn number_of_discarded_is_spent()
         ∷ indications.Transferred 2 ∷ [])
         × (place.told_b ≡ indications.Opened ∷ indications.Discarded 1
         ∷ indications.Invoked (pos 1) 0 None None ∷ [])
-        × (place.ledger.deeds.b.arrived ≡ 2 ∷ [])) }
+        × (place.ledger.transfer_log.b.arrived ≡ 2 ∷ [])) }
 {}
 
 /// An end that has an invocation to send and not the turn does nothing by itself. One that leads

@@ -38,7 +38,7 @@ use Rattle.agreement.specs.Worlds.Moment.{By}
 use Rattle.agreement.specs.Laws.{handed_by}
 use Rattle.agreement.proofs.Interface.{laws}
 use Rattle.end_model.specs.Seen.{Free, seen}
-use Rattle.end_model.specs.Opens.{IsProper, Numbered}
+use Rattle.end_model.specs.OpenInvocations.{IsProper, Numbered}
 use Rattle.end_model.specs.Acting.{as_list, invoked_as, HandsIn, ActsAs, IsSoundBody, ReadsBack}
 use Rattle.end_model.specs.Requests.{sent_all, after_called}
 use Rattle.end_model.proofs.Ladder.{called}
@@ -50,7 +50,7 @@ use Rattle.end_model.proofs.Requests.{release_in_turn-acts}
 use Rattle.end_model.proofs.Connecting.{connections-act}
 use Rattle.reliable_model.specs.Codecs.{IsShort, IsTransferable, SpellsTransfers, IsTransferOf, Carries}
 use Rattle.reliable_model.specs.Transferring.{AreTransferable, OnCurrent, IsSending}
-use Rattle.reliable_model.specs.Goes.{first_of, encoding_of, Encoding, Ledger, after_sending, own_messages, after_own, started_by, encoded_by}
+use Rattle.reliable_model.specs.Ledgers.{first_of, encoding_of, Encoding, Ledger, after_sending, own_messages, after_own, started_by, encoded_by}
 use Rattle.reliable_model.proofs.Transferring.{queue-append, kept-current, with-confirmed, resumed-current}
 use Rattle.reliable_model.specs.OwnRows.{EncodesInPlace}
 use Rattle.reliable_model.proofs.OwnRows.{own-rows, Leaves, leaves}
@@ -133,14 +133,14 @@ module _ (free : Free) (tables : Tables) (spellings : Spellings) (a b : Config) 
   abbrev proposed : List Proposal
   proposed = taking.proposed free tables spellings a b
 
-  abbrev setup : model.Setup
+  abbrev setup : model.ModelSetup
   setup = taking.setup free tables spellings a b
 
   abbrev AreJoint : World → Role → Body → List Message → Body → List Message → Ledger → Type 0
   AreJoint = taking.AreJoint free tables spellings a b
 
-  abbrev ActDeeds : Role → Body → List SetItem → model.Act → Type 0
-  ActDeeds role body set act = ledgers.ActDeeds free tables spellings a b role body set act [] []
+  abbrev ActLog : Role → Body → List SetItem → model.Act → Type 0
+  ActLog role body set act = ledgers.ActLog free tables spellings a b role body set act [] []
 
   -- ---- premises at one end are those at the other
 
@@ -208,7 +208,7 @@ module _ (free : Free) (tables : Tables) (spellings : Spellings) (a b : Config) 
     pub own : AreOwn sent
 
   -- an APDU that is handed in starts and encodes nothing
-  of-handing : (role : Role) (body : Body) (set : List SetItem) (act : model.Act) (apdu : model.Apdu) → handed_by (Acts act) ≡ apdu ∷ [] → ActDeeds role body set act
+  of-handing : (role : Role) (body : Body) (set : List SetItem) (act : model.Act) (apdu : model.Apdu) → handed_by (Acts act) ≡ apdu ∷ [] → ActLog role body set act
   of-handing role body set (SaysValue value) apdu h = record { starts = λ rest. refl; encodes = refl }
   of-handing role body set (Queues context x) apdu h = record { starts = λ rest. refl; encodes = refl }
   of-handing role body set act apdu h = absurd (none h)
@@ -235,7 +235,7 @@ module _ (free : Free) (tables : Tables) (spellings : Spellings) (a b : Config) 
         own = subst AreOwn (sym none) tt;
       })
 
-  acting : (world : World) (role : Role) (body later : Body) (sent coming : List Message) (peer : Body) (to_peer : List Message) (act : model.Act) (ledger : Ledger) → AreJoint world role body coming peer to_peer ledger → ActsAs free Reliable (base role) proposed body later sent act → ActDeeds role body ledger.shared.set act → IsSoundBody Reliable (base role) later → IsSending (base role) later.sending → Live later ⊎ (later.link.phase ≡ Over) → AreOwn sent → CalledTo role later sent coming peer to_peer ledger
+  acting : (world : World) (role : Role) (body later : Body) (sent coming : List Message) (peer : Body) (to_peer : List Message) (act : model.Act) (ledger : Ledger) → AreJoint world role body coming peer to_peer ledger → ActsAs free Reliable (base role) proposed body later sent act → ActLog role body ledger.shared.set act → IsSoundBody Reliable (base role) later → IsSending (base role) later.sending → Live later ⊎ (later.link.phase ≡ Over) → AreOwn sent → CalledTo role later sent coming peer to_peer ledger
   acting world role body later sent coming peer to_peer act ledger j x d sound sending side own =
       record {
         world = By role (Acts act) ∷ world;

@@ -18,14 +18,14 @@ use Rattle.agreement.specs.Laws as model_laws
 use Rattle.agreement.specs.Laws.{HoldsTurn, AreFalling}
 use Rattle.agreement.proofs.Interface.{laws}
 use Rattle.end_model.specs.Seen.{Free, apdu_seen, queued_seen}
-use Rattle.end_model.specs.Pairs.{Common, base_at, Two, body_at}
+use Rattle.end_model.specs.BothEnds.{Common, base_at, Two, body_at}
 use Rattle.end_model.proofs.DirectLaws.{holds-so}
 use Rattle.end_model.specs.Acting.{ReadsBack}
 use Rattle.reliable_model.specs.Codecs.{IsTransferable, Carries}
 use Rattle.reliable_model.specs.Transferring.{AreTransferable}
-use Rattle.reliable_model.specs.Goes.{Encoding, deeds_of, Ledger, Goes}
+use Rattle.reliable_model.specs.Ledgers.{Encoding, transfer_log_of, Ledger, ReachedWithLedger}
 use Rattle.reliable_model.specs.OwnRows.{encoding_seen}
-use Rattle.reliable_model.specs.ReliablePairs.{reliable_pair, IsFit, ReliableModelled, ReliableTakes, ReliableOneHolder}
+use Rattle.reliable_model.specs.ReliableEnds.{reliable_common, IsFit, ReliableModelled, ReliableTakes, ReliableOneHolder}
 use Rattle.reliable_model.specs.Transfers.{IsNewest, ReliableArriveWhole, ReliableAsSent, item_of, IsOf}
 use Rattle.reliable_model.specs.Transfers.{ReliableItems, ReliableArriveOnce}
 use Rattle.reliable_model.proofs.Ledgers.{AreEncodable}
@@ -57,7 +57,7 @@ one-item x y e = cc
 
 module _ (free : Free) (tables : Tables) (spellings : Spellings) (a b : Config) where
   abbrev common : Common
-  common = reliable_pair tables spellings a b
+  common = reliable_common tables spellings a b
 
   abbrev base : Role → Base
   base role = base_at role common
@@ -65,22 +65,22 @@ module _ (free : Free) (tables : Tables) (spellings : Spellings) (a b : Config) 
   abbrev Kept : Two → Ledger → Type 0
   Kept = machine.Kept free tables spellings a b
 
-  kept-of : Carries free (base Initiator) → IsFit common → (two : Two) (ledger : Ledger) → Goes common two ledger → Kept two ledger
+  kept-of : Carries free (base Initiator) → IsFit common → (two : Two) (ledger : Ledger) → ReachedWithLedger common two ledger → Kept two ledger
   kept-of carries fit two ledger reached = placing.all-kept free tables spellings a b (record { fit = fit; carries = carries }) two ledger reached
 
-  items-so : (two : Two) (ledger : Ledger) (role : Role) (encoding : Encoding) → IsFit common → Kept two ledger → IsNewest encoding (deeds_of role ledger.deeds).encoded → IsOf encoding.apdu (item_of encoding.activity (deeds_of role ledger.deeds).started)
+  items-so : (two : Two) (ledger : Ledger) (role : Role) (encoding : Encoding) → IsFit common → Kept two ledger → IsNewest encoding (transfer_log_of role ledger.transfer_log).encoded → IsOf encoding.apdu (item_of encoding.activity (transfer_log_of role ledger.transfer_log).started)
   items-so two ledger role encoding fit k h =
-      let setup : model.Setup = taking.setup free tables spellings a b in
-      let d = k.joint.deeds role in
-      let n = newest-item (base Initiator) encoding (deeds_of role ledger.deeds).encoded d.encodings h in
+      let setup : model.ModelSetup = taking.setup free tables spellings a b in
+      let d = k.joint.transfer_log role in
+      let n = newest-item (base Initiator) encoding (transfer_log_of role ledger.transfer_log).encoded d.encodings h in
       let theirs = (laws setup).items k.world role (encoding_seen (base Initiator) encoding) k.joint.ends.run (subst (model_laws.IsNewest (encoding_seen (base Initiator) encoding)) d.encoded n.0) in
-      item-found (base Initiator) encoding.activity encoding.apdu (deeds_of role ledger.deeds).started fit.reads d.items n.1
+      item-found (base Initiator) encoding.activity encoding.apdu (transfer_log_of role ledger.transfer_log).started fit.reads d.items n.1
       (subst (λ items. model_laws.IsOf (apdu_seen (base Initiator) encoding.apdu) (model_laws.item_of encoding.activity items)) (sym d.started) theirs)
 
-  once-so : (two : Two) (ledger : Ledger) (role : Role) → Kept two ledger → AreFalling (deeds_of role ledger.deeds).arrived
+  once-so : (two : Two) (ledger : Ledger) (role : Role) → Kept two ledger → AreFalling (transfer_log_of role ledger.transfer_log).arrived
   once-so two ledger role k =
-      let setup : model.Setup = taking.setup free tables spellings a b in
-      subst AreFalling (sym (k.joint.deeds role).arrived) ((laws setup).once k.world k.joint.ends.run role)
+      let setup : model.ModelSetup = taking.setup free tables spellings a b in
+      subst AreFalling (sym (k.joint.transfer_log role).arrived) ((laws setup).once k.world k.joint.ends.run role)
 
 pub reliable-modelled : ReliableModelled
 reliable-modelled free tables spellings a b carries fit two ledger reached =
@@ -95,7 +95,7 @@ reliable-takes free tables spellings a b carries fit two ledger role message lef
 pub reliable-one_holder : ReliableOneHolder
 reliable-one_holder free tables spellings a b carries fit two ledger reached x y =
     let k = kept-of free tables spellings a b carries fit two ledger reached in
-    let common : Common = reliable_pair tables spellings a b in
+    let common : Common = reliable_common tables spellings a b in
     (laws (taking.setup free tables spellings a b)).one_holder k.world k.joint.ends.run
     (subst HoldsTurn (sym k.joint.ends.own.state) (holds-so (base_at Initiator common) two.a x))
     (subst HoldsTurn (sym k.joint.ends.others.state) (holds-so (base_at Responder common) two.b y))
@@ -111,8 +111,8 @@ reliable-as_sent free tables spellings a b carries fit two ledger reached role i
     let same : w.item ≡ item = one-item w.item item (sym w.arrived ∙ arrived) in
     let there : pair_of (body_at role two).sets.held item.id ≡ Some item.pair = subst (λ (x : Item). pair_of (body_at role two).sets.held x.id ≡ Some x.pair) same w.there in (
       there,
-      subst (λ p. IsNewest (record { activity = (body_at role two).receiving.last; id = item.id; pair = p; apdu = item.apdu }) (deeds_of (other role) ledger.deeds).encoded) (sym there)
-          (subst (λ (x : Item). IsNewest (record { activity = (body_at role two).receiving.last; id = x.id; pair = Some x.pair; apdu = x.apdu }) (deeds_of (other role) ledger.deeds).encoded) same w.encoded),
+      subst (λ p. IsNewest (record { activity = (body_at role two).receiving.last; id = item.id; pair = p; apdu = item.apdu }) (transfer_log_of (other role) ledger.transfer_log).encoded) (sym there)
+          (subst (λ (x : Item). IsNewest (record { activity = (body_at role two).receiving.last; id = x.id; pair = Some x.pair; apdu = x.apdu }) (transfer_log_of (other role) ledger.transfer_log).encoded) same w.encoded),
     )
 
 pub reliable-items : ReliableItems

@@ -2,7 +2,7 @@
 use Rattle.std.proofs.Common.{◌≡◌, ◌∙◌, sym, true≢false, subst, subst₂, List}
 use Rattle.std.specs.Prelude.{Option, Some, None}
 use Rattle.agreement.specs.Sets.{Role, other}
-use Rattle.agreement.specs.Messages.{Setup, Message}
+use Rattle.agreement.specs.Messages.{ModelSetup, Message}
 use Rattle.agreement.specs.State.{Transfer, State}
 use Rattle.agreement.specs.State.Awaited.{NoAnswer}
 use Rattle.agreement.specs.State.Progress.{Running, Ending}
@@ -17,7 +17,7 @@ use Rattle.agreement.proofs.StandingActs.{is-seen}
 use Rattle.agreement.proofs.ReliableWorlds.{ReliableRelation, reliable-keeps}
 use Rattle.agreement.proofs.Encoded.{up-stands}
 
-leader-shared : (base : Setup) (role : Role) (x y : State) (f g : List Sending) (shared : Shared) → ReliableRelation base role x y f g shared → IsLeading x → IsUnencoded x.outgoing.transfer → shared.set ≡ x.sets.held
+leader-shared : (base : ModelSetup) (role : Role) (x y : State) (f g : List Sending) (shared : Shared) → ReliableRelation base role x y f g shared → IsLeading x → IsUnencoded x.outgoing.transfer → shared.set ≡ x.sets.held
 leader-shared base role x y f g shared r leads due =
     let j = up-stands base role x y f g shared r leads.is_free.is_up in
     let i = is-seen role x f g j.me j.up leads.is_free.is_up j.sees_me in
@@ -38,7 +38,7 @@ leader-shared base role x y f g shared r leads due =
     by_flow y down up (Gives_away k) = absurd (true≢false (sym leads.has_turn ∙ k.giver.turn))
     by_flow y down up (Is_given k) = absurd (true≢false (sym leads.has_turn ∙ k.taker.turn))
 
-pub leads-shared : (base : Setup) (world : World) (role : Role) → IsRun (reliable base) world → IsLeading (state_of (reliable base) role world) → IsUnencoded (state_of (reliable base) role world).outgoing.transfer →
+pub leads-shared : (base : ModelSetup) (world : World) (role : Role) → IsRun (reliable base) world → IsLeading (state_of (reliable base) role world) → IsUnencoded (state_of (reliable base) role world).outgoing.transfer →
     (shared_at (reliable base) world).set ≡ (state_of (reliable base) role world).sets.held
 leads-shared base world role run =
     leader-shared base role (state_of (reliable base) role world) (state_of (reliable base) (other role) world) (flight_to (reliable base) role world) (flight_to (reliable base) (other role) world) (shared_at (reliable base) world)

@@ -34,7 +34,7 @@ use Rattle.agreement.specs.Worlds.Moment.{By, Break}
 use Rattle.end_model.specs.Seen.{Free, role_seen, phase_seen, seen}
 use Rattle.end_model.specs.Acting.{ActsAs}
 use Rattle.end_model.specs.Requests.{sent_all, after_called}
-use Rattle.end_model.specs.Pairs.{Common, Two, two_new, body_at, coming_to, stepped, both_broke}
+use Rattle.end_model.specs.BothEnds.{Common, Two, two_new, body_at, coming_to, stepped, both_broke}
 use Rattle.end_model.specs.Steps.{BreaksSo}
 use Rattle.end_model.proofs.Ladder.{called}
 use Rattle.end_model.proofs.Requests.{opens-unseen, recovers-unseen}
@@ -42,9 +42,9 @@ use Rattle.end_model.proofs.Connecting.{withdraw-phase}
 use Rattle.end_model.proofs.Machine.{append-nil, passes-kept}
 use Rattle.end_model.proofs.DirectOpening.{At}
 use Rattle.reliable_model.specs.Codecs.{Carries}
-use Rattle.reliable_model.specs.Goes.{Ledger, first_ledger, deeds_of, own_messages, after_sending, after_own, after_taking}
+use Rattle.reliable_model.specs.Ledgers.{Ledger, first_ledger, transfer_log_of, own_messages, after_sending, after_own, after_taking}
 use Rattle.reliable_model.specs.OwnRows.{EncodesInPlace}
-use Rattle.reliable_model.specs.ReliablePairs.{reliable_pair, IsFit}
+use Rattle.reliable_model.specs.ReliableEnds.{reliable_common, IsFit}
 use Rattle.reliable_model.proofs.Transferring.{kept-current, with-progress}
 use Rattle.reliable_model.proofs.Ledgers as ledgers
 use Rattle.reliable_model.proofs.Words.{AreOwn, own-append, Live, Side, Stands, IsOver}
@@ -60,7 +60,7 @@ use Rattle.reliable_model.proofs.Phases.{side-outcome, rests-breaks, over-breaks
 
 module _ (free : Free) (tables : Tables) (spellings : Spellings) (a b : Config) where
   abbrev pub common : Common
-  common = reliable_pair tables spellings a b
+  common = reliable_common tables spellings a b
 
   abbrev pub base : Role → Base
   base = taking.base free tables spellings a b
@@ -68,7 +68,7 @@ module _ (free : Free) (tables : Tables) (spellings : Spellings) (a b : Config) 
   abbrev proposed : List Proposal
   proposed = taking.proposed free tables spellings a b
 
-  abbrev setup : model.Setup
+  abbrev setup : model.ModelSetup
   setup = taking.setup free tables spellings a b
 
   abbrev pub AreJoint : World → Role → Body → List Message → Body → List Message → Ledger → Type 0
@@ -740,16 +740,16 @@ module _ (free : Free) (tables : Tables) (spellings : Spellings) (a b : Config) 
             record {
               ends = record { run = tt; own = record { state = refl; flight = tt }; others = record { state = refl; flight = tt } };
               same = record { set = refl; inter = refl; saved = refl; of_a = refl; of_b = refl };
-              deeds = first-deeds;
+              transfer_log = first-log;
             };
         good_a = record { sound = record { numbered = tt; calm = tt; sets = tt; queues = tt }; sending = record { queue = tt; current = tt } };
         good_b = record { sound = record { numbered = tt; calm = tt; sets = tt; queues = tt }; sending = record { queue = tt; current = tt } };
         opened = Resting First (record { phase_is = refl; stage_is = refl; calm = refl }) (record { phase_is = refl; stage_is = refl; calm = refl }) refl refl;
       }
     where
-      first-deeds : (r : Role) → ledgers.DeedsAre free tables spellings a b r (deeds_of r (first_ledger common).deeds) []
-      first-deeds Initiator = record { started = refl; encoded = refl; arrived = refl; items = tt; encodings = tt }
-      first-deeds Responder = record { started = refl; encoded = refl; arrived = refl; items = tt; encodings = tt }
+      first-log : (r : Role) → ledgers.LogsAre free tables spellings a b r (transfer_log_of r (first_ledger common).transfer_log) []
+      first-log Initiator = record { started = refl; encoded = refl; arrived = refl; items = tt; encodings = tt }
+      first-log Responder = record { started = refl; encoded = refl; arrived = refl; items = tt; encodings = tt }
 
   pub called-kept : (two : Two) (ledger : Ledger) (role : Role) (call : Call) (answer : Option ℤ) → Presumed → Kept two ledger → can_call (base role) (body_at role two) call ≡ Ok answer → Kept (stepped role (after_called Reliable (base role) (body_at role two) call answer) (coming_to role two) (due_of (base role) (body_at role two) call (Ok answer)) two) (after_sending common role (due_of (base role) (body_at role two) call (Ok answer)) ledger)
   called-kept two ledger Initiator call answer p k h = calls-a two ledger call answer p k h

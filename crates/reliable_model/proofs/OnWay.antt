@@ -36,7 +36,7 @@ use Rattle.end_model.specs.Rows.{at}
 use Rattle.end_model.specs.Sharing.{shared_all_sent, shared_all_answered}
 use Rattle.end_model.proofs.Ladder.{called}
 use Rattle.end_model.proofs.OwnActs.{leading}
-use Rattle.reliable_model.specs.Goes.{own_messages}
+use Rattle.reliable_model.specs.Ledgers.{own_messages}
 use Rattle.reliable_model.proofs.Fixed.{AreIdentifiers, good-identifiers, AllContexts, none-contexts}
 use Rattle.reliable_model.proofs.FirmSteps.{alterable}
 use Rattle.reliable_model.proofs.OwnRows.{Kind, StartsNext, EncodesIt, MarksIt, EndsIt, GivesPart, kind}

@@ -53,7 +53,7 @@ use Rattle.agreement.specs.Worlds.{World, shared_at}
 use Rattle.agreement.specs.Worlds.Step.{Acts, Takes as model_takes}
 use Rattle.agreement.specs.Worlds.Moment.{By}
 use Rattle.end_model.specs.Seen.{Free, phase_seen, awaited_seen, set_seen, queued_seen, seen}
-use Rattle.end_model.specs.Opens.{Numbered}
+use Rattle.end_model.specs.OpenInvocations.{Numbered}
 use Rattle.end_model.specs.Words.{Means}
 use Rattle.end_model.specs.Acting.{IsSoundBody, TakenAs}
 use Rattle.end_model.proofs.Takes.{fine}
@@ -63,8 +63,8 @@ use Rattle.end_model.proofs.Connecting.{connections-act}
 use Rattle.end_model.proofs.Machine.{takes-kept}
 use Rattle.end_model.proofs.DirectOpening.{At, known-set, rising-set}
 use Rattle.reliable_model.specs.Transferring.{IsSending}
-use Rattle.reliable_model.specs.Goes.{Ledger, anew as arrived_anew, items_anew, after_sending, after_taking}
-use Rattle.reliable_model.specs.ReliablePairs.{IsFit}
+use Rattle.reliable_model.specs.Ledgers.{Ledger, anew as arrived_anew, items_anew, after_sending, after_taking}
+use Rattle.reliable_model.specs.ReliableEnds.{IsFit}
 use Rattle.reliable_model.proofs.Ledgers as ledgers
 use Rattle.reliable_model.proofs.Ledgers.{Same}
 use Rattle.reliable_model.proofs.Words.{Live}
@@ -204,7 +204,7 @@ module _ (free : Free) (tables : Tables) (spellings : Spellings) (a b : Config) 
   abbrev proposed : List Proposal
   proposed = taking.proposed free tables spellings a b
 
-  abbrev pub setup : model.Setup
+  abbrev pub setup : model.ModelSetup
   setup = taking.setup free tables spellings a b
 
   abbrev AreJoint : World → Role → Body → List Message → Body → List Message → Ledger → Type 0
@@ -462,7 +462,7 @@ module _ (free : Free) (tables : Tables) (spellings : Spellings) (a b : Config) 
     chosen : IsChoice setup (seen (base Responder) body) (meant_by way) choice
     taken_so : TakenAs free Reliable (base Responder) proposed body (cn_word way) (meant_by way) choice
     shares : Same (after_taking (taking.common free tables spellings a b) Responder body (cn way) (answers_to_word (base Responder) body (cn_word way)) ledger).shared (worlds.shared_answered (meant_by way) choice theirs)
-    deeds : ledgers.TakeDeeds free tables spellings a b Responder body (cn_word way) (meant_by way) choice
+    transfer_log : ledgers.TakeLog free tables spellings a b Responder body (cn_word way) (meant_by way) choice
     good : Good Responder (after_word (base Responder) body (cn_word way))
 
   abbrev answers_so : Way → Body → Bool → List Message
@@ -483,7 +483,7 @@ module _ (free : Free) (tables : Tables) (spellings : Spellings) (a b : Config) 
         chosen = chosen;
         taken_so = record { no_fault = connect-fine First body right at; chosen = chosen; after = o.after; means = o.means };
         shares = subst (λ ms. Same (shared_with First body ledger ms) (worlds.shared_answered model_connect (accepting (set_seen held)) theirs)) (sym (ap (answers_so First body) e)) (record { set = refl; inter = refl; saved = refl; of_a = refl; of_b = refl });
-        deeds =
+        transfer_log =
             record {
               starts = λ items rest h. ap (λ c. map (queued_seen (base Initiator)) (items_anew c false items)) e;
               arrives = λ arrived. ap (λ c. arrived_anew c false arrived) e;
@@ -497,7 +497,7 @@ module _ (free : Free) (tables : Tables) (spellings : Spellings) (a b : Config) 
         chosen = chosen;
         taken_so = record { no_fault = connect-fine Again body right at; chosen = chosen; after = o.after; means = o.means };
         shares = subst (λ ms. Same (shared_with Again body ledger ms) (worlds.shared_answered model_recover (accepting (set_seen held)) theirs)) (sym (ap (answers_so Again body) e)) (record { set = refl; inter = refl; saved = refl; of_a = s.of_a; of_b = s.of_b });
-        deeds =
+        transfer_log =
             record {
               starts = λ items rest h. ap (λ c. map (queued_seen (base Initiator)) (items_anew c true items)) e ∙ h;
               arrives = λ arrived. ap (λ c. arrived_anew c true arrived) e;
@@ -512,7 +512,7 @@ module _ (free : Free) (tables : Tables) (spellings : Spellings) (a b : Config) 
         chosen = tt;
         taken_so = record { no_fault = connect-fine First body right at; chosen = tt; after = o.after; means = o.means };
         shares = subst (λ ms. Same (shared_with First body ledger ms) theirs) (sym (is ∙ ap (λ w. Session w ∷ []) refusal_.is_it)) s;
-        deeds =
+        transfer_log =
             record {
               starts = λ items rest h. ap (λ c. map (queued_seen (base Initiator)) (items_anew c false items)) e ∙ h;
               arrives = λ arrived. ap (λ c. arrived_anew c false arrived) e;
@@ -525,7 +525,7 @@ module _ (free : Free) (tables : Tables) (spellings : Spellings) (a b : Config) 
         chosen = tt;
         taken_so = record { no_fault = connect-fine Again body right at; chosen = tt; after = o.after; means = o.means };
         shares = subst (λ ms. Same (shared_with Again body ledger ms) theirs) (sym (is ∙ ap (λ w. Session w ∷ []) refusal_.is_it)) s;
-        deeds =
+        transfer_log =
             record {
               starts = λ items rest h. ap (λ c. map (queued_seen (base Initiator)) (items_anew c true items)) e ∙ h;
               arrives = λ arrived. ap (λ c. arrived_anew c true arrived) e;
@@ -552,7 +552,7 @@ module _ (free : Free) (tables : Tables) (spellings : Spellings) (a b : Config) 
         By Responder (model_takes t.message choice) ∷ world,
         ledgers.takes-joint free tables spellings a b world Responder body (cn_word way) left peer to_peer choice ledger j t
             (subst (λ m. Same (shared_with way body ledger (answers_to_word (base Responder) body (cn_word way))) (worlds.shared_answered m choice (shared_at setup world))) (sym (is-meant way t.message t.means)) o.shares)
-            (subst (λ m. ledgers.TakeDeeds free tables spellings a b Responder body (cn_word way) m choice) (sym (is-meant way t.message t.means)) o.deeds),
+            (subst (λ m. ledgers.TakeLog free tables spellings a b Responder body (cn_word way) m choice) (sym (is-meant way t.message t.means)) o.transfer_log),
       )
 
   pub connected : (way : Way) (world : World) (body : Body) (left : List Message) (peer : Body) (to_peer : List Message) (ledger : Ledger) → IsFit (taking.common free tables spellings a b) → AreJoint world Responder body (cn way ∷ left) peer to_peer ledger → Good Responder body → At (joins way) Joined body → Connected way body left peer to_peer ledger
@@ -607,8 +607,8 @@ module _ (free : Free) (tables : Tables) (spellings : Spellings) (a b : Config) 
   IsGone body = body.link.phase ≡ Over
 
   -- a word that is taken so, and answered by nothing
-  taken-so : (P : Body → Type 0) (phase : Phase) (stage : Stage) (world : World) (role : Role) (body : Body) (word : Word) (m : model.Message) (left : List Message) (peer : Body) (to_peer : List Message) (ledger : Ledger) → passes_over phase ≡ false → (is_joined stage || is_carrying stage) ≡ true → (phase_seen stage phase ≡ model_over → ⊥) → AreJoint world role body (Session word ∷ left) peer to_peer ledger → At phase stage body → ((message : model.Message) → Means proposed (base Initiator) word message → message ≡ m) → IsChoice setup (seen (base role) body) m Nothing → TakenAs free Reliable (base role) proposed body word m Nothing → answers_to_word (base role) body word ≡ [] → Same (after_taking (taking.common free tables spellings a b) role body (Session word) (answers_to_word (base role) body word) ledger).shared (worlds.shared_answered m Nothing (shared_at setup world)) → ledgers.TakeDeeds free tables spellings a b role body word m Nothing → Good role (after_word (base role) body word) → P (after_word (base role) body word) → Answered P body role word left peer to_peer ledger
-  taken-so P phase stage world role body word m left peer to_peer ledger alive there not_over j at is free_choice row none shares deeds good side =
+  taken-so : (P : Body → Type 0) (phase : Phase) (stage : Stage) (world : World) (role : Role) (body : Body) (word : Word) (m : model.Message) (left : List Message) (peer : Body) (to_peer : List Message) (ledger : Ledger) → passes_over phase ≡ false → (is_joined stage || is_carrying stage) ≡ true → (phase_seen stage phase ≡ model_over → ⊥) → AreJoint world role body (Session word ∷ left) peer to_peer ledger → At phase stage body → ((message : model.Message) → Means proposed (base Initiator) word message → message ≡ m) → IsChoice setup (seen (base role) body) m Nothing → TakenAs free Reliable (base role) proposed body word m Nothing → answers_to_word (base role) body word ≡ [] → Same (after_taking (taking.common free tables spellings a b) role body (Session word) (answers_to_word (base role) body word) ledger).shared (worlds.shared_answered m Nothing (shared_at setup world)) → ledgers.TakeLog free tables spellings a b role body word m Nothing → Good role (after_word (base role) body word) → P (after_word (base role) body word) → Answered P body role word left peer to_peer ledger
+  taken-so P phase stage world role body word m left peer to_peer ledger alive there not_over j at is free_choice row none shares transfer_log good side =
       let t =
       takes-kept free (taking.common free tables spellings a b) proposed world role body word left peer to_peer Nothing j.ends (alive-at phase stage (base role) body not_over at)
       (λ message means. calm-at phase stage role (base role) body at message)
@@ -617,7 +617,7 @@ module _ (free : Free) (tables : Tables) (spellings : Spellings) (a b : Config) 
       let ends =
       ledgers.takes-joint free tables spellings a b world role body word left peer to_peer Nothing ledger j t
       (subst (λ x. Same (after_taking (taking.common free tables spellings a b) role body (Session word) (answers_to_word (base role) body word) ledger).shared (worlds.shared_answered x Nothing (shared_at setup world))) (sym (is t.message t.means)) shares)
-      (subst (λ x. ledgers.TakeDeeds free tables spellings a b role body word x Nothing) (sym (is t.message t.means)) deeds) in
+      (subst (λ x. ledgers.TakeLog free tables spellings a b role body word x Nothing) (sym (is t.message t.means)) transfer_log) in
       record {
         world' = By role (model_takes t.message Nothing) ∷ world;
         later = after_word (base role) body word;

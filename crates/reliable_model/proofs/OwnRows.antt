@@ -34,7 +34,7 @@ use Rattle.end_model.proofs.Transfers.{highest-seen, part-sent, end-sent, mark-i
 use Rattle.end_model.proofs.TransferRows.{joined-seen}
 use Rattle.reliable_model.specs.Codecs.{IsContextOf, IsTransferable, SpellsTransfers, Carries}
 use Rattle.reliable_model.specs.Transferring.{IsBeginning, OnEncoded, IsCurrent, IsSending}
-use Rattle.reliable_model.specs.Goes.{first_of, encoding_of, own_messages}
+use Rattle.reliable_model.specs.Ledgers.{first_of, encoding_of, own_messages}
 use Rattle.reliable_model.specs.OwnRows.{encoding_seen, OwnActsAs, EncodesInPlace, OwnMessagesAct}
 use Rattle.reliable_model.proofs.Words.{AreOwn}
 use Rattle.reliable_model.proofs.Transferring.{changed, current-is, with-progress, begun-kept, encoded-so, not-empty}

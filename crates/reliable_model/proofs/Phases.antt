@@ -20,13 +20,13 @@ use Rattle.agreement.specs.Messages.Mode.{Reliable as model_reliable}
 use Rattle.agreement.specs.Takings.{broken_phase as model_broken_phase}
 use Rattle.end_model.specs.Seen.{phase_seen}
 use Rattle.end_model.specs.Requests.{sent_all}
-use Rattle.end_model.specs.Pairs.{Common}
+use Rattle.end_model.specs.BothEnds.{Common}
 use Rattle.end_model.specs.Steps.{BreaksSo}
 use Rattle.end_model.proofs.Facts.{up-there}
 use Rattle.end_model.proofs.Ladder.{called}
 use Rattle.end_model.proofs.OwnActs.{leading}
 use Rattle.end_model.proofs.DirectOpening.{At}
-use Rattle.reliable_model.specs.ReliablePairs.{reliable_pair}
+use Rattle.reliable_model.specs.ReliableEnds.{reliable_common}
 use Rattle.reliable_model.proofs.Words.{AreOwn, Side, Stands, IsOver}
 use Rattle.reliable_model.proofs.Opening.{Way, First, Again, rests, asks, joins}
 
@@ -81,7 +81,7 @@ rests-still Again = refl
 
 module _ (tables : Tables) (spellings : Spellings) (a b : Config) where
   abbrev common : Common
-  common = reliable_pair tables spellings a b
+  common = reliable_common tables spellings a b
 
   pub data Breakable (body : Body) : Type 0 where
     AsModel : BreaksSo common body → Breakable body

@@ -39,7 +39,7 @@ use Rattle.agreement.specs.Worlds.{state_of, shared_at}
 use Rattle.end_model.specs.Seen.{Free, set_seen, encoded_seen, transfer_seen, seen}
 use Rattle.end_model.specs.Rows.{at}
 use Rattle.end_model.specs.Requests.{after_called}
-use Rattle.end_model.specs.Pairs.{Common, base_at, Two, two_new, body_at, coming_to, stepped}
+use Rattle.end_model.specs.BothEnds.{Common, base_at, Two, two_new, body_at, coming_to, stepped}
 use Rattle.end_model.specs.Sharing.{side_of}
 use Rattle.end_model.proofs.Ladder.{called}
 use Rattle.end_model.proofs.Held.{found-pair}
@@ -48,10 +48,10 @@ use Rattle.end_model.proofs.DirectLaws.{found-back}
 use Rattle.end_model.proofs.DirectOpening.{At}
 use Rattle.end_model.proofs.OwnActs.{encoding-so, leading, running-seen}
 use Rattle.reliable_model.specs.Codecs.{IsContextOf, Carries}
-use Rattle.reliable_model.specs.Goes.{Ledger, first_ledger, Goes, begins, calls, acts, takes, passes, fails, breaks, own_messages, after_sending, after_own, after_taking}
+use Rattle.reliable_model.specs.Ledgers.{Ledger, first_ledger, ReachedWithLedger, begins, calls, acts, takes, passes, fails, breaks, own_messages, after_sending, after_own, after_taking}
 use Rattle.reliable_model.specs.OwnRows.{EncodesInPlace}
 use Rattle.reliable_model.specs.Transfers.{TakesTransferEnd}
-use Rattle.reliable_model.specs.ReliablePairs.{reliable_pair, IsFit}
+use Rattle.reliable_model.specs.ReliableEnds.{reliable_common, IsFit}
 use Rattle.reliable_model.proofs.Contexts.{lowest-found}
 use Rattle.reliable_model.proofs.Fixed.{IsIdentifier, AreIdentifiers, listed-identifiers, answers-taken, AllContexts, none-contexts}
 use Rattle.reliable_model.proofs.Fixed.{added-contexts, answered-contexts, module-taken, is_others, module-or_others}
@@ -73,7 +73,7 @@ use Rattle.reliable_model.proofs.OnWay.{SharedHas, AnswersHave, all-sent_has, al
 
 module _ (free : Free) (tables : Tables) (spellings : Spellings) (a b : Config) where
   abbrev common : Common
-  common = reliable_pair tables spellings a b
+  common = reliable_common tables spellings a b
 
   abbrev base : Role → Base
   base role = base_at role common
@@ -603,7 +603,7 @@ module _ (free : Free) (tables : Tables) (spellings : Spellings) (a b : Config) 
   shared-as_held : (two : Two) (ledger : Ledger) (role : Role) (context : ℕ) → machine.Kept free tables spellings a b two ledger → next_own (base role) (body_at role two) ≡ Some (EncodesOn context) → set_seen ledger.shared.set ≡ set_seen (body_at role two).sets.held
   shared-as_held two ledger role context k h =
       let body : Body = body_at role two in
-      let setup : model.Setup = opening.setup free tables spellings a b in
+      let setup : model.ModelSetup = opening.setup free tables spellings a b in
       let l = leading (base role) body (EncodesOn context) h in
       let x = encoding-so (base role) body context body.sending.current refl l.next in
       let state : state_of setup role k.world ≡ seen (base role) body = state-so role in
@@ -659,7 +659,7 @@ module _ (free : Free) (tables : Tables) (spellings : Spellings) (a b : Config) 
         shared = record { set = none-contexts IsPlain; inter = none-contexts IsPlain; saved = tt; of_a = tt; of_b = tt };
       }
 
-  all-both : Sets_ → machine.Presumed free tables spellings a b → (two : Two) (ledger : Ledger) → Goes common two ledger → Both two ledger
+  all-both : Sets_ → machine.Presumed free tables spellings a b → (two : Two) (ledger : Ledger) → ReachedWithLedger common two ledger → Both two ledger
   all-both s q two ledger begins = record { kept = machine.new-kept free tables spellings a b; placed = new-placed }
   all-both s q two ledger (calls x l role call answer reached h) =
       let o = all-both s q x l reached in
@@ -704,6 +704,6 @@ module _ (free : Free) (tables : Tables) (spellings : Spellings) (a b : Config) 
         placed = record { rooted_a = broke-rooted s Initiator x.a o.placed.rooted_a; rooted_b = broke-rooted s Responder x.b o.placed.rooted_b; to_a = tt; to_b = tt; shared = o.placed.shared };
       }
 
-  pub all-kept : machine.Presumed free tables spellings a b → (two : Two) (ledger : Ledger) → Goes common two ledger → machine.Kept free tables spellings a b two ledger
+  pub all-kept : machine.Presumed free tables spellings a b → (two : Two) (ledger : Ledger) → ReachedWithLedger common two ledger → machine.Kept free tables spellings a b two ledger
   all-kept q two ledger reached =
       (all-both (record { identifiers = listed-identifiers (proposals (base Initiator)) q.fit.identifiers }) q two ledger reached).kept

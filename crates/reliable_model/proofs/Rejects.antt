@@ -22,7 +22,7 @@ use Rattle.agreement.specs.Calls.{is_open, is_accepted, reject_of, rejects_of}
 use Rattle.end_model.specs.Seen.{Free, number_seen, problem_in, problem_seen, apdu_seen, calls_seen, setup_seen, outcome_due}
 use Rattle.end_model.specs.Seen.{link_due, on_open}
 use Rattle.end_model.specs.Rows.{at}
-use Rattle.end_model.specs.Opens.{IsReadBack}
+use Rattle.end_model.specs.OpenInvocations.{IsReadBack}
 use Rattle.end_model.specs.Acting.{ReadsBack}
 use Rattle.end_model.specs.Takings.{IsProperCurrent}
 use Rattle.end_model.proofs.Hears.{Hears, IsProperReject, rejects_seen}

@@ -16,7 +16,7 @@ use Rattle.agreement.specs.Messages as model
 use Rattle.agreement.specs.Messages.Apdu.{Invoke, Outcome, Reject}
 use Rattle.agreement.specs.Messages.Problem.{General as of_general, OfInvocation as of_invocation, OfResult as of_result, OfError as of_error}
 use Rattle.end_model.specs.Seen.{number_seen, problem_in, problem_seen, rejected_seen, apdu_seen}
-use Rattle.end_model.specs.Opens.{IsNamed, IsProblem}
+use Rattle.end_model.specs.OpenInvocations.{IsNamed, IsProblem}
 use Rattle.end_model.specs.Acting.{ReadsBack}
 use Rattle.reliable_model.specs.Codecs.{IsTransferable}
 

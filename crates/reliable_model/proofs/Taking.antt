@@ -56,12 +56,12 @@ use Rattle.agreement.proofs.Interface.{takes, laws}
 use Rattle.end_model.specs.Seen.{Free, role_seen, pair_seen, set_seen, phase_seen, awaited_seen, items_seen, item_seen}
 use Rattle.end_model.specs.Seen.{apdu_seen, incoming_seen, calls_seen, seen, setup_seen}
 use Rattle.end_model.specs.Rows.{at}
-use Rattle.end_model.specs.Opens.{Numbered}
+use Rattle.end_model.specs.OpenInvocations.{Numbered}
 use Rattle.end_model.specs.Words.{Means, results_seen, value_of_item}
 use Rattle.end_model.specs.Acting.{IsSoundBody, TakenAs, ReadsBack}
 use Rattle.end_model.specs.Heard.{IsExpected}
 use Rattle.end_model.specs.Takings.{IsJoined, TakenWhere, nothing}
-use Rattle.end_model.specs.Pairs.{Common, base_at}
+use Rattle.end_model.specs.BothEnds.{Common, base_at}
 use Rattle.end_model.proofs.AnswersFit.{fits-too}
 use Rattle.end_model.proofs.Fitting.{all-fit, policy-fits, and-left}
 use Rattle.end_model.proofs.Altered.{altered-seen}
@@ -78,8 +78,8 @@ use Rattle.end_model.proofs.BareMachine.{role-back}
 use Rattle.end_model.proofs.Machine.{next-word, takes-kept, passes-kept}
 use Rattle.reliable_model.specs.Codecs.{IsTransferable, IsPlaced, SpellsTransfers, Carries}
 use Rattle.reliable_model.specs.Transferring.{IsSending}
-use Rattle.reliable_model.specs.Goes.{Ledger, after_taking}
-use Rattle.reliable_model.specs.ReliablePairs.{reliable_pair}
+use Rattle.reliable_model.specs.Ledgers.{Ledger, after_taking}
+use Rattle.reliable_model.specs.ReliableEnds.{reliable_common}
 use Rattle.reliable_model.proofs.Transferring.{kept-current, with-progress, with-confirmed}
 use Rattle.reliable_model.proofs.Ledgers as ledgers
 use Rattle.reliable_model.proofs.Ledgers.{Same}
@@ -137,7 +137,7 @@ cut-numbered None calls h = h
 cut-numbered (Some id) calls h = numbered-closed calls.made true id calls.opens h
 
 -- an invocation that is taken at the end of a transfer is one that is expected
-expected : (setup : model.Setup) (world : World) (role : Role) (number : ℕ) (value : model.Value) (state : states.State) → IsRun setup (By role (model_takes (model_end number) Nothing) ∷ world) → state_of setup role world ≡ state → model_handed_up setup state.sets.held state.incoming ≡ Some value → IsExpected setup state.calls value.apdu
+expected : (setup : model.ModelSetup) (world : World) (role : Role) (number : ℕ) (value : model.Value) (state : states.State) → IsRun setup (By role (model_takes (model_end number) Nothing) ∷ world) → state_of setup role world ≡ state → model_handed_up setup state.sets.held state.incoming ≡ Some value → IsExpected setup state.calls value.apdu
 expected setup world role number value state run now up = go value.apdu refl
   where
     go : (apdu : model.Apdu) → value.apdu ≡ apdu → IsExpected setup state.calls apdu
@@ -150,7 +150,7 @@ expected setup world role number value state run now up = go value.apdu refl
 
 module _ (free : Free) (tables : Tables) (spellings : Spellings) (a b : Config) where
   abbrev pub common : Common
-  common = reliable_pair tables spellings a b
+  common = reliable_common tables spellings a b
 
   abbrev pub base : Role → Base
   base role = base_at role common
@@ -158,14 +158,14 @@ module _ (free : Free) (tables : Tables) (spellings : Spellings) (a b : Config) 
   abbrev pub proposed : List Proposal
   proposed = ledgers.proposed free tables spellings a b
 
-  abbrev pub setup : model.Setup
+  abbrev pub setup : model.ModelSetup
   setup = ledgers.setup free tables spellings a b
 
   abbrev pub AreJoint : World → Role → Body → List Message → Body → List Message → Ledger → Type 0
   AreJoint = ledgers.Joint free tables spellings a b
 
-  abbrev TakeDeeds : Role → Body → Word → model.Message → model.Choice → Type 0
-  TakeDeeds = ledgers.TakeDeeds free tables spellings a b
+  abbrev TakeLog : Role → Body → Word → model.Message → model.Choice → Type 0
+  TakeLog = ledgers.TakeLog free tables spellings a b
 
   -- the shared set after the answers to a word
   abbrev SharesSo : Role → Body → Word → model.Message → model.Choice → Type 0
@@ -180,7 +180,7 @@ module _ (free : Free) (tables : Tables) (spellings : Spellings) (a b : Config) 
     chosen : (message : model.Message) → Means proposed (base Initiator) word message → IsChoice setup (seen (base role) body) message choice
     taking : (message : model.Message) → Means proposed (base Initiator) word message → MayTake setup role (seen (base role) body) message → TakenAs free Reliable (base role) proposed body word message choice
     shares : (message : model.Message) → Means proposed (base Initiator) word message → SharesSo role body word message choice
-    deeds : (message : model.Message) → Means proposed (base Initiator) word message → TakeDeeds role body word message choice
+    transfer_log : (message : model.Message) → Means proposed (base Initiator) word message → TakeLog role body word message choice
 
   by-role : (role : Role) (body : Body) (message : model.Message) → MayTake setup role (seen (base role) body) message → MayTake (setup_seen free Reliable (base role)) (role_seen (is_initiator role)) (seen (base role) body) message
   by-role role body message may = subst (λ r. MayTake setup r (seen (base role) body) message) (sym (role-back role)) may
@@ -188,20 +188,20 @@ module _ (free : Free) (tables : Tables) (spellings : Spellings) (a b : Config) 
   abbrev IsMeant : Word → model.Message → Type 0
   IsMeant word m = (message : model.Message) → Means proposed (base Initiator) word message → message ≡ m
 
-  plain-with : (role : Role) (body : Body) (word : Word) (m : model.Message) → IsMeant word m → IsChoice setup (seen (base role) body) m Nothing → (MayTake setup role (seen (base role) body) m → TakenAs free Reliable (base role) proposed body word m Nothing) → SharesSo role body word m Nothing → TakeDeeds role body word m Nothing → OwnTaking role body word
-  plain-with role body word m is free_choice row shares deeds =
+  plain-with : (role : Role) (body : Body) (word : Word) (m : model.Message) → IsMeant word m → IsChoice setup (seen (base role) body) m Nothing → (MayTake setup role (seen (base role) body) m → TakenAs free Reliable (base role) proposed body word m Nothing) → SharesSo role body word m Nothing → TakeLog role body word m Nothing → OwnTaking role body word
+  plain-with role body word m is free_choice row shares transfer_log =
       record {
         choice = Nothing;
         chosen = λ message means. subst (λ x. IsChoice setup (seen (base role) body) x Nothing) (sym (is message means)) free_choice;
         taking = λ message means may.
             subst (λ x. TakenAs free Reliable (base role) proposed body word x Nothing) (sym (is message means)) (row (subst (λ x. MayTake setup role (seen (base role) body) x) (is message means) may));
         shares = λ message means. subst (λ x. SharesSo role body word x Nothing) (sym (is message means)) shares;
-        deeds = λ message means. subst (λ x. TakeDeeds role body word x Nothing) (sym (is message means)) deeds;
+        transfer_log = λ message means. subst (λ x. TakeLog role body word x Nothing) (sym (is message means)) transfer_log;
       }
 
-  plain : (role : Role) (body : Body) (word : Word) (m : model.Message) → IsMeant word m → IsChoice setup (seen (base role) body) m Nothing → TakenWhere Reliable word m nothing → SharesSo role body word m Nothing → TakeDeeds role body word m Nothing → IsSoundBody Reliable (base role) body → IsJoined Reliable body → OwnTaking role body word
-  plain role body word m is free_choice row shares deeds sound joined =
-      plain-with role body word m is free_choice (λ may. row free (base role) proposed body sound joined (by-role role body m may)) shares deeds
+  plain : (role : Role) (body : Body) (word : Word) (m : model.Message) → IsMeant word m → IsChoice setup (seen (base role) body) m Nothing → TakenWhere Reliable word m nothing → SharesSo role body word m Nothing → TakeLog role body word m Nothing → IsSoundBody Reliable (base role) body → IsJoined Reliable body → OwnTaking role body word
+  plain role body word m is free_choice row shares transfer_log sound joined =
+      plain-with role body word m is free_choice (λ may. row free (base role) proposed body sound joined (by-role role body m may)) shares transfer_log
 
   altering : (role : Role) (body : Body) (add : List Proposal) (delete : List ℕ) → IsSoundBody Reliable (base role) body → IsJoined Reliable body → OwnTaking role body (OfData (AlterContext add delete))
   altering role body add delete sound joined =
@@ -225,8 +225,8 @@ module _ (free : Free) (tables : Tables) (spellings : Spellings) (a b : Config) 
               of_a = s.of_a;
               of_b = s.of_b;
             });
-        deeds = λ message means.
-            subst (λ m. TakeDeeds role body (OfData (AlterContext add delete)) m (Results results)) (sym means)
+        transfer_log = λ message means.
+            subst (λ m. TakeLog role body (OfData (AlterContext add delete)) m (Results results)) (sym means)
             (record { starts = λ items theirs e. e; arrives = λ arrived. refl });
       }
 
@@ -249,8 +249,8 @@ module _ (free : Free) (tables : Tables) (spellings : Spellings) (a b : Config) 
             subst (λ m. TakenAs free Reliable (base role) proposed body (OfData (AlterContextAck answers)) m Nothing) (ap model_alter_answer f.same ∙ sym means.2)
             (answers-taken.alter_ack Reliable o.0 o.1 answers free (base role) proposed body joined o.2 f.fits (by-role role body (model_alter_answer (results_seen o.0 answers)) its));
         shares = λ message means. subst (λ m. SharesSo role body (OfData (AlterContextAck answers)) m Nothing) (sym means.2) (λ ledger theirs s. s);
-        deeds = λ message means.
-            subst (λ m. TakeDeeds role body (OfData (AlterContextAck answers)) m Nothing) (sym means.2)
+        transfer_log = λ message means.
+            subst (λ m. TakeLog role body (OfData (AlterContextAck answers)) m Nothing) (sym means.2)
             (record { starts = λ items theirs e. e; arrives = λ arrived. refl });
       }
 
@@ -464,7 +464,7 @@ module _ (free : Free) (tables : Tables) (spellings : Spellings) (a b : Config) 
       (reacts-so (base role) body word live ∙
       ap (λ p. if p then Passes else on_word (base role) body word (word_fault (base role) body word)) here ∙
       ap (on_word (base role) body word) t.no_fault)
-      (ledgers.takes-joint free tables spellings a b world role body word left peer to_peer x.taken_so.choice ledger j t (x.taken_so.shares t.message t.means ledger (shared_at setup world) j.same) (x.taken_so.deeds t.message t.means))
+      (ledgers.takes-joint free tables spellings a b world role body word left peer to_peer x.taken_so.choice ledger j t (x.taken_so.shares t.message t.means ledger (shared_at setup world) j.same) (x.taken_so.transfer_log t.message t.means))
       x.sound x.sending x.side x.own
 
   -- ---- the end of a transfer

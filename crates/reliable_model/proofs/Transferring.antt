@@ -59,16 +59,16 @@ from-spaced n (Marked m set ∷ pieces) h = go (from-spaced n pieces h.1) (nat_e
     go later true = h
     go later false = later
 
-record Goes (pieces : List Piece) (all : List ℕ) : Type 0 where
+record BeginAll (pieces : List Piece) (all : List ℕ) : Type 0 where
   left : List ℕ
   begins : joined pieces ++ left ≡ all
 
-from-begins : (n : ℕ) (pieces : List Piece) (left all : List ℕ) → joined pieces ++ left ≡ all → Goes (from_mark n pieces) all
+from-begins : (n : ℕ) (pieces : List Piece) (left all : List ℕ) → joined pieces ++ left ≡ all → BeginAll (from_mark n pieces) all
 from-begins n [] left all h = record { left = left; begins = h }
 from-begins n (Octets octets ∷ pieces) left all h = from-begins n pieces (octets ++ left) all (sym (append_assoc (joined pieces) octets left) ∙ h)
 from-begins n (Marked m set ∷ pieces) left all h = go (from-begins n pieces left all h) (nat_eq m n)
   where
-    go : Goes (from_mark n pieces) all → (b : Bool) → Goes (if b then Marked m set ∷ pieces else from_mark n pieces) all
+    go : BeginAll (from_mark n pieces) all → (b : Bool) → BeginAll (if b then Marked m set ∷ pieces else from_mark n pieces) all
     go later true = record { left = left; begins = h }
     go later false = later
 

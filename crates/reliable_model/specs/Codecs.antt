@@ -10,7 +10,7 @@ use Rattle.osi_base.specs.SetPlaces.{pair_of}
 use Rattle.end_model.specs.end_rules.Invoking.{is_too_long}
 use Rattle.agreement.specs.Messages as model
 use Rattle.end_model.specs.Seen.{Free, number_seen, set_seen, item_seen}
-use Rattle.end_model.specs.Opens.{IsProper}
+use Rattle.end_model.specs.OpenInvocations.{IsProper}
 
 -- the highest number of a problem (X.880 9)
 abbrev pub last_problem : ℕ

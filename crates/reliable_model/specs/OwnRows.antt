@@ -18,7 +18,7 @@ use Rattle.end_model.specs.Rows.{at}
 use Rattle.end_model.specs.Acting.{ActsAs}
 use Rattle.reliable_model.specs.Codecs.{IsContextOf, SpellsTransfers, Carries}
 use Rattle.reliable_model.specs.Transferring.{IsSending}
-use Rattle.reliable_model.specs.Goes.{Encoding, own_messages, started_by, encoded_by}
+use Rattle.reliable_model.specs.Ledgers.{Encoding, own_messages, started_by, encoded_by}
 
 -- an encoding, as the model sees it
 abbrev pub encoding_seen : Base → Encoding → ModelEncoding

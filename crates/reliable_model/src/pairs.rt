@@ -1,6 +1,6 @@
 //! Two ends of reliable mode: each statement is the contract of a function with an empty body.
 
-ghost use Rattle.reliable_model.specs.ReliablePairs.{ReliableModelled, ReliableOneHolder, ReliableTakes};
+ghost use Rattle.reliable_model.specs.ReliableEnds.{ReliableModelled, ReliableOneHolder, ReliableTakes};
 ghost use Rattle.reliable_model.specs.Transfers.{ReliableArriveOnce, ReliableArriveWhole};
 ghost use Rattle.reliable_model.specs.Transfers.{ReliableAsSent, ReliableItems};
 
@@ -9,7 +9,7 @@ ghost use Rattle.reliable_model.specs.Transfers.{ReliableAsSent, ReliableItems};
 /// release, aborts, breaks at any moment and recoveries, there is a run of the model with their
 /// states and with what is on its way; and what comes next to an end is taken or passed over, so
 /// neither aborts of itself.
-pub fn reliable_pairs_are_modelled()
+pub fn reliable_ends_are_modelled()
     ensures modelled { ReliableModelled }
     ensures takes { ReliableTakes }
 {}

@@ -3,7 +3,7 @@ use Rattle.std.proofs.Common.{◌≡◌, true, false, List, [], refl, sym, subst
 use Rattle.stub_tables.specs.declared.tables.Tables.{Tables}
 use Rattle.dialogue.specs.declared.config.Config.{Config}
 use Rattle.dialogue.specs.Config.{IsBare}
-use Rattle.dialogue.specs.declared.setup.Setup.{Setup}
+use Rattle.dialogue.specs.declared.bare_setup.BareSetup.{BareSetup}
 use Rattle.dialogue.specs.declared.event.Event.{Event}
 use Rattle.dialogue.specs.declared.event.Transcript.{Transcript}
 use Rattle.bare_duo.specs.bare_end.View.{EndView, StandsFor}
@@ -17,7 +17,7 @@ module _ (a b : Config) (a_is : IsBare true a) (b_is : IsBare false b) where
     abbrev schedule : Said
     schedule = record { a = a; b = b; events = events }
 
-    abbrev setup : Setup
+    abbrev setup : BareSetup
     setup = record { a = a; b = b; initiator = ∣ a_is ∣₁; responder = ∣ b_is ∣₁ }
 
     from_run : (a_after b_after : EndView) → RanFromStart setup tables events transcript a_after b_after → RanBare tables schedule transcript

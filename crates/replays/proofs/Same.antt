@@ -6,7 +6,7 @@ use Rattle.dialogue.specs.declared.config.Config.{Config}
 use Rattle.dialogue.specs.declared.config.Mode.{Mode}
 use Rattle.dialogue.specs.declared.config.Mode.TheVariants.{Bare, Direct, Reliable}
 use Rattle.dialogue.specs.declared.config.Phase.{Phase}
-use Rattle.dialogue.specs.declared.setup.Setup.{Setup}
+use Rattle.dialogue.specs.declared.bare_setup.BareSetup.{BareSetup}
 use Rattle.dialogue.specs.declared.event.Entry.{Entry}
 use Rattle.dialogue.specs.declared.event.Transcript.{Transcript}
 use Rattle.end_rules.specs.World.{Ends}
@@ -33,7 +33,7 @@ abbrev ends_with : Tables → Config → Config → Ends
 ends_with tables a b = record { a = bare_base tables a; b = bare_base tables b }
 
 -- setups with these configurations make the same ends
-same_ends : (tables : Tables) (r s : Setup) → r.a ≡ s.a → r.b ≡ s.b → bare.ends_of r tables ≡ bare.ends_of s tables
+same_ends : (tables : Tables) (r s : BareSetup) → r.a ≡ s.a → r.b ≡ s.b → bare.ends_of r tables ≡ bare.ends_of s tables
 same_ends tables r s a b =
     let first : ends_with tables r.a r.b ≡ ends_with tables s.a r.b = ap (λ x. ends_with tables x r.b) a in first ∙ ap (λ x. ends_with tables s.a x) b
 

@@ -5,7 +5,7 @@ use Rattle.stub_tables.specs.declared.tables.Tables.{Tables}
 use Rattle.stub_tables.specs.Readable.{IsReadable}
 use Rattle.dialogue.specs.declared.config.Mode.{Mode}
 use Rattle.dialogue.specs.declared.config.Mode.TheVariants.{Bare, Direct, Reliable}
-use Rattle.dialogue.specs.declared.setup.Setup.{Setup}
+use Rattle.dialogue.specs.declared.bare_setup.BareSetup.{BareSetup}
 use Rattle.dialogue.specs.declared.event.Event.{Event}
 use Rattle.dialogue.specs.declared.event.Transcript.{Transcript}
 use Rattle.end_rules.specs.World.{World}
@@ -40,7 +40,7 @@ pub record BareRanOver (all : List Event) (a b : bare_view.EndView) (transcript 
 -- Two ends of bare mode with the configurations of the schedule's setup, which had made no step, ran its events, and
 -- this transcript tells it.
 pub record RanBare (tables : Tables) (schedule : Said) (transcript : Transcript) : Type 0 where
-  pub setup : Setup
+  pub setup : BareSetup
   pub a_is : setup.a ≡ schedule.a
   pub b_is : setup.b ≡ schedule.b
   -- the moments of both ends at the end of the run

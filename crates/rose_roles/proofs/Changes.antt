@@ -14,7 +14,7 @@ use Rattle.linked_ops.specs.Keys.{same_bool, same_key}
 use Rattle.linked_ops.specs.Entries.{Entry, is_open, closed}
 use Rattle.end_wire.specs.end_rules.State as ends
 use Rattle.rose_roles.specs.declared.invoked_with.InvokedWith.{InvokedWith}
-use Rattle.rose_roles.specs.Calls.{Kept, called, key_of, side, operation_or_none, context_or_none, parent_in, AreOpen, opens_in}
+use Rattle.rose_roles.specs.Calls.{Kept, called, key_of, side, operation_or_none, context_or_none, parent_in, AreOpen, open_calls_in}
 use Rattle.rose_roles.proofs.Keys.{id_is, ids_are, key_is, keys_are, bool_cases, or_true, AreApart, open_closed, shut_closed}
 use Rattle.rose_roles.proofs.Opens.{same_opens, snoc, closing}
 
@@ -106,7 +106,7 @@ module _ (own : Bool) (id : ℤ) (call : InvokedWith) (linked : Option ℤ) (i p
 
   pub entering : (es : List Entry) → is_open (key_of own id) es ≡ false → called id (side own j r) ≡ Some call
       → ((b : Bool) (q : ℤ) → same_key (key_of b q) (key_of own id) ≡ false → called q (side b j r) ≡ called q (side b i p))
-      → opens_in (es ++ entry ∷ []) j r ≡ opens_in es i p ++ record { own = own; id = id; operation = call.operation; context = call.context; parent = linked } ∷ []
+      → open_calls_in (es ++ entry ∷ []) j r ≡ open_calls_in es i p ++ record { own = own; id = id; operation = call.operation; context = call.context; parent = linked } ∷ []
   entering es n new old =
       let x = same_opens es i p j r (λ b q o. old b q (bool_cases (same_key (key_of b q) (key_of own id)) (λ t. let y : is_open (key_of own id) es ≡ true = subst (λ (z : Key). is_open z es ≡ true) (keys_are (key_of b q) (key_of own id) t) o in let z : true ≡ false = sym y ∙ n in absurd cc) (λ f. f))) in
       let y = parent_is own linked in
@@ -144,7 +144,7 @@ open_still own b id kept es n h =
 
 pub leaving : (own : Bool) (id : ℤ) (i p j r : Kept) (es : List Entry) → AreApart es
     → ((b : Bool) (q : ℤ) → same_key (key_of b q) (key_of own id) ≡ false → called q (side b j r) ≡ called q (side b i p))
-    → opens_in (closed (key_of own id) es) j r ≡ ends.closed own id (opens_in es i p)
+    → open_calls_in (closed (key_of own id) es) j r ≡ ends.closed own id (open_calls_in es i p)
 leaving own id i p j r es a old = closing i p j r own id es a (λ b q o n. old b q n)
 
 -- ---- as the calls say it
@@ -164,11 +164,11 @@ shut_by own id es kept h n = none (called id kept) (sym (h.each id) ∙ n)
 module _ (id : ℤ) (call : InvokedWith) (linked : Option ℤ) (kept more : Kept) (updated : (q : ℤ) → called q more ≡ cond (int_eq id q) (Some call) (called q kept)) (es fs : List Entry) where
   module _ (placed : fs ≡ es ++ (key_of true id, option_map (key_of false) linked) ∷ []) where
     pub opens_own : (performed : Kept) (z : ℤ) → id ≡ z → is_open (key_of true z) es ≡ false
-        → opens_in fs more performed ≡ opens_in es kept performed ++ record { own = true; id = z; operation = call.operation; context = call.context; parent = linked } ∷ []
+        → open_calls_in fs more performed ≡ open_calls_in es kept performed ++ record { own = true; id = z; operation = call.operation; context = call.context; parent = linked } ∷ []
     opens_own performed z e n =
-        ap (λ (f : List Entry). opens_in f more performed) placed
+        ap (λ (f : List Entry). open_calls_in f more performed) placed
         ∙ entering true id call linked kept performed more performed es (subst (λ (y : ℤ). is_open (key_of true y) es ≡ false) (sym e) n) (new true id call kept more updated) (own_side id call kept more performed (kept_more true id call kept more updated))
-        ∙ ap (λ (y : ℤ). opens_in es kept performed ++ record { own = true; id = y; operation = call.operation; context = call.context; parent = linked } ∷ []) e
+        ∙ ap (λ (y : ℤ). open_calls_in es kept performed ++ record { own = true; id = y; operation = call.operation; context = call.context; parent = linked } ∷ []) e
 
     pub own_after : AreOpen true es kept → AreOpen true fs more
     own_after h = subst (λ (f : List Entry). AreOpen true f more) (sym placed) (open_entered true id call kept more updated es _ h)
@@ -178,9 +178,9 @@ module _ (id : ℤ) (call : InvokedWith) (linked : Option ℤ) (kept more : Kept
 
   module _ (placed : fs ≡ es ++ (key_of false id, option_map (key_of true) linked) ∷ []) where
     pub opens_peer : (invoked : Kept) → is_open (key_of false id) es ≡ false
-        → opens_in fs invoked more ≡ opens_in es invoked kept ++ record { own = false; id = id; operation = call.operation; context = call.context; parent = linked } ∷ []
+        → open_calls_in fs invoked more ≡ open_calls_in es invoked kept ++ record { own = false; id = id; operation = call.operation; context = call.context; parent = linked } ∷ []
     opens_peer invoked n =
-        ap (λ (f : List Entry). opens_in f invoked more) placed
+        ap (λ (f : List Entry). open_calls_in f invoked more) placed
         ∙ entering false id call linked invoked kept invoked more es n (new false id call kept more updated) (peer_side id call invoked kept more (kept_more false id call kept more updated))
 
     pub their_after : AreOpen false es kept → AreOpen false fs more
@@ -193,17 +193,17 @@ pub not_open : (own : Bool) (id : ℤ) (es : List Entry) (kept : Kept) → AreOp
 not_open own id es kept h e = h.each id ∙ ap is_some e
 
 module _ (id : ℤ) (kept less : Kept) (updated : (q : ℤ) → called q less ≡ cond (int_eq id q) None (called q kept)) (es fs : List Entry) where
-  pub leaves_own : (performed : Kept) → AreApart es → fs ≡ closed (key_of true id) es → opens_in fs less performed ≡ ends.closed true id (opens_in es kept performed)
+  pub leaves_own : (performed : Kept) → AreApart es → fs ≡ closed (key_of true id) es → open_calls_in fs less performed ≡ ends.closed true id (open_calls_in es kept performed)
   leaves_own performed a e =
-      ap (λ (f : List Entry). opens_in f less performed) e ∙ leaving true id kept performed less performed es a (own_side_less performed)
+      ap (λ (f : List Entry). open_calls_in f less performed) e ∙ leaving true id kept performed less performed es a (own_side_less performed)
     where
       own_side_less : (performed : Kept) (b : Bool) (q : ℤ) → same_key (key_of b q) (key_of true id) ≡ false → called q (side b less performed) ≡ called q (side b kept performed)
       own_side_less performed true q n = kept_less true id kept less updated q (ids_apart q id n)
       own_side_less performed false q n = refl
 
-  pub leaves_peer : (invoked : Kept) → AreApart es → fs ≡ closed (key_of false id) es → opens_in fs invoked less ≡ ends.closed false id (opens_in es invoked kept)
+  pub leaves_peer : (invoked : Kept) → AreApart es → fs ≡ closed (key_of false id) es → open_calls_in fs invoked less ≡ ends.closed false id (open_calls_in es invoked kept)
   leaves_peer invoked a e =
-      ap (λ (f : List Entry). opens_in f invoked less) e ∙ leaving false id invoked kept invoked less es a (peer_side_less invoked)
+      ap (λ (f : List Entry). open_calls_in f invoked less) e ∙ leaving false id invoked kept invoked less es a (peer_side_less invoked)
     where
       peer_side_less : (invoked : Kept) (b : Bool) (q : ℤ) → same_key (key_of b q) (key_of false id) ≡ false → called q (side b invoked less) ≡ called q (side b invoked kept)
       peer_side_less invoked true q n = refl

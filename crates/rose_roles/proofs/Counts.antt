@@ -11,7 +11,7 @@ use Rattle.linked_ops.specs.Keys.{same_bool, same_key}
 use Rattle.linked_ops.specs.Entries.{Entry, is_open}
 use Rattle.end_wire.specs.end_rules.State as ends
 use Rattle.rose_roles.specs.declared.invoked_with.InvokedWith.{InvokedWith}
-use Rattle.rose_roles.specs.Calls.{Kept, called, key_of, AreOpen, open_call, opens_in}
+use Rattle.rose_roles.specs.Calls.{Kept, called, key_of, AreOpen, open_call, open_calls_in}
 use Rattle.rose_roles.proofs.Keys.{id_is, ids_are, bool_cases, or_rest, AreApart, bools_are}
 
 -- each identifier stands once
@@ -110,20 +110,20 @@ module _ (own : Bool) where
   skipped e es kept h f =
       record { each = λ id. sym (or_rest (same_key e.0 (key_of own id)) _ (ap (λ (s : Bool). s && int_eq e.0.id id) f)) ∙ h.each id }
 
-  pub counts : (i p : Kept) (es : List Entry) (kept : Kept) → AreApart es → Once kept → AreOpen own es kept → length (ends.opens_of own (opens_in es i p)) ≡ length kept
+  pub counts : (i p : Kept) (es : List Entry) (kept : Kept) → AreApart es → Once kept → AreOpen own es kept → length (ends.opens_of own (open_calls_in es i p)) ≡ length kept
   counts i p [] kept a o h = sym (none_kept kept h.each)
   counts i p (e ∷ es) kept a o h =
       bool_cases (same_bool e.0.own own)
       (λ t.
-      let w : length (ends.opens_of own (opens_in (e ∷ es) i p)) ≡ suc (length (ends.opens_of own (opens_in es i p))) =
-      ap (λ (c : Bool). length (cond c (open_call i p e ∷ ends.opens_of own (opens_in es i p)) (ends.opens_of own (opens_in es i p)))) (whose own e.0.own ∙ t) in
+      let w : length (ends.opens_of own (open_calls_in (e ∷ es) i p)) ≡ suc (length (ends.opens_of own (open_calls_in es i p))) =
+      ap (λ (c : Bool). length (cond c (open_call i p e ∷ ends.opens_of own (open_calls_in es i p)) (ends.opens_of own (open_calls_in es i p)))) (whose own e.0.own ∙ t) in
       let k : same_key e.0 (key_of own e.0.id) ≡ true = ap (λ (s : Bool). s && int_eq e.0.id e.0.id) t ∙ id_is e.0.id in
       let s : is_some (called e.0.id kept) ≡ true = sym (h.each e.0.id) ∙ ap (λ (x : Bool). x || is_open (key_of own e.0.id) es) k in
       let v = is_some_of (called e.0.id kept) s in
       w ∙ ap suc (counts i p es (without e.0.id kept) a.1 (still_once e.0.id kept o) (opened e es kept a o h t)) ∙ fewer e.0.id kept v.0 v.1)
       (λ f.
-      let w : length (ends.opens_of own (opens_in (e ∷ es) i p)) ≡ length (ends.opens_of own (opens_in es i p)) =
-      ap (λ (c : Bool). length (cond c (open_call i p e ∷ ends.opens_of own (opens_in es i p)) (ends.opens_of own (opens_in es i p)))) (whose own e.0.own ∙ f) in
+      let w : length (ends.opens_of own (open_calls_in (e ∷ es) i p)) ≡ length (ends.opens_of own (open_calls_in es i p)) =
+      ap (λ (c : Bool). length (cond c (open_call i p e ∷ ends.opens_of own (open_calls_in es i p)) (ends.opens_of own (open_calls_in es i p)))) (whose own e.0.own ∙ f) in
       w ∙ counts i p es kept a.1 o (skipped e es kept h f))
 
 -- ---- a map's keys rise

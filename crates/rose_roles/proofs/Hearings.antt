@@ -17,7 +17,7 @@ use Rattle.rose_roles.specs.declared.invoked_with.InvokedWith.{InvokedWith}
 use Rattle.rose_roles.specs.declared.apdu_problems.Judged as judgeds
 use Rattle.rose_roles.specs.declared.apdu_problems.Judged.TheVariants as judged
 use Rattle.rose_roles.specs.declared.apdu_taken.RoseTaken.TheVariants as taken
-use Rattle.rose_roles.specs.Calls.{Kept, Invoking, called, key_of, side, operation_or_none, AreOpen, opens_in, calls_of}
+use Rattle.rose_roles.specs.Calls.{Kept, Invoking, called, key_of, side, operation_or_none, AreOpen, open_calls_in, calls_of}
 use Rattle.rose_roles.specs.ApduProblems as judging
 use Rattle.rose_roles.specs.Hearing.{heard_with}
 use Rattle.rose_roles.proofs.Keys.{AreApart}
@@ -32,13 +32,13 @@ Matches (Some o) (Some c) = o.operation ≡ c.operation
 Matches None (Some c) = ⊥
 Matches (Some o) None = ⊥
 
-matching_by : (b : Bool) (id : ℤ) (es : List Entry) (i p : Kept) (c : Option InvokedWith) → c ≡ called id (side b i p) → is_open (key_of b id) es ≡ is_some c → Matches (ends.opened_with b id (opens_in es i p)) c
+matching_by : (b : Bool) (id : ℤ) (es : List Entry) (i p : Kept) (c : Option InvokedWith) → c ≡ called id (side b i p) → is_open (key_of b id) es ≡ is_some c → Matches (ends.opened_with b id (open_calls_in es i p)) c
 matching_by b id es i p None is e = subst (λ (x : Option ends.OpenCall). Matches x None) (sym (not_found i p b id es e)) tt
 matching_by b id es i p (Some c) is e =
     let f = found i p b id es e in
     subst (λ (x : Option ends.OpenCall). Matches x (Some c)) (sym f.1) (f.2 ∙ ap operation_or_none (sym is))
 
-pub matching : (b : Bool) (id : ℤ) (es : List Entry) (i p : Kept) → AreOpen b es (side b i p) → Matches (ends.opened_with b id (opens_in es i p)) (called id (side b i p))
+pub matching : (b : Bool) (id : ℤ) (es : List Entry) (i p : Kept) → AreOpen b es (side b i p) → Matches (ends.opened_with b id (open_calls_in es i p)) (called id (side b i p))
 matching b id es i p h = matching_by b id es i p (called id (side b i p)) refl (h.each id)
 
 there_both : (o : Option ends.OpenCall) (c : Option InvokedWith) → Matches o c → is_some o ≡ is_some c

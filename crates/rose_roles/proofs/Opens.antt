@@ -6,7 +6,7 @@ use Rattle.linked_ops.specs.Keys.{same_bool, same_key}
 use Rattle.linked_ops.specs.Entries.{Entry, is_open, orphaned, without, closed}
 use Rattle.end_wire.specs.end_rules.State as ends
 use Rattle.rose_roles.specs.declared.invoked_with.InvokedWith.{InvokedWith}
-use Rattle.rose_roles.specs.Calls.{Kept, called, key_of, side, operation_or_none, context_or_none, parent_in, open_call, opens_in}
+use Rattle.rose_roles.specs.Calls.{Kept, called, key_of, side, operation_or_none, context_or_none, parent_in, open_call, open_calls_in}
 use Rattle.rose_roles.proofs.Keys.{key_is, keys_are, bool_cases, or_true, or_first, or_none, or_rest, AreApart}
 
 abbrev pub call_with : Entry → Option InvokedWith → ends.OpenCall
@@ -20,7 +20,7 @@ whose false false = refl
 
 -- ---- what is kept of open keys alone counts
 
-pub same_opens : (es : List Entry) (i p j q : Kept) → ((own : Bool) (id : ℤ) → is_open (key_of own id) es ≡ true → called id (side own j q) ≡ called id (side own i p)) → opens_in es j q ≡ opens_in es i p
+pub same_opens : (es : List Entry) (i p j q : Kept) → ((own : Bool) (id : ℤ) → is_open (key_of own id) es ≡ true → called id (side own j q) ≡ called id (side own i p)) → open_calls_in es j q ≡ open_calls_in es i p
 same_opens [] i p j q h = refl
 same_opens (e ∷ es) i p j q h =
     let x = h e.0.own e.0.id (or_first (same_key e.0 e.0) _ (key_is e.0)) in
@@ -28,7 +28,7 @@ same_opens (e ∷ es) i p j q h =
     λ k. call_with e (x k) ∷ more k
 
 module _ (i p : Kept) where
-  pub snoc : (es : List Entry) (e : Entry) → opens_in (es ++ e ∷ []) i p ≡ opens_in es i p ++ open_call i p e ∷ []
+  pub snoc : (es : List Entry) (e : Entry) → open_calls_in (es ++ e ∷ []) i p ≡ open_calls_in es i p ++ open_call i p e ∷ []
   snoc [] e = refl
   snoc (x ∷ es) e = ap (λ (os : List ends.OpenCall). open_call i p x ∷ os) (snoc es e)
 
@@ -37,24 +37,24 @@ module _ (i p : Kept) where
     key_test e = ap (λ (x : Bool). x && int_eq e.0.id id) (whose b e.0.own)
 
     pub found : (es : List Entry) → is_open (key_of b id) es ≡ true
-        → (o : ends.OpenCall) × (ends.opened_with b id (opens_in es i p) ≡ Some o) × (o.operation ≡ operation_or_none (called id (side b i p)))
+        → (o : ends.OpenCall) × (ends.opened_with b id (open_calls_in es i p) ≡ Some o) × (o.operation ≡ operation_or_none (called id (side b i p)))
     found [] h = absurd cc
     found (e ∷ es) h =
         bool_cases (same_key e.0 (key_of b id))
         (λ t. (
           open_call i p e,
-          ap (λ (c : Bool). cond c (Some (open_call i p e)) (ends.opened_with b id (opens_in es i p))) (key_test e ∙ t),
+          ap (λ (c : Bool). cond c (Some (open_call i p e)) (ends.opened_with b id (open_calls_in es i p))) (key_test e ∙ t),
           ap (λ (z : Key). operation_or_none (called z.id (side z.own i p))) (keys_are e.0 (key_of b id) t),
         ))
         (λ f.
         let r = found es (sym (or_rest (same_key e.0 (key_of b id)) _ f) ∙ h) in
-        (r.0, ap (λ (c : Bool). cond c (Some (open_call i p e)) (ends.opened_with b id (opens_in es i p))) (key_test e ∙ f) ∙ r.1, r.2))
+        (r.0, ap (λ (c : Bool). cond c (Some (open_call i p e)) (ends.opened_with b id (open_calls_in es i p))) (key_test e ∙ f) ∙ r.1, r.2))
 
-    pub not_found : (es : List Entry) → is_open (key_of b id) es ≡ false → ends.opened_with b id (opens_in es i p) ≡ None
+    pub not_found : (es : List Entry) → is_open (key_of b id) es ≡ false → ends.opened_with b id (open_calls_in es i p) ≡ None
     not_found [] h = refl
     not_found (e ∷ es) h =
         let n = or_none (same_key e.0 (key_of b id)) _ h in
-        ap (λ (c : Bool). cond c (Some (open_call i p e)) (ends.opened_with b id (opens_in es i p))) (key_test e ∙ n.0) ∙ not_found es n.1
+        ap (λ (c : Bool). cond c (Some (open_call i p e)) (ends.opened_with b id (open_calls_in es i p))) (key_test e ∙ n.0) ∙ not_found es n.1
 
 -- ---- a key that is closed
 
@@ -124,24 +124,24 @@ module _ (i p j q : Kept) (b : Bool) (id : ℤ) where
   more : (e : Entry) (es : List Entry) → Kept_ (e ∷ es) → Kept_ es
   more e es h own k o n = h own k (or_true (same_key e.0 (key_of own k)) _ o) n
 
-  roots : (es : List Entry) → Kept_ es → is_open (key_of b id) es ≡ false → opens_in (map (orphaned (key_of b id)) es) j q ≡ left (opens_in es i p)
+  roots : (es : List Entry) → Kept_ es → is_open (key_of b id) es ≡ false → open_calls_in (map (orphaned (key_of b id)) es) j q ≡ left (open_calls_in es i p)
   roots [] h n = refl
   roots (e ∷ es) h n =
       let s = or_none (same_key e.0 (key_of b id)) _ n in
       let x = one e es h s.0 in
       let y = roots es (more e es h) s.1 in
-      (λ k. x k ∷ y k) ∙ sym (stays_in e (opens_in es i p) s.0)
+      (λ k. x k ∷ y k) ∙ sym (stays_in e (open_calls_in es i p) s.0)
 
-  pub closing : (es : List Entry) → AreApart es → Kept_ es → opens_in (closed (key_of b id) es) j q ≡ ends.closed b id (opens_in es i p)
+  pub closing : (es : List Entry) → AreApart es → Kept_ es → open_calls_in (closed (key_of b id) es) j q ≡ ends.closed b id (open_calls_in es i p)
   closing [] a h = refl
   closing (e ∷ es) a h =
       bool_cases (same_key e.0 (key_of b id))
       (λ t.
       let w : closed (key_of b id) (e ∷ es) ≡ map (orphaned (key_of b id)) es = ap (λ (c : Bool). map (orphaned (key_of b id)) (cond c es (e ∷ without (key_of b id) es))) t in
       let n = subst (λ (z : Key). is_open z es ≡ false) (keys_are e.0 (key_of b id) t) a.0 in
-      ap (λ (xs : List Entry). opens_in xs j q) w ∙ roots es (more e es h) n ∙ sym (drops_out e (opens_in es i p) t))
+      ap (λ (xs : List Entry). open_calls_in xs j q) w ∙ roots es (more e es h) n ∙ sym (drops_out e (open_calls_in es i p) t))
       (λ f.
       let w : closed (key_of b id) (e ∷ es) ≡ orphaned (key_of b id) e ∷ closed (key_of b id) es = ap (λ (c : Bool). map (orphaned (key_of b id)) (cond c es (e ∷ without (key_of b id) es))) f in
       let x = one e es h f in
       let y = closing es a.1 (more e es h) in
-      ap (λ (xs : List Entry). opens_in xs j q) w ∙ (λ k. x k ∷ y k) ∙ sym (stays_in e (opens_in es i p) f))
+      ap (λ (xs : List Entry). open_calls_in xs j q) w ∙ (λ k. x k ∷ y k) ∙ sym (stays_in e (open_calls_in es i p) f))

@@ -76,10 +76,10 @@ open_call invoked performed e =
     let c = called e.0.id (side e.0.own invoked performed) in
     record { own = e.0.own; id = e.0.id; operation = operation_or_none c; context = context_or_none c; parent = parent_in e.0.own e.1 }
 
-abbrev pub opens_in : List Entry → Kept → Kept → List ends.OpenCall
-opens_in [] invoked performed = []
-opens_in (e ∷ es) invoked performed = open_call invoked performed e ∷ opens_in es invoked performed
+abbrev pub open_calls_in : List Entry → Kept → Kept → List ends.OpenCall
+open_calls_in [] invoked performed = []
+open_calls_in (e ∷ es) invoked performed = open_call invoked performed e ∷ open_calls_in es invoked performed
 
 -- as the rules of one end see them
 abbrev pub calls_of : List Entry → Invoking → Kept → ends.Calls
-calls_of forest invoking performed = record { opens = opens_in forest invoking.kept performed; made = invoking.made }
+calls_of forest invoking performed = record { opens = open_calls_in forest invoking.kept performed; made = invoking.made }

@@ -12,7 +12,7 @@ ghost use Rattle.end_wire.specs.end_rules.State.{close, opens_of};
 ghost use Rattle.end_wire.specs.end_rules.Hearing.{hear, is_of_invocation};
 ghost use Rattle.rose_roles.specs.Heads.{is_invocation, reject_by, Carries, use_by, parameter_placed};
 ghost use Rattle.rose_roles.specs.Hearing.{Hears, HearsHead, heard_with};
-ghost use Rattle.rose_roles.specs.Calls.{Kept, Invoking, called, key_of, AreOpen, calls_of, open_call, opens_in, KeepsOpen, InvokerKeeps};
+ghost use Rattle.rose_roles.specs.Calls.{Kept, Invoking, called, key_of, AreOpen, calls_of, open_call, open_calls_in, KeepsOpen, InvokerKeeps};
 
 use crate::apdu_problems::{judge_error, judge_result};
 use crate::apdu_taken::{
@@ -69,7 +69,7 @@ impl Invoker {
         ensures count { result ≡ length self.now.kept }
         ensures opens { (forest : List Entry) (performed : Kept) → IsForest forest →
             AreOpen true forest self.now.kept →
-            length (opens_of true (opens_in forest self.now.kept performed)) ≡ result }
+            length (opens_of true (open_calls_in forest self.now.kept performed)) ≡ result }
     {
         self.kept.len()
     }

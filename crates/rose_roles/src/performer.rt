@@ -10,7 +10,7 @@ ghost use Rattle.linked_ops.specs.Entries.{Entry, IsForest, is_open, is_open_or_
 ghost use Rattle.end_wire.specs.end_rules.Base.{Base, Carried};
 ghost use Rattle.end_wire.specs.end_rules.State.{close, opens_of};
 ghost use Rattle.end_wire.specs.end_rules.Hearing.{opening, invoked, value_in, first_problem, problem_if};
-ghost use Rattle.rose_roles.specs.Calls.{Kept, Invoking, called, key_of, AreOpen, calls_of, opens_in, PerformerKeeps};
+ghost use Rattle.rose_roles.specs.Calls.{Kept, Invoking, called, key_of, AreOpen, calls_of, open_calls_in, PerformerKeeps};
 ghost use Rattle.rose_roles.specs.Heads.{is_invocation, Carries};
 ghost use Rattle.rose_roles.specs.ApduProblems.{silent, known_problem, early_problem, invoke_problem, IsJudged, IsFree};
 ghost use Rattle.rose_roles.specs.Hearing.{Hears, heard_with};
@@ -117,7 +117,7 @@ impl Performer {
         ensures count { result ≡ length self.now.kept }
         ensures opens { (forest : List Entry) (invoked : Kept) → IsForest forest →
             AreOpen false forest self.now.kept →
-            length (opens_of false (opens_in forest invoked self.now.kept)) ≡ result }
+            length (opens_of false (open_calls_in forest invoked self.now.kept)) ≡ result }
     {
         self.kept.len()
     }

@@ -4,9 +4,10 @@
 
 mod fault;
 mod incoming;
-pub mod laws;
+mod laws;
 mod outgoing;
 
 pub use fault::RtseFault;
 pub use incoming::{Ended, Incoming};
+pub use laws::{arrives_whole, nothing_is_refused};
 pub use outgoing::{Outgoing, Step};

@@ -134,7 +134,7 @@ abbrev pub AreOnce : List Invocation → Type 0
 AreOnce [] = Unit {0}
 AreOnce (i ∷ is) = AllByRecursion (λ (j : Invocation). j.id ≢ i.id) is × AreOnce is
 
--- a linked invocation is linked to one of these, whose operation may have it linked (X.880 8.3)
+-- a linked invocation is linked to one of these, whose operation may have it linked (X.880 8.2.6)
 pub record IsLinked (tables : Tables) (made : List Invocation) (linked : ℤ) (place : ℕ) : Type 0 where
   pub parent : Invocation
   pub is_made : IsIn parent made

@@ -10,7 +10,7 @@ use Rattle.end_rules.specs.History.{Step, called, sent, fed, feed_end, gave}
 use Rattle.end_rules.specs.World.{World}
 use Rattle.agreement.specs.Sets.{Role}
 use Rattle.end_model.specs.Sharing.{side_of}
-use Rattle.outcome_laws.specs.Deals.{Asked, asked_by}
+use Rattle.outcome_laws.specs.Exchanges.{Asked, asked_by}
 use Rattle.run_laws.specs.Outcomes.{Invocation, ToldOutcome, invoked_by, answered_by}
 use Rattle.association_runs.specs.Worlds.{stepping}
 use Rattle.association_runs.proofs.Keeps.{IsQuiet}

@@ -43,10 +43,10 @@ use Rattle.end_rules.specs.Writing.{acse_context, requirement_bits, proposals, s
 use Rattle.end_rules.specs.Policy.{opening_policy}
 use Rattle.association_worlds.specs.association_wire.Written.{request_ends, written_unit}
 use Rattle.association_worlds.specs.association_reading.Laws.{IsSendable}
-use Rattle.association_worlds.specs.Ways.{IsOfTransport}
+use Rattle.association_worlds.specs.InTransit.{IsOfTransport}
 use Rattle.agreement.specs.Sets.Role.{Initiator, Responder}
-use Rattle.end_model.specs.Pairs.{Common, base_at}
-use Rattle.end_model.specs.DirectPairs.{direct_pair, ProposesRightly}
+use Rattle.end_model.specs.BothEnds.{Common, base_at}
+use Rattle.end_model.specs.DirectEnds.{direct_common, ProposesRightly}
 use Rattle.reliable_model.proofs.Fixed.{AreIdentifiers}
 use Rattle.der_octets.specs.Laws.{AreOctets}
 use Rattle.der_octets.proofs.Octets.{append-are, cons-are, der-octets}
@@ -322,9 +322,9 @@ abbrev pub AcceptSent : Tables → Message → Type 0
 AcceptSent tables (Session word) = IsSendable tables word
 AcceptSent tables (Transport unit) = Unit {0}
 
-module _ (tables : Tables) (spellings : Spellings) (a b : Config) (right : ProposesRightly (direct_pair tables spellings a b)) (ids : AreIdentifiers (proposals (base_at Initiator (direct_pair tables spellings a b)))) where
+module _ (tables : Tables) (spellings : Spellings) (a b : Config) (right : ProposesRightly (direct_common tables spellings a b)) (ids : AreIdentifiers (proposals (base_at Initiator (direct_common tables spellings a b)))) where
   abbrev common : Common
-  common = direct_pair tables spellings a b
+  common = direct_common tables spellings a b
 
   abbrev pub results : List AddAnswer
   results = opening_policy (base_at Responder common) (proposals (base_at Initiator common))

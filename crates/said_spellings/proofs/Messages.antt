@@ -10,8 +10,8 @@ use Rattle.end_rules.specs.Messages.{Transport, Session, Word, OfAssociation, Of
 use Rattle.end_rules.specs.Writing.{proposals}
 use Rattle.association_worlds.specs.association_reading.Laws.{IsSendable}
 use Rattle.agreement.specs.Sets.Role.{Initiator, Responder}
-use Rattle.end_model.specs.Pairs.{base_at}
-use Rattle.end_model.specs.DirectPairs.{ProposesRightly}
+use Rattle.end_model.specs.BothEnds.{base_at}
+use Rattle.end_model.specs.DirectEnds.{ProposesRightly}
 use Rattle.reliable_model.proofs.Fixed.{listed-identifiers}
 use Rattle.transfer_spelling.specs.Laws.{IsModule}
 use Rattle.said_words.specs.Laws.{ProposesContexts}

@@ -29,9 +29,9 @@ use Rattle.end_rules.specs.Policy.{opening_policy}
 use Rattle.end_rules.specs.Connecting.{agreed_checkpoint, answering_data}
 use Rattle.association_worlds.specs.association_reading.Laws.{IsSendable}
 use Rattle.agreement.specs.Sets.Role.{Initiator, Responder}
-use Rattle.end_model.specs.Pairs.{Common, base_at}
-use Rattle.end_model.specs.DirectPairs.{ProposesRightly}
-use Rattle.reliable_model.specs.ReliablePairs.{reliable_pair}
+use Rattle.end_model.specs.BothEnds.{Common, base_at}
+use Rattle.end_model.specs.DirectEnds.{ProposesRightly}
+use Rattle.reliable_model.specs.ReliableEnds.{reliable_common}
 use Rattle.reliable_model.proofs.Fixed.{AreIdentifiers}
 use Rattle.der_octets.proofs.Octets.{der-octets}
 use Rattle.said_words.specs.Fields.{IsContext}
@@ -65,9 +65,9 @@ checkpoint-few own theirs h = go (nat_eq own 0 || nat_eq theirs 0)
     go true = omega arith
     go false = omega arith
 
-module _ (tables : Tables) (spellings : Spellings) (a b : Config) (right : ProposesRightly (reliable_pair tables spellings a b)) (ids : AreIdentifiers (proposals (base_at Initiator (reliable_pair tables spellings a b)))) where
+module _ (tables : Tables) (spellings : Spellings) (a b : Config) (right : ProposesRightly (reliable_common tables spellings a b)) (ids : AreIdentifiers (proposals (base_at Initiator (reliable_common tables spellings a b)))) where
   abbrev common : Common
-  common = reliable_pair tables spellings a b
+  common = reliable_common tables spellings a b
 
   -- ---- what a CN and an AC carry of reliable transfer
 

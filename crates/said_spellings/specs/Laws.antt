@@ -9,11 +9,11 @@ use Rattle.end_config.specs.Refusing.{config_refusal}
 use Rattle.end_rules.specs.Base.{Spellings}
 use Rattle.end_rules.specs.Messages.{Message}
 use Rattle.agreement.specs.Sets.Role.{Initiator, Responder}
-use Rattle.end_model.specs.Pairs.{Common, base_at}
-use Rattle.end_model.specs.DirectPairs.{ProposesRightly}
+use Rattle.end_model.specs.BothEnds.{Common, base_at}
+use Rattle.end_model.specs.DirectEnds.{ProposesRightly}
 use Rattle.transfer_spelling.specs.Laws.{IsModule}
 use Rattle.association_worlds.specs.association_reading.Transfers.{transferred}
-use Rattle.association_worlds.specs.Ways.{IsCarried}
+use Rattle.association_worlds.specs.InTransit.{IsCarried}
 use Rattle.der_octets.specs.Laws.{AreOctets}
 use Rattle.said_words.specs.Calls.{AreNamed}
 use Rattle.said_words.specs.Words.{IsMessage}

@@ -47,15 +47,15 @@ use Rattle.agreement.specs.Sets.Role.{Initiator, Responder}
 use Rattle.end_model.specs.Seen.{Free}
 use Rattle.end_model.specs.Acting.{ReadsBack}
 use Rattle.end_model.specs.Requests.{sent_all, after_called}
-use Rattle.end_model.specs.Pairs.{Common, base_at, Two, body_at, coming_to, stepped, WritesAll}
-use Rattle.end_model.specs.DirectPairs.{direct_pair, ProposesRightly}
+use Rattle.end_model.specs.BothEnds.{Common, base_at, Two, body_at, coming_to, stepped, WritesAll}
+use Rattle.end_model.specs.DirectEnds.{direct_common, ProposesRightly}
 use Rattle.end_model.specs.Sharing.{side_of, shared_all_sent, shared_all_answered, SetsSent, sets_to, sets_stepped, before, none_sent, Shares}
 use Rattle.end_model.specs.Sharing as sharing
 use Rattle.end_model.proofs.Ladder.{passed, called}
 use Rattle.end_model.proofs.InvokeRungs.{invokable}
 use Rattle.end_model.proofs.DirectLaws.{direct-as_sent}
 use Rattle.end_model.proofs.DirectMachine as machine
-use Rattle.reliable_model.specs.Goes.{Ledger, Goes, begins, calls, acts, takes, passes, fails, breaks}
+use Rattle.reliable_model.specs.Ledgers.{Ledger, ReachedWithLedger, begins, calls, acts, takes, passes, fails, breaks}
 use Rattle.reliable_model.proofs.FirmSteps.{in-place, nothing-above}
 use Rattle.reliable_model.proofs.Phases.{only-open, only-abort, over-calls}
 use Rattle.reliable_model.proofs.Opening.{First}
@@ -152,7 +152,7 @@ all-sent_has P side (message ∷ messages) shared a b i h = all-sent_has P side 
 
 module _ (free : Free) (tables : Tables) (spellings : Spellings) (a b : Config) where
   abbrev common : Common
-  common = direct_pair tables spellings a b
+  common = direct_common tables spellings a b
 
   abbrev base : Role → Base
   base role = base_at role common
@@ -585,10 +585,10 @@ module _ (free : Free) (tables : Tables) (spellings : Spellings) (a b : Config) 
     abbrev kept : (two : Two) (shared : Shared) (sets : SetsSent) → Shares common two shared sets → machine.Kept free tables spellings a b two shared sets
     kept = machine.all-kept free tables spellings a b writes back right
 
-    sent-said : (role : Role) (two : Two) (ledger : Ledger) (call : Call) (answer : Option ℤ) (g : Goes common two ledger) → IsCall call → AreCalls common two ledger g → can_call (base role) (body_at role two) call ≡ Ok answer → AreMessages (base Initiator) (base Responder) (due_of (base role) (body_at role two) call (Ok answer))
+    sent-said : (role : Role) (two : Two) (ledger : Ledger) (call : Call) (answer : Option ℤ) (g : ReachedWithLedger common two ledger) → IsCall call → AreCalls common two ledger g → can_call (base role) (body_at role two) call ≡ Ok answer → AreMessages (base Initiator) (base Responder) (due_of (base role) (body_at role two) call (Ok answer))
     sent-said role two ledger call answer g i c h = called-said free tables spellings a b writes back right ids role two ledger call answer g i c h
 
-    all-placed : (two : Two) (ledger : Ledger) (g : Goes common two ledger) → AreCalls common two ledger g → PlacedIn two ledger
+    all-placed : (two : Two) (ledger : Ledger) (g : ReachedWithLedger common two ledger) → AreCalls common two ledger g → PlacedIn two ledger
     all-placed two ledger begins c =
         record {
           sets = none_sent;
@@ -670,7 +670,7 @@ module _ (free : Free) (tables : Tables) (spellings : Spellings) (a b : Config) 
     one-named k pair l (i, inl n) = n
     one-named k pair l (i, inr there) = module-or_others (base Responder) pair (first-taken.each k pair there).1 (ap (is_others tables.name_oid) (sym there) ∙ l)
 
-    taken-rightly : (two : Two) (ledger : Ledger) (g : Goes common two ledger) → AreCalls common two ledger g → (role : Role) (word : Word) (left : List Message) (body : Body) (answers : List Message) (shown : List Indication) → coming_to role two ≡ Session word ∷ left → react (base role) (body_at role two) (Session word) ≡ Takes body answers shown → IsTaken (base role) (body_at role two) word
+    taken-rightly : (two : Two) (ledger : Ledger) (g : ReachedWithLedger common two ledger) → AreCalls common two ledger g → (role : Role) (word : Word) (left : List Message) (body : Body) (answers : List Message) (shown : List Indication) → coming_to role two ≡ Session word ∷ left → react (base role) (body_at role two) (Session word) ≡ Takes body answers shown → IsTaken (base role) (body_at role two) word
     taken-rightly two ledger g c role word left body answers shown e h = go word e h
       where
         p : Placed two ledger.shared (all-placed two ledger g c).sets
@@ -710,4 +710,4 @@ module _ (free : Free) (tables : Tables) (spellings : Spellings) (a b : Config) 
 
 pub direct-takes_rightly : DirectTakesRightly
 direct-takes_rightly free tables spellings a b writes back right contexts two ledger s role word left body answers shown e h =
-    taken-rightly free tables spellings a b writes back right (listed-identifiers (proposals (base_at Initiator (direct_pair tables spellings a b))) contexts) two ledger s.goes s.calls role word left body answers shown e h
+    taken-rightly free tables spellings a b writes back right (listed-identifiers (proposals (base_at Initiator (direct_common tables spellings a b))) contexts) two ledger s.goes s.calls role word left body answers shown e h

@@ -13,11 +13,11 @@ use Rattle.agreement.specs.Sets.{Role}
 use Rattle.agreement.specs.Sets.Role.{Initiator}
 use Rattle.end_model.specs.Seen.{Free}
 use Rattle.end_model.specs.Acting.{ReadsBack}
-use Rattle.end_model.specs.Pairs.{Two, base_at, body_at, coming_to, WritesAll}
-use Rattle.end_model.specs.DirectPairs.{direct_pair, ProposesRightly}
+use Rattle.end_model.specs.BothEnds.{Two, base_at, body_at, coming_to, WritesAll}
+use Rattle.end_model.specs.DirectEnds.{direct_common, ProposesRightly}
 use Rattle.reliable_model.specs.Codecs.{Carries}
-use Rattle.reliable_model.specs.Goes.{Ledger}
-use Rattle.reliable_model.specs.ReliablePairs.{reliable_pair, IsFit}
+use Rattle.reliable_model.specs.Ledgers.{Ledger}
+use Rattle.reliable_model.specs.ReliableEnds.{reliable_common, IsFit}
 use Rattle.said_words.specs.Calls.{Speaks}
 use Rattle.said_words.specs.Words.{rtse_pair, value_of_item}
 use Rattle.said_words.specs.Laws.{ProposesContexts}
@@ -36,12 +36,12 @@ IsTaken base body word = Unit {0}
 abbrev pub DirectTakesRightly : Type 0
 DirectTakesRightly =
     (free : Free) (tables : Tables) (spellings : Spellings) (a b : Config) → WritesAll free →
-    ReadsBack (base_at Initiator (direct_pair tables spellings a b)) → ProposesRightly (direct_pair tables spellings a b) →
-    ProposesContexts (direct_pair tables spellings a b) →
-    (two : Two) (ledger : Ledger) → Speaks (direct_pair tables spellings a b) two ledger →
+    ReadsBack (base_at Initiator (direct_common tables spellings a b)) → ProposesRightly (direct_common tables spellings a b) →
+    ProposesContexts (direct_common tables spellings a b) →
+    (two : Two) (ledger : Ledger) → Speaks (direct_common tables spellings a b) two ledger →
     (role : Role) (word : Word) (left : List Message) (body : Body) (answers : List Message) (shown : List Indication) →
-    coming_to role two ≡ Session word ∷ left → react (base_at role (direct_pair tables spellings a b)) (body_at role two) (Session word) ≡ Takes body answers shown →
-    IsTaken (base_at role (direct_pair tables spellings a b)) (body_at role two) word
+    coming_to role two ≡ Session word ∷ left → react (base_at role (direct_common tables spellings a b)) (body_at role two) (Session word) ≡ Takes body answers shown →
+    IsTaken (base_at role (direct_common tables spellings a b)) (body_at role two) word
 
 -- ---- in reliable mode association control and reliable transfer stay where they were opened
 
@@ -54,9 +54,9 @@ IsTakenInTransfer body word = Unit {0}
 
 abbrev pub ReliableTakesRightly : Type 0
 ReliableTakesRightly =
-    (free : Free) (tables : Tables) (spellings : Spellings) (a b : Config) → Carries free (base_at Initiator (reliable_pair tables spellings a b)) →
-    IsFit (reliable_pair tables spellings a b) → 1 ≤ a.window →
-    (two : Two) (ledger : Ledger) → Speaks (reliable_pair tables spellings a b) two ledger →
+    (free : Free) (tables : Tables) (spellings : Spellings) (a b : Config) → Carries free (base_at Initiator (reliable_common tables spellings a b)) →
+    IsFit (reliable_common tables spellings a b) → 1 ≤ a.window →
+    (two : Two) (ledger : Ledger) → Speaks (reliable_common tables spellings a b) two ledger →
     (role : Role) (word : Word) (left : List Message) (body : Body) (answers : List Message) (shown : List Indication) →
-    coming_to role two ≡ Session word ∷ left → react (base_at role (reliable_pair tables spellings a b)) (body_at role two) (Session word) ≡ Takes body answers shown →
+    coming_to role two ≡ Session word ∷ left → react (base_at role (reliable_common tables spellings a b)) (body_at role two) (Session word) ≡ Takes body answers shown →
     IsTakenInTransfer (body_at role two) word

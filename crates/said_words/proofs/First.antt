@@ -17,8 +17,8 @@ use Rattle.end_model.specs.end_rules.Policy.{is_association, takes_syntax, accep
 use Rattle.end_model.specs.end_rules.Writing.{acse_pair, acse_context, proposal_in_ber, proposals, session_connect, presentation_connect, connect_values}
 use Rattle.end_model.specs.end_rules.Connecting.{set_for, has_acse, is_refused}
 use Rattle.agreement.specs.Sets.Role.{Initiator, Responder}
-use Rattle.end_model.specs.Pairs.{Common, base_at}
-use Rattle.end_model.specs.DirectPairs.{direct_pair, ProposesRightly}
+use Rattle.end_model.specs.BothEnds.{Common, base_at}
+use Rattle.end_model.specs.DirectEnds.{direct_common, ProposesRightly}
 use Rattle.reliable_model.proofs.Fixed.{AreIdentifiers}
 use Rattle.said_words.proofs.Lists.{IsHeld, added-listed, opened-few}
 
@@ -80,7 +80,7 @@ first_of common = set_for (base_at Responder common) (presentation_connect (base
 
 module _ (tables : Tables) (spellings : Spellings) (a b : Config) where
   abbrev common : Common
-  common = direct_pair tables spellings a b
+  common = direct_common tables spellings a b
 
   abbrev acse_proposal : Proposal
   acse_proposal = proposal_in_ber 1 acse_name

@@ -25,9 +25,9 @@ use Rattle.agreement.specs.Sets.{Role}
 use Rattle.agreement.specs.Sets.Role.{Initiator, Responder}
 use Rattle.end_model.specs.Seen.{Free}
 use Rattle.end_model.specs.Acting.{IsSoundBody, ReadsBack, HandsIn, as_list, invoked_as}
-use Rattle.end_model.specs.Opens.{IsProper}
-use Rattle.end_model.specs.Pairs.{Common, base_at, WritesAll}
-use Rattle.end_model.specs.DirectPairs.{direct_pair}
+use Rattle.end_model.specs.OpenInvocations.{IsProper}
+use Rattle.end_model.specs.BothEnds.{Common, base_at, WritesAll}
+use Rattle.end_model.specs.DirectEnds.{direct_common}
 use Rattle.end_model.proofs.Ladder.{passed, called}
 use Rattle.end_model.proofs.InvokeRungs.{invokable}
 use Rattle.end_model.proofs.Handing.{has-pair, carrier-sends}
@@ -76,7 +76,7 @@ some-pair (Some pair) h = (pair, refl)
 
 module _ (free : Free) (tables : Tables) (spellings : Spellings) (a b : Config) where
   abbrev common : Common
-  common = direct_pair tables spellings a b
+  common = direct_common tables spellings a b
 
   abbrev base : Role → Base
   base role = base_at role common

@@ -17,7 +17,7 @@ use Rattle.end_model.specs.end_rules.State.{Calls, OpenCall, opened_with, opens_
 use Rattle.end_model.specs.end_rules.Invoking.{is_linked_to, operation_of}
 use Rattle.end_model.specs.end_rules.Hearing.{Heard, Rejecting, reject_apdu, rejected, told, unless_problem, first_problem, problem_if, problem_with, is_silent_at, has_links, is_right, is_right_result, link_problem, argument_problem, operation_problem, invoke_problem, invoked, result_problem, known_error_problem, error_problem, error_told, hear_result_of, hear_error_of, hear_reject, is_of_invocation, hear, head_of_apdu, value_in, carried_in, code_returned, value_returned}
 use Rattle.dialogue.specs.declared.indication.Indication.TheVariants as indications
-use Rattle.end_model.specs.Opens.{IsNumber, IsProper}
+use Rattle.end_model.specs.OpenInvocations.{IsNumber, IsProper}
 use Rattle.reliable_model.specs.Codecs.{IsTransferable}
 
 abbrev pub IsRight : Base → Option Rejecting → Type 0

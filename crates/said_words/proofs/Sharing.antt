@@ -15,13 +15,13 @@ use Rattle.agreement.specs.Messages as model
 use Rattle.agreement.specs.Worlds.{Sending, flight_to}
 use Rattle.end_model.specs.Seen.{Free}
 use Rattle.end_model.specs.Acting.{ReadsBack}
-use Rattle.end_model.specs.Pairs.{Common, base_at, Two, body_at, coming_to, WritesAll, setup_of}
-use Rattle.end_model.specs.DirectPairs.{direct_pair, ProposesRightly}
+use Rattle.end_model.specs.BothEnds.{Common, base_at, Two, body_at, coming_to, WritesAll, setup_of}
+use Rattle.end_model.specs.DirectEnds.{direct_common, ProposesRightly}
 use Rattle.end_model.specs.Sharing.{SetsSent, sets_to, none_sent, Shares}
 use Rattle.end_model.specs.Sharing as sharing
 use Rattle.end_model.proofs.Joint.{SetsOnWay}
 use Rattle.end_model.proofs.DirectMachine as machine
-use Rattle.reliable_model.specs.Goes.{Ledger, Goes, begins, calls, acts, takes, passes, fails, breaks}
+use Rattle.reliable_model.specs.Ledgers.{Ledger, ReachedWithLedger, begins, calls, acts, takes, passes, fails, breaks}
 
 pub record NotEmpty (fs : List (List SetItem)) : Type 0 where
   pub first : List SetItem
@@ -36,12 +36,12 @@ not-empty (Session word) left (f ∷ rest) flight s = record { first = f; rest =
 
 module _ (free : Free) (tables : Tables) (spellings : Spellings) (a b : Config) where
   abbrev common : Common
-  common = direct_pair tables spellings a b
+  common = direct_common tables spellings a b
 
   abbrev base : Role → Base
   base role = base_at role common
 
-  abbrev setup : model.Setup
+  abbrev setup : model.ModelSetup
   setup = setup_of free common
 
   abbrev Kept : Two → Shared → SetsSent → Type 0
@@ -65,7 +65,7 @@ module _ (free : Free) (tables : Tables) (spellings : Spellings) (a b : Config) 
     abbrev kept : (two : Two) (shared : Shared) (sets : SetsSent) → Shares common two shared sets → Kept two shared sets
     kept = machine.all-kept free tables spellings a b writes back right
 
-    pub shared-in : (two : Two) (ledger : Ledger) → Goes common two ledger → SharedIn two ledger
+    pub shared-in : (two : Two) (ledger : Ledger) → ReachedWithLedger common two ledger → SharedIn two ledger
     shared-in two ledger begins = record { sets = none_sent; shares = sharing.begins }
     shared-in two ledger (calls x l role call answer g c) = let s = shared-in x l g in record { sets = _; shares = sharing.calls x l.shared s.sets role call answer s.shares c }
     shared-in two ledger (acts x l role own g c) = let none : None ≡ Some own = sym (no-own role (body_at role x)) ∙ c in absurd cc
@@ -83,5 +83,5 @@ module _ (free : Free) (tables : Tables) (spellings : Spellings) (a b : Config) 
         record { sets = _; shares = sharing.fails x l.shared s.sets role message left n.first n.rest fault body aborts shown s.shares e n.is_it r }
     shared-in two ledger (breaks x l g) = let s = shared-in x l g in record { sets = none_sent; shares = sharing.breaks x l.shared s.sets s.shares }
 
-    pub kept-in : (two : Two) (ledger : Ledger) (g : Goes common two ledger) → Kept two ledger.shared (shared-in two ledger g).sets
+    pub kept-in : (two : Two) (ledger : Ledger) (g : ReachedWithLedger common two ledger) → Kept two ledger.shared (shared-in two ledger g).sets
     kept-in two ledger g = let s = shared-in two ledger g in kept two ledger.shared s.sets s.shares

@@ -48,14 +48,14 @@ use Rattle.agreement.specs.Sets.Role.{Initiator, Responder}
 use Rattle.end_model.specs.Seen.{Free}
 use Rattle.end_model.specs.Rows.{at}
 use Rattle.end_model.specs.Requests.{sent_all, after_called}
-use Rattle.end_model.specs.Pairs.{Common, base_at}
-use Rattle.end_model.specs.DirectPairs.{ProposesRightly}
+use Rattle.end_model.specs.BothEnds.{Common, base_at}
+use Rattle.end_model.specs.DirectEnds.{ProposesRightly}
 use Rattle.end_model.proofs.Ladder.{passed, called, not-true}
 use Rattle.end_model.proofs.Fitting.{same-itself}
 use Rattle.end_model.proofs.OwnActs.{leading}
 use Rattle.reliable_model.specs.Codecs.{IsTransferable, SpellsTransfers}
-use Rattle.reliable_model.specs.Goes.{own_messages}
-use Rattle.reliable_model.specs.ReliablePairs.{reliable_pair}
+use Rattle.reliable_model.specs.Ledgers.{own_messages}
+use Rattle.reliable_model.specs.ReliableEnds.{reliable_common}
 use Rattle.reliable_model.specs.Transferring.{IsBeginning, OnEncoded, IsCurrent, OnCurrent, IsSending}
 use Rattle.reliable_model.proofs.Fixed.{AreIdentifiers}
 use Rattle.reliable_model.proofs.Firm.{Keeps, OwnSpares, OpensLoose, QueueLoose, CurrentKeeps, PiecesKeep, Firm, current-pieces}
@@ -197,7 +197,7 @@ settled-leaves body (x ∷ own) answers = record { link = refl; started = refl; 
 
 module _ (free : Free) (tables : Tables) (spellings : Spellings) (a b : Config) where
   abbrev common : Common
-  common = reliable_pair tables spellings a b
+  common = reliable_common tables spellings a b
 
   abbrev base : Role → Base
   base role = base_at role common

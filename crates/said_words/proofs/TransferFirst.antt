@@ -20,9 +20,9 @@ use Rattle.end_model.specs.end_rules.Policy.{answers_to_additions}
 use Rattle.end_model.specs.end_rules.Writing.{acse_pair, acse_context, rtse_context, proposals, session_connect, presentation_connect, connect_values, connection_data}
 use Rattle.end_model.specs.end_rules.Connecting.{has_acse, has_rtse, has_association, is_refused}
 use Rattle.agreement.specs.Sets.Role.{Initiator, Responder}
-use Rattle.end_model.specs.Pairs.{Common, base_at}
-use Rattle.end_model.specs.DirectPairs.{ProposesRightly}
-use Rattle.reliable_model.specs.ReliablePairs.{reliable_pair}
+use Rattle.end_model.specs.BothEnds.{Common, base_at}
+use Rattle.end_model.specs.DirectEnds.{ProposesRightly}
+use Rattle.reliable_model.specs.ReliableEnds.{reliable_common}
 use Rattle.reliable_model.proofs.Fixed.{AreIdentifiers}
 use Rattle.reliable_model.proofs.Contexts.{held-so}
 use Rattle.said_words.specs.Words.{rtse_pair}
@@ -110,7 +110,7 @@ refused-none false rtse windowless known e f g h = cc
 
 module _ (tables : Tables) (spellings : Spellings) (a b : Config) where
   abbrev common : Common
-  common = reliable_pair tables spellings a b
+  common = reliable_common tables spellings a b
 
   module _ (right : ProposesRightly common) (ids : AreIdentifiers (proposals (base_at Initiator common))) where
     later : AreLater a.contexts

@@ -21,12 +21,12 @@ use Rattle.end_model.specs.end_rules.Reacting.{Passes, Takes, react, on_transpor
 use Rattle.agreement.specs.Sets.{Role}
 use Rattle.agreement.specs.Sets.Role.{Initiator, Responder}
 use Rattle.end_model.specs.Seen.{Free}
-use Rattle.end_model.specs.Pairs.{Common, base_at, Two, body_at, coming_to, stepped}
+use Rattle.end_model.specs.BothEnds.{Common, base_at, Two, body_at, coming_to, stepped}
 use Rattle.end_model.proofs.DirectOpening.{At}
-use Rattle.reliable_model.specs.Goes.{Ledger, Goes, begins, calls, acts, takes, passes, fails, breaks}
+use Rattle.reliable_model.specs.Ledgers.{Ledger, ReachedWithLedger, begins, calls, acts, takes, passes, fails, breaks}
 use Rattle.reliable_model.specs.Transfers.{TakesTransferEnd}
 use Rattle.reliable_model.specs.Transferring.{IsSending}
-use Rattle.reliable_model.specs.ReliablePairs.{reliable_pair}
+use Rattle.reliable_model.specs.ReliableEnds.{reliable_common}
 use Rattle.reliable_model.proofs.Fixed.{AreIdentifiers, listed-identifiers}
 use Rattle.reliable_model.proofs.Firm.{Firm, IsLoose, module-loose, context_of}
 use Rattle.reliable_model.proofs.FirmSteps.{in-place, ArrivesIn}
@@ -52,7 +52,7 @@ clash x h i = cc
 
 module _ (free : Free) (tables : Tables) (spellings : Spellings) (a b : Config) where
   abbrev common : Common
-  common = reliable_pair tables spellings a b
+  common = reliable_common tables spellings a b
 
   abbrev base : Role → Base
   base role = base_at role common
@@ -233,7 +233,7 @@ module _ (free : Free) (tables : Tables) (spellings : Spellings) (a b : Config) 
     sending-at Initiator two ledger k = k.good_a.sending
     sending-at Responder two ledger k = k.good_b.sending
 
-    abbrev kept : (two : Two) (ledger : Ledger) → Goes common two ledger → Kept two ledger
+    abbrev kept : (two : Two) (ledger : Ledger) → ReachedWithLedger common two ledger → Kept two ledger
     kept two ledger g = all-kept free tables spellings a b q two ledger g
 
     unit-taken : (role : Role) (body : Body) (unit : TransportUnit) (later : Body) (answers : List Message) (shown : List Indication) → IsMessage (base Initiator) (base Responder) (Transport unit) → Rooted role body → react (base role) body (Transport unit) ≡ Takes later answers shown → RootedAndSaid role later answers
@@ -258,7 +258,7 @@ module _ (free : Free) (tables : Tables) (spellings : Spellings) (a b : Config) 
         ends.word-says free tables spellings a b q.fit.spells q.fit.proposes ids window role body word i m t.fine (arrives role two ledger word left later answers shown k e h) t.alive r in
         subst (λ (z : Body). RootedAndSaid role z answers) (sym t.later_is) (subst (RootedAndSaid role (after_word (base role) body word)) (sym t.answers_are) s)
 
-    pub all-said : (two : Two) (ledger : Ledger) (g : Goes common two ledger) → AreCalls common two ledger g → Said two
+    pub all-said : (two : Two) (ledger : Ledger) (g : ReachedWithLedger common two ledger) → AreCalls common two ledger g → Said two
     all-said two ledger begins c =
         record {
           of_a = IsYoung (record { phase = inl refl; accepted = refl; calm = refl; opens = refl; sending = refl; came = refl });
@@ -321,7 +321,7 @@ module _ (free : Free) (tables : Tables) (spellings : Spellings) (a b : Config) 
     needs-late (OfAssociation (Disconnect values)) h e = e
     needs-late word h e = absurd h
 
-    pub taken-on : (two : Two) (ledger : Ledger) (g : Goes common two ledger) → AreCalls common two ledger g → (role : Role) (word : Word) (left : List Message) (body : Body) (answers : List Message) (shown : List Indication) → NeedsContexts word → coming_to role two ≡ Session word ∷ left → react (base role) (body_at role two) (Session word) ≡ Takes body answers shown → OnContexts (body_at role two)
+    pub taken-on : (two : Two) (ledger : Ledger) (g : ReachedWithLedger common two ledger) → AreCalls common two ledger g → (role : Role) (word : Word) (left : List Message) (body : Body) (answers : List Message) (shown : List Indication) → NeedsContexts word → coming_to role two ≡ Session word ∷ left → react (base role) (body_at role two) (Session word) ≡ Takes body answers shown → OnContexts (body_at role two)
     taken-on two ledger g c role word left body answers shown needs e h =
         let s = all-said two ledger g c in
         let t = took-word (base role) (body_at role two) word body answers shown h in
@@ -338,6 +338,6 @@ some-window n h = grind (arith, nat_tests)
 
 pub reliable-says : ReliableSaysWords
 reliable-says free tables spellings a b carries fit window two ledger s role =
-    let ids = listed-identifiers (proposals (base_at Initiator (reliable_pair tables spellings a b))) fit.identifiers in
+    let ids = listed-identifiers (proposals (base_at Initiator (reliable_common tables spellings a b))) fit.identifiers in
     let q : machine.Presumed free tables spellings a b = record { fit = fit; carries = carries } in
     coming-said free tables spellings a b q ids (some-window a.window window) role two (all-said free tables spellings a b q ids (some-window a.window window) two ledger s.goes s.calls)

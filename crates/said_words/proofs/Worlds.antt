@@ -45,12 +45,12 @@ use Rattle.agreement.specs.Sets.Role.{Initiator, Responder}
 use Rattle.end_model.specs.Seen.{Free}
 use Rattle.end_model.specs.Acting.{IsSoundBody, ReadsBack}
 use Rattle.end_model.specs.Requests.{sent_all, after_called}
-use Rattle.end_model.specs.Pairs.{Common, base_at, Two, body_at, coming_to, stepped, WritesAll}
-use Rattle.end_model.specs.DirectPairs.{direct_pair, ProposesRightly}
+use Rattle.end_model.specs.BothEnds.{Common, base_at, Two, body_at, coming_to, stepped, WritesAll}
+use Rattle.end_model.specs.DirectEnds.{direct_common, ProposesRightly}
 use Rattle.end_model.proofs.Ladder.{passed, called, not-true}
 use Rattle.end_model.proofs.DirectMachine as machine
 use Rattle.reliable_model.specs.Codecs.{IsTransferable}
-use Rattle.reliable_model.specs.Goes.{Ledger, Goes, begins, calls, acts, takes, passes, fails, breaks}
+use Rattle.reliable_model.specs.Ledgers.{Ledger, ReachedWithLedger, begins, calls, acts, takes, passes, fails, breaks}
 use Rattle.reliable_model.proofs.Fixed.{AreIdentifiers, listed-identifiers}
 use Rattle.reliable_model.proofs.FirmSteps.{in-place}
 use Rattle.reliable_model.proofs.Phases.{only-open, only-abort, over-calls}
@@ -92,7 +92,7 @@ not-above a b h = grind (arith, nat_tests)
 
 module _ (free : Free) (tables : Tables) (spellings : Spellings) (a b : Config) where
   abbrev common : Common
-  common = direct_pair tables spellings a b
+  common = direct_common tables spellings a b
 
   abbrev base : Role → Base
   base role = base_at role common
@@ -532,11 +532,11 @@ module _ (free : Free) (tables : Tables) (spellings : Spellings) (a b : Config) 
     stepped-said Initiator two later left sent s r l m = record { of_a = r; of_b = s.of_b; to_a = l; to_b = said-append two.to_b sent s.to_b m }
     stepped-said Responder two later left sent s r l m = record { of_a = s.of_a; of_b = r; to_a = said-append two.to_a sent s.to_a m; to_b = l }
 
-    sound-at : (role : Role) (two : Two) (ledger : Ledger) → Goes common two ledger → IsSoundBody Direct (base role) (body_at role two)
+    sound-at : (role : Role) (two : Two) (ledger : Ledger) → ReachedWithLedger common two ledger → IsSoundBody Direct (base role) (body_at role two)
     sound-at Initiator two ledger g = (kept-in free tables spellings a b writes back right two ledger g).sound_a
     sound-at Responder two ledger g = (kept-in free tables spellings a b writes back right two ledger g).sound_b
 
-    pub all-said : (two : Two) (ledger : Ledger) (g : Goes common two ledger) → AreCalls common two ledger g → Said two
+    pub all-said : (two : Two) (ledger : Ledger) (g : ReachedWithLedger common two ledger) → AreCalls common two ledger g → Said two
     all-said two ledger begins c =
         record { of_a = IsYoung (record { phase = inl refl; accepted = refl; calm = refl }); of_b = IsYoung (record { phase = inl refl; accepted = refl; calm = refl }); to_a = tt; to_b = tt }
     all-said two ledger (calls x l role call answer g h) c =
@@ -563,10 +563,10 @@ module _ (free : Free) (tables : Tables) (spellings : Spellings) (a b : Config) 
         let s = all-said x l g c in record { of_a = broke-rooted Initiator x.a s.of_a; of_b = broke-rooted Responder x.b s.of_b; to_a = tt; to_b = tt }
 
     -- what a call sends there
-    pub called-said : (role : Role) (two : Two) (ledger : Ledger) (call : Call) (answer : Option ℤ) (g : Goes common two ledger) → IsCall call → AreCalls common two ledger g → can_call (base role) (body_at role two) call ≡ Ok answer → AreSaid (due_of (base role) (body_at role two) call (Ok answer))
+    pub called-said : (role : Role) (two : Two) (ledger : Ledger) (call : Call) (answer : Option ℤ) (g : ReachedWithLedger common two ledger) → IsCall call → AreCalls common two ledger g → can_call (base role) (body_at role two) call ≡ Ok answer → AreSaid (due_of (base role) (body_at role two) call (Ok answer))
     called-said role two ledger call answer g i c h = (called-says role (body_at role two) call answer (sound-at role two ledger g) i (rooted-at role two (all-said two ledger g c)) h).said
 
 pub direct-says : DirectSaysWords
 direct-says free tables spellings a b writes back right contexts two ledger s role =
-    coming-said free tables spellings a b writes back right (listed-identifiers (proposals (base_at Initiator (direct_pair tables spellings a b))) contexts) role two
-    (all-said free tables spellings a b writes back right (listed-identifiers (proposals (base_at Initiator (direct_pair tables spellings a b))) contexts) two ledger s.goes s.calls)
+    coming-said free tables spellings a b writes back right (listed-identifiers (proposals (base_at Initiator (direct_common tables spellings a b))) contexts) role two
+    (all-said free tables spellings a b writes back right (listed-identifiers (proposals (base_at Initiator (direct_common tables spellings a b))) contexts) two ledger s.goes s.calls)

@@ -5,9 +5,9 @@ use Rattle.asn1_types.specs.Fits.{object_id_fits}
 use Rattle.asn1_types.specs.Value.{object_id}
 use Rattle.dialogue.specs.declared.call.Call.{Call}
 use Rattle.dialogue.specs.declared.call.Call.TheVariants as the_calls
-use Rattle.end_model.specs.Pairs.{Common, Two}
-use Rattle.reliable_model.specs.Goes.{Ledger, Goes}
-use Rattle.reliable_model.specs.Goes as goes
+use Rattle.end_model.specs.BothEnds.{Common, Two}
+use Rattle.reliable_model.specs.Ledgers.{Ledger, ReachedWithLedger}
+use Rattle.reliable_model.specs.Ledgers as ledgers
 
 -- X.660 7.6
 abbrev pub IsName : List ℕ → Type 0
@@ -27,15 +27,15 @@ IsCall (the_calls.Please priority) = priority < 2 ^ 32
 IsCall call = Unit {0}
 
 -- so is each call by which two ends reached what they have
-abbrev pub AreCalls : (common : Common) (two : Two) (ledger : Ledger) → Goes common two ledger → Type 0
-AreCalls common two ledger goes.begins = Unit {0}
-AreCalls common two ledger (goes.calls before l role call answer g c) = IsCall call × AreCalls common before l g
-AreCalls common two ledger (goes.acts before l role own g c) = AreCalls common before l g
-AreCalls common two ledger (goes.takes before l role message left body answers shown g e r) = AreCalls common before l g
-AreCalls common two ledger (goes.passes before l role message left g e r) = AreCalls common before l g
-AreCalls common two ledger (goes.fails before l role message left fault body aborts shown g e r) = AreCalls common before l g
-AreCalls common two ledger (goes.breaks before l g) = AreCalls common before l g
+abbrev pub AreCalls : (common : Common) (two : Two) (ledger : Ledger) → ReachedWithLedger common two ledger → Type 0
+AreCalls common two ledger ledgers.begins = Unit {0}
+AreCalls common two ledger (ledgers.calls before l role call answer g c) = IsCall call × AreCalls common before l g
+AreCalls common two ledger (ledgers.acts before l role own g c) = AreCalls common before l g
+AreCalls common two ledger (ledgers.takes before l role message left body answers shown g e r) = AreCalls common before l g
+AreCalls common two ledger (ledgers.passes before l role message left g e r) = AreCalls common before l g
+AreCalls common two ledger (ledgers.fails before l role message left fault body aborts shown g e r) = AreCalls common before l g
+AreCalls common two ledger (ledgers.breaks before l g) = AreCalls common before l g
 
 pub record Speaks (common : Common) (two : Two) (ledger : Ledger) : Type 0 where
-  pub goes : Goes common two ledger
+  pub goes : ReachedWithLedger common two ledger
   pub calls : AreCalls common two ledger goes

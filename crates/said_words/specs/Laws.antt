@@ -11,11 +11,11 @@ use Rattle.agreement.specs.Sets.{Role}
 use Rattle.agreement.specs.Sets.Role.{Initiator, Responder}
 use Rattle.end_model.specs.Seen.{Free}
 use Rattle.end_model.specs.Acting.{ReadsBack}
-use Rattle.end_model.specs.Pairs.{Common, Two, base_at, coming_to, WritesAll}
-use Rattle.end_model.specs.DirectPairs.{direct_pair, ProposesRightly}
+use Rattle.end_model.specs.BothEnds.{Common, Two, base_at, coming_to, WritesAll}
+use Rattle.end_model.specs.DirectEnds.{direct_common, ProposesRightly}
 use Rattle.reliable_model.specs.Codecs.{Carries}
-use Rattle.reliable_model.specs.Goes.{Ledger}
-use Rattle.reliable_model.specs.ReliablePairs.{reliable_pair, IsFit}
+use Rattle.reliable_model.specs.Ledgers.{Ledger}
+use Rattle.reliable_model.specs.ReliableEnds.{reliable_common, IsFit}
 use Rattle.said_words.specs.Calls.{Speaks}
 use Rattle.said_words.specs.Words.{AreMessages}
 
@@ -26,15 +26,15 @@ ProposesContexts common = list_any is_no_context (proposed_ids (proposals (base_
 abbrev pub DirectSaysWords : Type 0
 DirectSaysWords =
     (free : Free) (tables : Tables) (spellings : Spellings) (a b : Config) → WritesAll free →
-    ReadsBack (base_at Initiator (direct_pair tables spellings a b)) → ProposesRightly (direct_pair tables spellings a b) →
-    ProposesContexts (direct_pair tables spellings a b) →
-    (two : Two) (ledger : Ledger) → Speaks (direct_pair tables spellings a b) two ledger → (role : Role) →
-    AreMessages (base_at Initiator (direct_pair tables spellings a b)) (base_at Responder (direct_pair tables spellings a b)) (coming_to role two)
+    ReadsBack (base_at Initiator (direct_common tables spellings a b)) → ProposesRightly (direct_common tables spellings a b) →
+    ProposesContexts (direct_common tables spellings a b) →
+    (two : Two) (ledger : Ledger) → Speaks (direct_common tables spellings a b) two ledger → (role : Role) →
+    AreMessages (base_at Initiator (direct_common tables spellings a b)) (base_at Responder (direct_common tables spellings a b)) (coming_to role two)
 
 -- Neither window is 0, as configurations that aren't refused have it.
 abbrev pub ReliableSaysWords : Type 0
 ReliableSaysWords =
-    (free : Free) (tables : Tables) (spellings : Spellings) (a b : Config) → Carries free (base_at Initiator (reliable_pair tables spellings a b)) →
-    IsFit (reliable_pair tables spellings a b) → 1 ≤ a.window →
-    (two : Two) (ledger : Ledger) → Speaks (reliable_pair tables spellings a b) two ledger → (role : Role) →
-    AreMessages (base_at Initiator (reliable_pair tables spellings a b)) (base_at Responder (reliable_pair tables spellings a b)) (coming_to role two)
+    (free : Free) (tables : Tables) (spellings : Spellings) (a b : Config) → Carries free (base_at Initiator (reliable_common tables spellings a b)) →
+    IsFit (reliable_common tables spellings a b) → 1 ≤ a.window →
+    (two : Two) (ledger : Ledger) → Speaks (reliable_common tables spellings a b) two ledger → (role : Role) →
+    AreMessages (base_at Initiator (reliable_common tables spellings a b)) (base_at Responder (reliable_common tables spellings a b)) (coming_to role two)

@@ -22,18 +22,18 @@ use Rattle.transfer_laws.specs.association_reading.Laws.{IsOfSession}
 use Rattle.transfer_laws.specs.association_reading.Meaning.{meaning}
 use Rattle.agreement.specs.Sets.{Role, is_initiator}
 use Rattle.agreement.specs.Sets.Role.{Initiator, Responder}
-use Rattle.end_model.specs.Pairs.{Common, base_at, Two, body_at, coming_to}
-use Rattle.end_model.specs.DirectPairs.{ProposesRightly}
+use Rattle.end_model.specs.BothEnds.{Common, base_at, Two, body_at, coming_to}
+use Rattle.end_model.specs.DirectEnds.{ProposesRightly}
 use Rattle.end_model.proofs.Plain.{has-codec}
 use Rattle.end_model.proofs.Fitting.{same-itself, additions-answered}
 use Rattle.end_laws.specs.Codecs.{Transfers, direct_ends, IsDirect}
 use Rattle.end_laws.proofs.Premises.{direct-back, rightly}
-use Rattle.reliable_model.specs.Goes.{Ledger}
+use Rattle.reliable_model.specs.Ledgers.{Ledger}
 use Rattle.reliable_model.specs.Codecs.{IsTransferable}
 use Rattle.reliable_model.proofs.Fixed.{AreIdentifiers, listed-identifiers}
 use Rattle.transfer_spelling.proofs.Writable.{transferables-writable}
 use Rattle.transfer_laws.proofs.Configs.{identifiers-right}
-use Rattle.said_spellings.specs.association_worlds.Ways.{AreCarried}
+use Rattle.said_spellings.specs.association_worlds.InTransit.{AreCarried}
 use Rattle.said_words.specs.Calls.{Speaks}
 use Rattle.said_words.specs.Laws.{ProposesContexts}
 use Rattle.said_words.specs.Words.{IsWord, AreMessages, IsOfAssociation, value_of_item, the_connect, the_acceptance}

@@ -23,16 +23,16 @@ use Rattle.transfer_laws.specs.association_reading.Laws.{IsOfSession}
 use Rattle.transfer_laws.specs.association_reading.Associating.{IsMeantAs}
 use Rattle.agreement.specs.Sets.{Role, is_initiator}
 use Rattle.agreement.specs.Sets.Role.{Initiator, Responder}
-use Rattle.end_model.specs.Pairs.{Common, base_at, Two, body_at, coming_to}
+use Rattle.end_model.specs.BothEnds.{Common, base_at, Two, body_at, coming_to}
 use Rattle.end_model.proofs.Fitting.{additions-answered}
-use Rattle.reliable_model.specs.Goes.{Ledger}
+use Rattle.reliable_model.specs.Ledgers.{Ledger}
 use Rattle.reliable_model.proofs.Fixed.{AreIdentifiers, listed-identifiers}
 use Rattle.reliable_model.proofs.FirmSteps.{in-place}
 use Rattle.reliable_model.proofs.OnWay.{took-word}
 use Rattle.transfer_laws.specs.Laws.{reliable_ends, IsReliable}
 use Rattle.transfer_laws.proofs.Configs.{has-window}
 use Rattle.transfer_laws.proofs.Premises.{has-free, fit}
-use Rattle.said_spellings.specs.association_worlds.Ways.{AreCarried}
+use Rattle.said_spellings.specs.association_worlds.InTransit.{AreCarried}
 use Rattle.said_words.specs.Calls.{Speaks}
 use Rattle.said_words.specs.Words.{rtse_pair, transfer_value, IsReliableWord, IsPart, IsPlea, IsOfAssociation, AreMessages, the_connect, the_acceptance}
 use Rattle.said_words.proofs.First.{first_of}

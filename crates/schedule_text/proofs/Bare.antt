@@ -20,8 +20,8 @@ second_none (Some r) b e = absurd (let no : ⊥ = cc in no)
 pub fine_values : (c : Config) → config_refusal c ≡ None → values.config_refusal c ≡ None
 fine_values c e = second_none _ (values.config_refusal c) (first_none _ (late_refusal c) e)
 
-pub bare_pair : (a b : Config) → Meet a b → a.mode ≡ Bare → IsBare true a × IsBare false b
-bare_pair a b m e = (
+pub bare_common : (a b : Config) → Meet a b → a.mode ≡ Bare → IsBare true a × IsBare false b
+bare_common a b m e = (
   record { side = m.initiator; mode = e; contexts = m.bare e; accepted = fine_values a m.initiator_accepted },
   record { side = m.responder; mode = m.mode ∙ e; contexts = m.proposes_none; accepted = fine_values b m.responder_accepted },
 )

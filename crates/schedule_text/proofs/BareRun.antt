@@ -8,7 +8,7 @@ use Rattle.schedule_text.specs.declared.setting.Modes.{Modes}
 use Rattle.schedule_text.specs.Settings.{runs}
 use Rattle.schedule_text.specs.Schedules.{Said, schedule_of}
 use Rattle.schedule_text.specs.Laws.{IsRun}
-use Rattle.schedule_text.proofs.Bare.{bare_pair}
+use Rattle.schedule_text.proofs.Bare.{bare_common}
 use Rattle.schedule_text.proofs.Run.{is_run}
 
 only_bare : (modes : Modes) (mode : Mode) → modes.direct ≡ false → modes.reliable ≡ false → runs modes mode ≡ true → mode ≡ Bare
@@ -19,4 +19,4 @@ only_bare modes Reliable d r e = absurd (let no : ⊥ = cc in no)
 pub are_bare : (modes : Modes) (tables : Tables) (text : List ℕ) (s : Said) → modes.direct ≡ false → modes.reliable ≡ false → schedule_of modes tables text ≡ Ok s → IsBare true s.a × IsBare false s.b
 are_bare modes tables text s d r e =
     let run = is_run modes tables text s e in
-    bare_pair s.a s.b run.meet (only_bare modes s.a.mode d r run.runs)
+    bare_common s.a s.b run.meet (only_bare modes s.a.mode d r run.runs)

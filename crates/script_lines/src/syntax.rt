@@ -13,7 +13,7 @@ use crate::line_fault::ScriptLineFault;
 use asn1_types::{Node, TextKind, Val, is_text};
 use osi_base::{ListOf, Oid, Oids, Syntax};
 use std::alloc::Global;
-use value_reading::{Front, after_spaces, read_form};
+use value_reading::{ValueAndRest, after_spaces, read_form};
 
 /// Before what a list of syntaxes ends, besides the end of its line.
 #[derive(Clone, Copy, Debug, PartialEq, Eq)]
@@ -39,11 +39,14 @@ fn identifier_found(
 }
 
 /// The object identifier that a value found is.
-fn found_or(front: Option<Front<'_>>, kind: ScriptKind) -> Result<(Oid, &[u8]), ScriptLineFault>
+fn found_or(
+    front: Option<ValueAndRest<'_>>,
+    kind: ScriptKind,
+) -> Result<(Oid, &[u8]), ScriptLineFault>
     ensures { Gives (λ x. (x.0, x.1.now)) result (found_or kind (found front.entry)) }
 {
     match front {
-        Some(Front { value, rest }) => identifier_found(value, rest, kind),
+        Some(ValueAndRest { value, rest }) => identifier_found(value, rest, kind),
         None => Err(ScriptLineFault::Kind(kind)),
     }
 }

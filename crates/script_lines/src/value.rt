@@ -12,7 +12,7 @@ use asn1_types::{TextKind, TypeId, TypeTable, Val, is_text};
 use osi_base::NoMemory;
 use std::alloc::Global;
 use stub_tables::Use;
-use value_reading::{Front, after_spaces, read_form, read_typed};
+use value_reading::{ValueAndRest, after_spaces, read_form, read_typed};
 
 /// The value of a type, where there is one, that stands first.
 fn typed<'a>(
@@ -20,7 +20,7 @@ fn typed<'a>(
     types: &TypeTable,
     of: Option<TypeId>,
     text: &'a [u8],
-) -> Result<Option<Front<'a>>, NoMemory>
+) -> Result<Option<ValueAndRest<'a>>, NoMemory>
     ensures { IfOk result (λ front. found front ≡ typed_at types.now of text.now) }
 {
     match of {
@@ -41,11 +41,11 @@ fn bad_value(here: &[u8]) -> ScriptKind
 }
 
 /// A value that is parted from what follows it.
-fn if_parted(front: Front<'_>) -> Result<(Option<Val>, &[u8]), ScriptLineFault>
+fn if_parted(front: ValueAndRest<'_>) -> Result<(Option<Val>, &[u8]), ScriptLineFault>
     ensures { Gives (λ x. (x.0, x.1.now)) result
         (if_parted (record { value = front.entry.value; rest = front.entry.rest.now })) }
 {
-    let Front { value, rest } = front;
+    let ValueAndRest { value, rest } = front;
     if is_parted(rest) {
         Ok((Some(value), rest))
     } else {
@@ -76,7 +76,7 @@ fn used_found<'a>(
     used: Use,
     links: bool,
     here: &'a [u8],
-    front: Option<Front<'a>>,
+    front: Option<ValueAndRest<'a>>,
 ) -> Result<(Option<Val>, &'a [u8]), ScriptLineFault>
     ensures { Gives (λ x. (x.0, x.1.now)) result
         (used_found used links here.now (found front.entry)) }
@@ -112,7 +112,7 @@ pub fn used_value<'a>(
 }
 
 /// The value of a form that was found.
-fn form_found(front: Option<Front<'_>>) -> Result<(Option<Val>, &[u8]), ScriptLineFault>
+fn form_found(front: Option<ValueAndRest<'_>>) -> Result<(Option<Val>, &[u8]), ScriptLineFault>
     ensures { Gives (λ x. (x.0, x.1.now)) result (form_found (found front.entry)) }
 {
     match front {
@@ -136,12 +136,12 @@ fn by_form(alloc: Global, here: &[u8]) -> Result<(Option<Val>, &[u8]), ScriptLin
 fn result_found<'a>(
     alloc: Global,
     here: &'a [u8],
-    front: Option<Front<'a>>,
+    front: Option<ValueAndRest<'a>>,
 ) -> Result<(Option<Val>, &'a [u8]), ScriptLineFault>
     ensures { Gives (λ x. (x.0, x.1.now)) result (result_found here.now (found front.entry)) }
 {
     match front {
-        Some(Front { value, rest }) => {
+        Some(ValueAndRest { value, rest }) => {
             if is_parted(rest) {
                 Ok((Some(value), rest))
             } else {

@@ -4,7 +4,7 @@
 
 mod changes;
 mod fault;
-pub mod laws;
+mod laws;
 mod refusals;
 mod session;
 mod state;
@@ -12,6 +12,9 @@ mod taking;
 mod units;
 
 pub use fault::{SessionFault, SessionRefusal};
+pub use laws::{
+    answers_of_mode, awaited_in_phase, sent_is_writable, turn_or_giving, units_of_mode,
+};
 pub use session::{Session, Taken};
 pub use state::{
     Awaited, Owed, OwnActivity, PeerActivity, Progress, SessionPhase, SessionRole, SessionState,

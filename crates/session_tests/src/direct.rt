@@ -30,7 +30,7 @@ const ONE_MARK: [Step; 3] = [
 #[test]
 fn a_mark_goes_behind_an_empty_give(rt: HostRuntime) {
     let mut both = direct(&rt, rt.alloc());
-    let units = sent(&rt, &mut both.a, said(rt.alloc(), Mark(1)));
+    let units = sent(&rt, &mut both.a, session_word(rt.alloc(), Mark(1)));
     assert!(rt; units.len() == 2);
     assert!(rt; is_taken(&rt, &mut both.b, units));
     go(&rt, rt.alloc(), &mut both, "one mark", &ONE_MARK);
@@ -74,8 +74,8 @@ const LOWER_WON: [Step; 6] = [
 fn of_two_restarts_the_lower_wins(rt: HostRuntime) {
     let mut both = direct(&rt, rt.alloc());
     go(&rt, rt.alloc(), &mut both, "marks", &TWO_MARKS);
-    let from_a = sent(&rt, &mut both.a, said(rt.alloc(), Restart(3)));
-    let from_b = sent(&rt, &mut both.b, said(rt.alloc(), Restart(2)));
+    let from_a = sent(&rt, &mut both.a, session_word(rt.alloc(), Restart(3)));
+    let from_b = sent(&rt, &mut both.b, session_word(rt.alloc(), Restart(2)));
     assert!(rt; !both.a.holds_turn(), "a restart is unanswered");
     assert!(rt; !is_taken(&rt, &mut both.b, from_a), "it lost");
     assert!(rt; is_taken(&rt, &mut both.a, from_b));
@@ -91,8 +91,8 @@ const INITIATOR_WON: [Step; 3] = [Passes(B, Restarted(2)), Is(A, Marked(1)), Is(
 fn on_a_tie_the_initiators_restart_wins(rt: HostRuntime) {
     let mut both = direct(&rt, rt.alloc());
     go(&rt, rt.alloc(), &mut both, "marks", &TWO_MARKS);
-    let from_a = sent(&rt, &mut both.a, said(rt.alloc(), Restart(2)));
-    let from_b = sent(&rt, &mut both.b, said(rt.alloc(), Restart(2)));
+    let from_a = sent(&rt, &mut both.a, session_word(rt.alloc(), Restart(2)));
+    let from_b = sent(&rt, &mut both.b, session_word(rt.alloc(), Restart(2)));
     assert!(rt; !is_taken(&rt, &mut both.a, from_b), "it lost");
     assert!(rt; is_taken(&rt, &mut both.b, from_a));
     go(&rt, rt.alloc(), &mut both, "the answer", &INITIATOR_WON);
@@ -119,8 +119,8 @@ fn a_restart_takes_the_token_back(rt: HostRuntime) {
         "the token",
         &[Passes(A, Give(Some(4)))],
     );
-    let back = sent(&rt, &mut both.b, said(rt.alloc(), Give(Some(4))));
-    let from_a = sent(&rt, &mut both.a, said(rt.alloc(), Restart(1)));
+    let back = sent(&rt, &mut both.b, session_word(rt.alloc(), Give(Some(4))));
+    let from_a = sent(&rt, &mut both.a, session_word(rt.alloc(), Restart(1)));
     assert!(rt; !is_taken(&rt, &mut both.a, back), "it is passed over");
     assert!(rt; is_taken(&rt, &mut both.b, from_a));
     go(&rt, rt.alloc(), &mut both, "the answer", &TAKEN_BACK);

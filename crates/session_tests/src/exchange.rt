@@ -141,7 +141,7 @@ fn please() -> SessionWord {
 }
 
 /// The word that is told.
-pub fn said(alloc: Global, told: Word) -> SessionWord {
+pub fn session_word(alloc: Global, told: Word) -> SessionWord {
     match told {
         Word::Connect(requirements) => connect(alloc, requirements),
         Word::Accept(requirements) => accept(alloc, requirements),
@@ -341,18 +341,21 @@ fn pass_from(rt: &impl Abort, both: &mut Both, side: Side, word: SessionWord) {
 fn goes(rt: &impl Abort, alloc: Global, both: &mut Both, step: &Step) -> bool {
     match step {
         Step::Passes(side, told) => {
-            pass_from(rt, both, *side, said(alloc, *told));
+            pass_from(rt, both, *side, session_word(alloc, *told));
             true
         }
         Step::Loses(side, told, count) => {
-            lost(rt, end(both, *side), said(alloc, *told)) == *count
+            lost(rt, end(both, *side), session_word(alloc, *told)) == *count
         }
         Step::Refused(side, told, why) => {
-            refused(rt, end(both, *side), said(alloc, *told), *why);
+            refused(rt, end(both, *side), session_word(alloc, *told), *why);
             true
         }
-        Step::OutOfPlace(side, told) => is_out_of_place(end(both, *side), said(alloc, *told)),
-        Step::PassedOver(side, told) => is_passed(end(both, *side), said(alloc, *told)),
+        Step::OutOfPlace(side, told) => is_out_of_place(
+            end(both, *side),
+            session_word(alloc, *told),
+        ),
+        Step::PassedOver(side, told) => is_passed(end(both, *side), session_word(alloc, *told)),
         Step::Breaks(side) => {
             end(both, *side).broke();
             true

@@ -206,7 +206,7 @@ fn an_interrupt(rt: HostRuntime) {
         "a transfer",
         &BEFORE_AN_INTERRUPT,
     );
-    let late = sent(&rt, &mut both.b, said(rt.alloc(), MarkAck(2)));
+    let late = sent(&rt, &mut both.b, session_word(rt.alloc(), MarkAck(2)));
     go(
         &rt,
         rt.alloc(),

@@ -3,7 +3,7 @@
 
 mod fault;
 mod kind;
-pub mod laws;
+mod laws;
 mod parameters;
 mod places;
 mod reading;
@@ -14,6 +14,9 @@ mod words;
 mod writing;
 
 pub use fault::SFault;
+pub use laws::{
+    one_reading, units_or_fault, where_a_fault_stands, written_is_read, written_length,
+};
 pub use places::{UserPlaces, user_places};
 pub use reading::read_spdus;
 pub use writing::{units_written, write_spdus};

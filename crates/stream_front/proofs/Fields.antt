@@ -13,7 +13,7 @@ use Rattle.ber_spelling.specs.Fields.{identifier_at, high_at, digits_at, is_lax,
 use Rattle.asn1_types.specs.Tags.{class_of, capped}
 use Rattle.ber_spelling.specs.Rules.{whole_at}
 use Rattle.ber_spelling.proofs.Turns.{whole_no_tag}
-use Rattle.stream_front.specs.declared.front.Front.TheVariants.{Whole, Faulty}
+use Rattle.stream_front.specs.declared.first_value.FirstValue.TheVariants.{Whole, Faulty}
 use Rattle.stream_front.specs.Resuming.{End, spot, scope_in, goes_on, next_at, zero_at, length_at, number_then, contents_left, counted, size_left, outcome}
 use Rattle.stream_front.proofs.Shrinking.{bind_same}
 use Rattle.stream_front.proofs.Turning.{bool_is, bind_bind, next_in, after_look, whole_then}

@@ -9,8 +9,8 @@ use Rattle.ber_spelling.specs.declared.fault.ReadFault.TheVariants as faults
 use Rattle.ber_spelling.specs.Reading.{Spot, Reading, ◌>>=◌, within, refuse}
 use Rattle.ber_spelling.specs.Fields.{announced_at, long_at, definite_at, contents_at, cut_off}
 use Rattle.asn1_types.specs.Tags.{capped}
-use Rattle.stream_front.specs.declared.front.Front.{Front}
-use Rattle.stream_front.specs.declared.front.Front.TheVariants.{Short, Whole, Faulty}
+use Rattle.stream_front.specs.declared.first_value.FirstValue.{FirstValue}
+use Rattle.stream_front.specs.declared.first_value.FirstValue.TheVariants.{Short, Whole, Faulty}
 use Rattle.stream_front.specs.Resuming.{End, spot, scope_in, goes_on, next_at, length_at, contents_left, counted, size_left, outcome}
 use Rattle.stream_front.proofs.Shrinking.{bind_same}
 use Rattle.stream_front.proofs.Turning.{bool_is, bind_bind}

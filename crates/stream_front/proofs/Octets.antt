@@ -12,11 +12,11 @@ use Rattle.ber_spelling.specs.Reading.{Spot, Opened, Ahead, ended, begun, Readin
 use Rattle.ber_spelling.specs.Fields.{identifier_at, digits_at, opened_at, is_constructed, definite_at, long_at, cut_off, begin_at, look_at, second_zero_at}
 use Rattle.asn1_types.specs.Tags.{class_of, capped}
 use Rattle.ber_spelling.specs.Rules.{whole_at}
-use Rattle.stream_front.specs.declared.front.Front.{Front}
-use Rattle.stream_front.specs.declared.front.Front.TheVariants.{Short, Whole, Faulty}
+use Rattle.stream_front.specs.declared.first_value.FirstValue.{FirstValue}
+use Rattle.stream_front.specs.declared.first_value.FirstValue.TheVariants.{Short, Whole, Faulty}
 use Rattle.stream_front.specs.declared.scanner.Scanner.{Scanner}
-use Rattle.stream_front.specs.declared.scanner.Stage as stages
-use Rattle.stream_front.specs.declared.scanner.Stage.TheVariants as stage
+use Rattle.stream_front.specs.declared.scanner.ScanStage as stages
+use Rattle.stream_front.specs.declared.scanner.ScanStage.TheVariants as stage
 use Rattle.stream_front.specs.Resuming.{End, spot, scope_in, is_inside, goes_on, next_at, zero_at, outermost, length_at, number_then, contents_left, counted, size_left, outcome, resume, IsSoundStage}
 use Rattle.stream_front.specs.Steps as steps
 use Rattle.stream_front.specs.Steps.{step}
@@ -26,7 +26,7 @@ use Rattle.stream_front.proofs.Fields.{past, within_limit, begins_at, opened_the
 use Rattle.stream_front.proofs.Lengths.{none_left, one_less, announced_then, announced_by, contents_counted, size_past, size_less, size_last, sized_then, size_capped}
 
 -- a scanner at this stage
-abbrev standing : ℕ → ℕ → ℕ → stages.Stage → Scanner
+abbrev standing : ℕ → ℕ → ℕ → stages.ScanStage → Scanner
 standing seen field depth kept = record { seen = seen; field = field; depth = depth; stage = kept }
 
 and_false : (b : Bool) → (b && false) ≡ false
@@ -256,7 +256,7 @@ zero_is depth seen (second ∷ rest) h =
           rw (k, two, less) (ap outcome (bind_bind (within (scope_in (suc depth)) seen (seen + 2)) _ _))
     ]
 
-inside_zero : (seen field depth : ℕ) (kept : stages.Stage) (rest : List ℕ)
+inside_zero : (seen field depth : ℕ) (kept : stages.ScanStage) (rest : List ℕ)
     → outcome (look_at (scope_in (suc depth)) seen (0 ∷ rest) >>= after_look depth) ≡ outcome (resume (steps.first_octet (standing seen field (suc depth) kept) 0) rest)
 unfolding look_at
 inside_zero seen field depth kept rest =
@@ -265,13 +265,13 @@ inside_zero seen field depth kept rest =
       | inr h ↦ rw (h, within_limit (suc depth) seen (seen + 1) h) (zero_is depth seen rest h)
     ]
 
-inside_value : (seen field depth : ℕ) (kept : stages.Stage) (octet : ℕ) (rest : List ℕ) → nat_eq octet 0 ≡ false
+inside_value : (seen field depth : ℕ) (kept : stages.ScanStage) (octet : ℕ) (rest : List ℕ) → nat_eq octet 0 ≡ false
     → outcome (look_at (scope_in (suc depth)) seen (octet ∷ rest) >>= after_look depth) ≡ outcome (resume (steps.first_octet (standing seen field (suc depth) kept) octet) rest)
 unfolding look_at
 inside_value seen field depth kept octet rest h =
     rw h (ap outcome (begin_then depth seen (octet ∷ rest)) ∙ value_is (standing seen field (suc depth) kept) octet rest)
 
-inside_is : (seen field depth : ℕ) (kept : stages.Stage) (octet : ℕ) (rest : List ℕ)
+inside_is : (seen field depth : ℕ) (kept : stages.ScanStage) (octet : ℕ) (rest : List ℕ)
     → outcome (look_at (scope_in (suc depth)) seen (octet ∷ rest) >>= after_look depth) ≡ outcome (resume (steps.first_octet (standing seen field (suc depth) kept) octet) rest)
 inside_is seen field depth kept octet rest =
     elim (bool_is (nat_eq octet 0)) [
@@ -286,7 +286,7 @@ end_same (Err e) = refl
 outermost_is : (seen : ℕ) (octets : List ℕ) → outermost (spot seen octets) ≡ begins_at 0 seen octets
 outermost_is seen octets = bind_same (identifier_at (scope_in 0) seen octets) _ _ (λ x h. end_same (whole_at 32 tt (scope_in 0) x.0 x.1))
 
-first_is : (seen field depth : ℕ) (kept : stages.Stage) (octet : ℕ) (rest : List ℕ)
+first_is : (seen field depth : ℕ) (kept : stages.ScanStage) (octet : ℕ) (rest : List ℕ)
     → outcome (next_at depth (spot seen (octet ∷ rest))) ≡ outcome (resume (steps.first_octet (standing seen field depth kept) octet) rest)
 first_is seen field zero kept octet rest =
     ap outcome (outermost_is seen (octet ∷ rest)) ∙ rw (and_false (nat_eq octet 0)) (value_is (standing seen field 0 kept) octet rest)
@@ -305,7 +305,7 @@ second_is s octet rest =
 
 -- ---- each stage
 
-step_at : (seen field depth : ℕ) (kept : stages.Stage) (octet : ℕ) (rest : List ℕ) → IsSoundStage kept seen depth
+step_at : (seen field depth : ℕ) (kept : stages.ScanStage) (octet : ℕ) (rest : List ℕ) → IsSoundStage kept seen depth
     → outcome (resume (standing seen field depth kept) (octet ∷ rest)) ≡ outcome (resume (step (standing seen field depth kept) octet) rest)
 unfolding step
 step_at seen field depth stage.Next octet rest sound = first_is seen field depth stage.Next octet rest

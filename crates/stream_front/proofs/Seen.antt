@@ -14,11 +14,11 @@ use Rattle.ber_spelling.specs.Fields.{identifier_at, high_at, digits_at, is_lax,
 use Rattle.asn1_types.specs.Tags.{capped}
 use Rattle.ber_spelling.specs.Rules.{whole_at, any_at, reads, plain, value_at, read_at, outermost as outermost_scope}
 use Rattle.stub_tables.specs.Heads.{head_rows, any_row}
-use Rattle.stream_front.specs.declared.front.Front.{Front}
-use Rattle.stream_front.specs.declared.front.Front.TheVariants.{Short, Whole, Faulty}
+use Rattle.stream_front.specs.declared.first_value.FirstValue.{FirstValue}
+use Rattle.stream_front.specs.declared.first_value.FirstValue.TheVariants.{Short, Whole, Faulty}
 use Rattle.stream_front.specs.declared.scanner.Scanner.{Scanner}
-use Rattle.stream_front.specs.declared.scanner.Stage as stages
-use Rattle.stream_front.specs.declared.scanner.Stage.TheVariants as stage
+use Rattle.stream_front.specs.declared.scanner.ScanStage as stages
+use Rattle.stream_front.specs.declared.scanner.ScanStage.TheVariants as stage
 use Rattle.stream_front.specs.Fronts.{front_of, front_at}
 use Rattle.stream_front.specs.Resuming.{End, spot, scope_in, next_at, outermost, goes_on, size_left, outcome, resume, is_done, told, IsSoundStage, HasSeen}
 use Rattle.stream_front.specs.Steps as steps
@@ -77,7 +77,7 @@ front_is strict octets =
 
 -- ---- octets behind a stage
 
-nothing_left : (seen field depth : ℕ) (kept : stages.Stage) → IsSoundStage kept seen depth → is_done kept ≡ false → outcome (resume (record { seen = seen; field = field; depth = depth; stage = kept }) []) ≡ Short
+nothing_left : (seen field depth : ℕ) (kept : stages.ScanStage) → IsSoundStage kept seen depth → is_done kept ≡ false → outcome (resume (record { seen = seen; field = field; depth = depth; stage = kept }) []) ≡ Short
 unfolding identifier_at digits_at contents_at definite_at look_at
 nothing_left seen field zero stage.Next sound on = refl
 nothing_left seen field (suc depth) stage.Next sound on = ap outcome (next_in depth (spot seen []))
@@ -93,7 +93,7 @@ nothing_left seen field depth (stage.Contents left) sound on = let short : nat_l
 nothing_left seen field depth stage.Whole sound on = absurd (let wrong : true ≡ false = on in cc)
 nothing_left seen field depth (stage.Faulty place) sound on = absurd (let wrong : true ≡ false = on in cc)
 
-done_told : (seen field depth : ℕ) (kept : stages.Stage) (rest : List ℕ) → is_done kept ≡ true → told kept seen ≡ outcome (resume (record { seen = seen; field = field; depth = depth; stage = kept }) rest)
+done_told : (seen field depth : ℕ) (kept : stages.ScanStage) (rest : List ℕ) → is_done kept ≡ true → told kept seen ≡ outcome (resume (record { seen = seen; field = field; depth = depth; stage = kept }) rest)
 done_told seen field depth stage.Whole rest done = refl
 done_told seen field depth (stage.Faulty place) rest done = refl
 done_told seen field depth stage.Next rest done = absurd (let wrong : false ≡ true = done in cc)
@@ -104,7 +104,7 @@ done_told seen field depth (stage.Length constructed) rest done = absurd (let wr
 done_told seen field depth (stage.Size size left number) rest done = absurd (let wrong : false ≡ true = done in cc)
 done_told seen field depth (stage.Contents left) rest done = absurd (let wrong : false ≡ true = done in cc)
 
-on_told : (kept : stages.Stage) (seen : ℕ) → is_done kept ≡ false → told kept seen ≡ Short
+on_told : (kept : stages.ScanStage) (seen : ℕ) → is_done kept ≡ false → told kept seen ≡ Short
 on_told stage.Whole seen on = absurd (let wrong : true ≡ false = on in cc)
 on_told (stage.Faulty place) seen on = absurd (let wrong : true ≡ false = on in cc)
 on_told stage.Next seen on = refl

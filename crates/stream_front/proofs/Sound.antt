@@ -6,8 +6,8 @@ use Rattle.asn1_types.specs.Rows.{is_no_tag}
 use Rattle.ber_spelling.specs.Fields.{is_constructed}
 use Rattle.asn1_types.specs.Tags.{class_of, capped}
 use Rattle.stream_front.specs.declared.scanner.Scanner.{Scanner}
-use Rattle.stream_front.specs.declared.scanner.Stage as stages
-use Rattle.stream_front.specs.declared.scanner.Stage.TheVariants as stage
+use Rattle.stream_front.specs.declared.scanner.ScanStage as stages
+use Rattle.stream_front.specs.declared.scanner.ScanStage.TheVariants as stage
 use Rattle.stream_front.specs.Resuming.{is_inside, is_done, IsSoundStage}
 use Rattle.stream_front.specs.Steps as steps
 use Rattle.stream_front.specs.Steps.{step}
@@ -95,10 +95,10 @@ content : (s : Scanner) (left : ℕ) → s.depth < 32 → 0 < left → IsNext s 
 content s left lt some =
     branch s (nat_eq left 1) _ _ (λ h. behind s s.depth (omega arith)) (λ h. record { sound = (lt, grind (arith, nat_tests)); seen = refl })
 
-abbrev standing : ℕ → ℕ → ℕ → stages.Stage → Scanner
+abbrev standing : ℕ → ℕ → ℕ → stages.ScanStage → Scanner
 standing seen field depth kept = record { seen = seen; field = field; depth = depth; stage = kept }
 
-next_at : (seen field depth : ℕ) (kept : stages.Stage) (octet : ℕ) → IsSoundStage kept seen depth → is_done kept ≡ false → IsNext (standing seen field depth kept) (step (standing seen field depth kept) octet)
+next_at : (seen field depth : ℕ) (kept : stages.ScanStage) (octet : ℕ) → IsSoundStage kept seen depth → is_done kept ≡ false → IsNext (standing seen field depth kept) (step (standing seen field depth kept) octet)
 unfolding step
 next_at seen field depth stage.Next octet sound on = first (standing seen field depth stage.Next) octet sound
 next_at seen field depth stage.Zero octet sound on = second (standing seen field depth stage.Zero) octet sound

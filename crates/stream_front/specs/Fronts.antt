@@ -6,21 +6,21 @@ use Rattle.ber_spelling.specs.declared.fault.ReadFault.{ReadFault}
 use Rattle.ber_spelling.specs.declared.fault.ReadFault.TheVariants as faults
 use Rattle.ber_spelling.specs.Rules.{read_at}
 use Rattle.stub_tables.specs.Heads.{head_rows, any_row}
-use Rattle.stream_front.specs.declared.front.Front.{Front}
-use Rattle.stream_front.specs.declared.front.Front.TheVariants.{Short, Whole, Faulty}
+use Rattle.stream_front.specs.declared.first_value.FirstValue.{FirstValue}
+use Rattle.stream_front.specs.declared.first_value.FirstValue.TheVariants.{Short, Whole, Faulty}
 
 -- what a fault says of octets, however they go on
-abbrev pub faulty : ReadFault → Front
+abbrev pub faulty : ReadFault → FirstValue
 faulty (faults.NotSpelled place kind) = Faulty place
 faulty (faults.TooDeep place) = Faulty place
 faulty (faults.TooLong place) = Faulty place
 faulty faults.Short = Short
 faulty faults.NoMemory = Short
 
-abbrev pub front_of : Result (Value × ℕ) ReadFault → Front
+abbrev pub front_of : Result (Value × ℕ) ReadFault → FirstValue
 front_of (Ok x) = Whole x.1
 front_of (Err fault) = faulty fault
 
 -- What octets begin with, in BER or in DER alone. A value has at most 262,144 octets.
-unfoldable pub front_at : Bool → List ℕ → Front
+unfoldable pub front_at : Bool → List ℕ → FirstValue
 front_at strict octets = front_of (read_at head_rows any_row strict most_octets octets)

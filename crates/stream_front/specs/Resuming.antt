@@ -8,11 +8,11 @@ use Rattle.ber_spelling.specs.declared.spot.Scope.{Scope}
 use Rattle.ber_spelling.specs.Reading.{Spot, Reading, ◌>>=◌, refuse, within}
 use Rattle.ber_spelling.specs.Fields.{identifier_at, digits_at, announced_at, contents_at, cut_off}
 use Rattle.ber_spelling.specs.Rules.{all_items_at, whole_at}
-use Rattle.stream_front.specs.declared.front.Front.{Front}
-use Rattle.stream_front.specs.declared.front.Front.TheVariants.{Short, Whole, Faulty}
+use Rattle.stream_front.specs.declared.first_value.FirstValue.{FirstValue}
+use Rattle.stream_front.specs.declared.first_value.FirstValue.TheVariants.{Short, Whole, Faulty}
 use Rattle.stream_front.specs.declared.scanner.Scanner.{Scanner}
-use Rattle.stream_front.specs.declared.scanner.Stage as stages
-use Rattle.stream_front.specs.declared.scanner.Stage.TheVariants as stage
+use Rattle.stream_front.specs.declared.scanner.ScanStage as stages
+use Rattle.stream_front.specs.declared.scanner.ScanStage.TheVariants as stage
 use Rattle.stream_front.specs.Fronts.{front_at, faulty}
 
 -- how far reading came
@@ -105,7 +105,7 @@ resume s rest = elim s.stage [
   | stage.Faulty place ↦ refuse place Tag
 ]
 
-abbrev pub outcome : Reading End → Front
+abbrev pub outcome : Reading End → FirstValue
 outcome (Ok x) = Whole x.1.place
 outcome (Err fault) = faulty fault
 
@@ -113,7 +113,7 @@ outcome (Err fault) = faulty fault
 
 -- At most 32 indefinite lengths are open; only inside one of them a zero octet may begin an end-of-contents. A length
 -- that isn't whole lies within the limit.
-abbrev pub IsSoundStage : stages.Stage → ℕ → ℕ → Type 0
+abbrev pub IsSoundStage : stages.ScanStage → ℕ → ℕ → Type 0
 IsSoundStage stage.Next seen depth = depth ≤ most_levels
 IsSoundStage stage.Zero seen depth = depth ≤ most_levels
 IsSoundStage (stage.High constructed) seen depth = depth < most_levels
@@ -125,12 +125,12 @@ IsSoundStage stage.Whole seen depth = Unit {0}
 IsSoundStage (stage.Faulty place) seen depth = Unit {0}
 
 -- what stands first is known
-abbrev pub is_done : stages.Stage → Bool
+abbrev pub is_done : stages.ScanStage → Bool
 is_done stage.Whole = true
 is_done (stage.Faulty place) = true
 is_done _ = false
 
-abbrev pub told : stages.Stage → ℕ → Front
+abbrev pub told : stages.ScanStage → ℕ → FirstValue
 told stage.Whole seen = Whole seen
 told (stage.Faulty place) seen = Faulty place
 told _ seen = Short

@@ -5,23 +5,23 @@ use Rattle.asn1_types.specs.Rows.{is_no_tag}
 use Rattle.ber_spelling.specs.Fields.{is_constructed}
 use Rattle.asn1_types.specs.Tags.{class_of, capped}
 use Rattle.stream_front.specs.declared.scanner.Scanner.{Scanner}
-use Rattle.stream_front.specs.declared.scanner.Stage.{Stage}
-use Rattle.stream_front.specs.declared.scanner.Stage.TheVariants as stage
+use Rattle.stream_front.specs.declared.scanner.ScanStage.{ScanStage}
+use Rattle.stream_front.specs.declared.scanner.ScanStage.TheVariants as stage
 use Rattle.stream_front.specs.Resuming.{is_inside}
 
 -- in the same field
-abbrev pub on : Scanner → Stage → Scanner
+abbrev pub on : Scanner → ScanStage → Scanner
 on s kept = record { seen = s.seen + 1; field = s.field; depth = s.depth; stage = kept }
 
 abbrev pub faulty_at : Scanner → ℕ → Scanner
 faulty_at s place = on s (stage.Faulty place)
 
 -- behind a field, inside so many
-abbrev pub at_field : Scanner → ℕ → Stage → Scanner
+abbrev pub at_field : Scanner → ℕ → ScanStage → Scanner
 at_field s depth kept = record { seen = s.seen + 1; field = s.seen + 1; depth = depth; stage = kept }
 
 -- in a field that begins with this octet
-abbrev pub in_field : Scanner → Stage → Scanner
+abbrev pub in_field : Scanner → ScanStage → Scanner
 in_field s kept = record { seen = s.seen + 1; field = s.seen; depth = s.depth; stage = kept }
 
 -- within the limit of 262,144 octets

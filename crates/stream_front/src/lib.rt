@@ -3,11 +3,11 @@
 //! cut.
 #![tactic(auto)]
 
-mod front;
+mod first_value;
 mod laws;
 mod scanner;
 mod steps;
 
-pub use front::Front;
+pub use first_value::FirstValue;
 pub use laws::seen_stays_seen;
-pub use scanner::{Scanner, Stage};
+pub use scanner::{ScanStage, Scanner};

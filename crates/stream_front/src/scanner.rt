@@ -4,12 +4,12 @@ ghost use Rattle.std.specs.Prelude.{◌≡◌, ◌<◌, ◌^◌, ℕ, Bool, List
 ghost use Rattle.stream_front.specs.Fronts.{front_at};
 ghost use Rattle.stream_front.specs.Resuming.{HasSeen, is_done, told};
 
-use crate::front::Front;
+use crate::first_value::FirstValue;
 use crate::steps::step;
 
 /// What stands next in the value that is scanned.
 #[derive(Clone, Copy, Debug)]
-pub enum Stage {
+pub enum ScanStage {
     /// A value or an end-of-contents.
     Next,
     /// Behind one zero octet, which may begin an end-of-contents (X.690 8.1.5).
@@ -66,7 +66,7 @@ pub struct Scanner {
     /// How many indefinite lengths are open.
     pub(crate) depth: u32,
     /// What stands next.
-    pub(crate) stage: Stage,
+    pub(crate) stage: ScanStage,
 }
 
 impl Scanner {
@@ -78,7 +78,7 @@ impl Scanner {
             seen: 0,
             field: 0,
             depth: 0,
-            stage: Stage::Next,
+            stage: ScanStage::Next,
         }
     }
 
@@ -91,7 +91,7 @@ impl Scanner {
 
     /// What these octets begin with, the first of which were seen before. It looks at those behind
     /// them alone, up to the end of the first value or of the octets.
-    pub fn front(&mut self, octets: &[u8]) -> Front
+    pub fn front(&mut self, octets: &[u8]) -> FirstValue
         requires seen { HasSeen self.old octets.now }
         ensures front { (strict : Bool) → result ≡ front_at strict octets.now }
         ensures seen { HasSeen self.new octets.now }
@@ -110,17 +110,17 @@ impl Scanner {
     fn is_done(&self) -> bool
         ensures { result ≡ is_done self.now.stage }
     {
-        matches!(self.stage, Stage::Whole | Stage::Faulty { .. })
+        matches!(self.stage, ScanStage::Whole | ScanStage::Faulty { .. })
     }
 
     /// What the octets that were seen begin with.
-    fn told(&self) -> Front
+    fn told(&self) -> FirstValue
         ensures { result ≡ told self.now.stage self.now.seen }
     {
         match self.stage {
-            Stage::Whole => Front::Whole(self.seen),
-            Stage::Faulty { place } => Front::Faulty(place),
-            _ => Front::Short,
+            ScanStage::Whole => FirstValue::Whole(self.seen),
+            ScanStage::Faulty { place } => FirstValue::Faulty(place),
+            _ => FirstValue::Short,
         }
     }
 }

@@ -6,7 +6,7 @@ ghost use Rattle.asn1_types.specs.Tags.{capped};
 ghost use Rattle.stream_front.specs.Resuming.{IsSoundStage};
 ghost use Rattle.stream_front.specs.Steps as steps;
 
-use crate::scanner::{Scanner, Stage};
+use crate::scanner::{ScanStage, Scanner};
 use asn1_types::is_no_tag;
 use ber_spelling::class_of;
 
@@ -17,7 +17,7 @@ const MOST: u64 = 262_144;
 const LEVELS: u32 = 32;
 
 /// In the same field.
-fn on(scanner: Scanner, stage: Stage) -> Scanner
+fn on(scanner: Scanner, stage: ScanStage) -> Scanner
     requires seen { scanner.seen < past_places }
     ensures { result ≡ steps.on scanner stage }
 {
@@ -34,11 +34,11 @@ fn faulty_at(scanner: Scanner, place: usize) -> Scanner
     requires seen { scanner.seen < past_places }
     ensures { result ≡ steps.faulty_at scanner place }
 {
-    on(scanner, Stage::Faulty { place })
+    on(scanner, ScanStage::Faulty { place })
 }
 
 /// Behind a field, inside so many indefinite lengths.
-fn at_field(scanner: Scanner, depth: u32, stage: Stage) -> Scanner
+fn at_field(scanner: Scanner, depth: u32, stage: ScanStage) -> Scanner
     requires seen { scanner.seen < past_places }
     ensures { result ≡ steps.at_field scanner depth stage }
 {
@@ -51,7 +51,7 @@ fn at_field(scanner: Scanner, depth: u32, stage: Stage) -> Scanner
 }
 
 /// In a field that begins with this octet.
-fn in_field(scanner: Scanner, stage: Stage) -> Scanner
+fn in_field(scanner: Scanner, stage: ScanStage) -> Scanner
     requires seen { scanner.seen < past_places }
     ensures { result ≡ steps.in_field scanner stage }
 {
@@ -77,9 +77,9 @@ fn behind(scanner: Scanner, depth: u32) -> Scanner
     ensures { result ≡ steps.behind scanner depth }
 {
     let stage = if depth == 0 {
-        Stage::Whole
+        ScanStage::Whole
     } else {
-        Stage::Next
+        ScanStage::Next
     };
     at_field(scanner, depth, stage)
 }
@@ -96,7 +96,7 @@ fn announced(scanner: Scanner, field: usize, count: u64) -> Scanner
     if count == 0 {
         return behind(scanner, scanner.depth);
     }
-    at_field(scanner, scanner.depth, Stage::Contents { left: count })
+    at_field(scanner, scanner.depth, ScanStage::Contents { left: count })
 }
 
 /// A value begins.
@@ -106,12 +106,12 @@ fn begun(scanner: Scanner, octet: u8) -> Scanner
 {
     let constructed = octet / 32 % 2 == 1;
     if octet % 32 == 31 {
-        return in_field(scanner, Stage::High { constructed });
+        return in_field(scanner, ScanStage::High { constructed });
     }
     if is_no_tag(class_of(octet), (octet % 32) as u64) {
         return faulty_at(scanner, scanner.seen);
     }
-    at_field(scanner, scanner.depth, Stage::Length { constructed })
+    at_field(scanner, scanner.depth, ScanStage::Length { constructed })
 }
 
 /// The first octet of a value or an end-of-contents.
@@ -124,7 +124,7 @@ fn first_octet(scanner: Scanner, octet: u8) -> Scanner
         return faulty_at(scanner, scanner.seen);
     }
     if ends {
-        in_field(scanner, Stage::Zero)
+        in_field(scanner, ScanStage::Zero)
     } else {
         begun(scanner, octet)
     }
@@ -153,7 +153,7 @@ fn digit(scanner: Scanner, constructed: bool, padded: bool, number: u64, octet: 
     let low = if octet < 128 { octet } else { octet - 128 };
     let number = (128 * number + low as u64).min(0x1_0000_0000);
     if octet >= 128 {
-        let stage = Stage::Digits {
+        let stage = ScanStage::Digits {
             constructed,
             padded,
             number,
@@ -163,7 +163,7 @@ fn digit(scanner: Scanner, constructed: bool, padded: bool, number: u64, octet: 
     if number < 31 || padded {
         return faulty_at(scanner, scanner.field);
     }
-    at_field(scanner, scanner.depth, Stage::Length { constructed })
+    at_field(scanner, scanner.depth, ScanStage::Length { constructed })
 }
 
 /// The first octet of a length.
@@ -177,11 +177,11 @@ fn length_octet(scanner: Scanner, constructed: bool, octet: u8) -> Scanner
     }
     match octet {
         0..=127 => announced(scanner, scanner.seen, octet as u64),
-        128 if constructed => at_field(scanner, scanner.depth + 1, Stage::Next),
+        128 if constructed => at_field(scanner, scanner.depth + 1, ScanStage::Next),
         128 | 255 => faulty_at(scanner, scanner.seen),
         _ => {
             let size = octet - 128;
-            let stage = Stage::Size {
+            let stage = ScanStage::Size {
                 size,
                 left: size,
                 number: 0,
@@ -203,7 +203,7 @@ fn size_octet(scanner: Scanner, size: u8, left: u8, number: u64, octet: u8) -> S
     }
     let number = 256 * number + octet as u64;
     if left > 1 {
-        let stage = Stage::Size {
+        let stage = ScanStage::Size {
             size,
             left: left - 1,
             number: number.min(0x1_0000_0000),
@@ -225,7 +225,7 @@ fn content(scanner: Scanner, left: u64) -> Scanner
     if left == 1 {
         behind(scanner, scanner.depth)
     } else {
-        on(scanner, Stage::Contents { left: left - 1 })
+        on(scanner, ScanStage::Contents { left: left - 1 })
     }
 }
 
@@ -237,17 +237,17 @@ pub(crate) fn step(scanner: Scanner, octet: u8) -> Scanner
     ensures { result ≡ steps.step scanner octet }
 {
     match scanner.stage {
-        Stage::Next => first_octet(scanner, octet),
-        Stage::Zero => second_zero(scanner, octet),
-        Stage::High { constructed } => digit(scanner, constructed, octet == 128, 0, octet),
-        Stage::Digits {
+        ScanStage::Next => first_octet(scanner, octet),
+        ScanStage::Zero => second_zero(scanner, octet),
+        ScanStage::High { constructed } => digit(scanner, constructed, octet == 128, 0, octet),
+        ScanStage::Digits {
             constructed,
             padded,
             number,
         } => digit(scanner, constructed, padded, number, octet),
-        Stage::Length { constructed } => length_octet(scanner, constructed, octet),
-        Stage::Size { size, left, number } => size_octet(scanner, size, left, number, octet),
-        Stage::Contents { left } => content(scanner, left),
-        Stage::Whole | Stage::Faulty { .. } => scanner,
+        ScanStage::Length { constructed } => length_octet(scanner, constructed, octet),
+        ScanStage::Size { size, left, number } => size_octet(scanner, size, left, number, octet),
+        ScanStage::Contents { left } => content(scanner, left),
+        ScanStage::Whole | ScanStage::Faulty { .. } => scanner,
     }
 }

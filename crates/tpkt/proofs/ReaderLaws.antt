@@ -6,7 +6,7 @@ use Rattle.osi_base.specs.Limits.{tsdu_limit}
 use Rattle.tpkt.specs.declared.packet.Packet.{Packet}
 use Rattle.tpkt.specs.declared.packet.TFault.{TFault}
 use Rattle.tpkt.specs.declared.reader_state.Coming.{Coming}
-use Rattle.tpkt.specs.declared.reader_state.Held.{Held}
+use Rattle.tpkt.specs.declared.reader_state.ReaderState.{ReaderState}
 use Rattle.tpkt.specs.declared.header.Header.{Header}
 use Rattle.tpkt.specs.declared.header.Header.TheVariants.{Control, Data}
 use Rattle.tpkt.specs.declared.header_stops.Stop.{Stop}
@@ -105,7 +105,7 @@ pub goes_on : (f g total : ReaderProgress) (xs : List ℕ) (n : ℕ) → after f
 goes_on f g total xs n e so_far = sym (ap (λ h. after h (drop n xs)) e) ∙ sym (after-append f (take n xs) (drop n xs)) ∙ ap (after f) (take-append-drop n xs) ∙ so_far
 
 -- one octet of a header
-pub one_taken : (packets : List Packet) (held : Held) (xs : List ℕ) (total : ReaderProgress) → held.coming ≡ None → held.fault ≡ None → 0 < length xs
+pub one_taken : (packets : List Packet) (held : ReaderState) (xs : List ℕ) (total : ReaderProgress) → held.coming ≡ None → held.fault ≡ None → 0 < length xs
     → taken None None (record { packets = packets; held = held }) (get_or xs 0 0) ≡ total → after (record { packets = packets; held = held }) (take 1 xs) ≡ total
 unfolding after
 one_taken packets held [] total d e some h = absurd (omega arith)
@@ -113,11 +113,11 @@ one_taken packets held (x ∷ xs) total d e some h =
     let f : ReaderProgress = record { packets = packets; held = held } in
     ap (λ o. taken o held.coming f x) e ∙ ap (λ o. taken None o f x) d ∙ h
 
-abbrev holding : List ℕ → List ℕ → Option Coming → ℕ → Option TFault → Held
+abbrev holding : List ℕ → List ℕ → Option Coming → ℕ → Option TFault → ReaderState
 holding unread tsdu coming place fault = record { unread = unread; tsdu = tsdu; coming = coming; place = place; fault = fault }
 
 -- octets of data
-pub data_taken : (packets : List Packet) (held : Held) (coming : Coming) (xs : List ℕ) (n : ℕ) (total : ReaderProgress) → held.coming ≡ Some coming → held.fault ≡ None → held.unread ≡ []
+pub data_taken : (packets : List Packet) (held : ReaderState) (coming : Coming) (xs : List ℕ) (n : ℕ) (total : ReaderProgress) → held.coming ≡ Some coming → held.fault ≡ None → held.unread ≡ []
     → 0 < n → n ≤ coming.left → n ≤ length xs → opened (coming.left - n) coming.last packets (held.tsdu ++ take n xs) (on held.place n) ≡ total
     → after (record { packets = packets; held = held }) (take n xs) ≡ total
 data_taken packets held coming xs n total d e i some within there h =
@@ -129,7 +129,7 @@ data_taken packets held coming xs n total d e i some within there h =
     ∙ ap (λ k. opened (coming.left - k) coming.last packets (held.tsdu ++ take n xs) (on held.place k)) len ∙ h
 
 -- what is held is at most a packet and a TSDU
-pub kept : (held : Held) → IsSoundReader held → IsKept held
+pub kept : (held : ReaderState) → IsSoundReader held → IsKept held
 kept held s = record { packet = header_short (length held.tsdu) held.unread s.short; tsdu = omega (arith, s.within) }
 
 pub new_sound : (tsdu : List ℕ) (place : ℕ) → tsdu ≡ [] → IsSoundReader (between tsdu place)

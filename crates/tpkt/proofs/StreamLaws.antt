@@ -6,7 +6,7 @@ use Rattle.tpkt.specs.declared.packet.Packet.{Packet}
 use Rattle.tpkt.specs.declared.packet.Packet.TheVariants.{Tsdu}
 use Rattle.tpkt.specs.declared.packet.TFault.{TFault}
 use Rattle.tpkt.specs.declared.reader_state.Coming.{Coming}
-use Rattle.tpkt.specs.declared.reader_state.Held.{Held}
+use Rattle.tpkt.specs.declared.reader_state.ReaderState.{ReaderState}
 use Rattle.tpkt.specs.declared.header.Header.{Header}
 use Rattle.tpkt.specs.declared.header.Header.TheVariants.{Control, Data}
 use Rattle.tpkt.specs.declared.header_stops.Stop.{Stop}
@@ -22,7 +22,7 @@ use Rattle.tpkt.proofs.Results.{ok_is}
 use Rattle.osi_base.specs.declared.layer_words.Kind.{Kind}
 use Rattle.osi_base.specs.Limits.{tsdu_limit}
 
-abbrev pub fed : List Packet → Held → ReaderProgress
+abbrev pub fed : List Packet → ReaderState → ReaderProgress
 fed packets held = record { packets = packets; held = held }
 
 abbrev reads : Tpdu × List ℕ → Result (Tpdu × List ℕ) Stop
@@ -83,7 +83,7 @@ ends_now begun rest whole more x h short e reads =
 -- ---- what is held stands for the octets of a unit that isn't whole
 
 -- the reader idles, or the data of a DT are coming, or there is a fault
-pub data IsState (begun rest : List ℕ) (start : ℕ) : Held → Type 0 where
+pub data IsState (begun rest : List ℕ) (start : ℕ) : ReaderState → Type 0 where
   Idle : (place : ℕ) → header_at (length begun) rest ≡ Err Short → place ≡ on 0 start
       → IsState begun rest start (record { unread = rest; tsdu = begun; coming = None; place = place; fault = None })
   Comes : (left place : ℕ) (last : Bool) (octets : List ℕ) → 0 < left → length begun + (length octets + left) ≤ tsdu_limit → length octets + left + 7 < 65536
@@ -178,7 +178,7 @@ judged_stands stream units start rest x packets place (Ok (Data left last)) fits
     opened_stands stream units start (rest ++ x ∷ []) left last [] packets (begun_by [] units) (on place (length (rest ++ x ∷ []))) splits starts handed_up
     (d.octets ∙ ap (λ (t : List ℕ). front left last ++ t) none ∙ ap (λ n. front n last ++ []) (sym (zero-add left))) (omega (arith, d.within)) (omega (arith, d.size)) (sym (append-nil (begun_by [] units))) (omega (arith, at, starts))
 
-next_stands : (stream : List ℕ) (units : List Tpdu) (start : ℕ) (rest : List ℕ) (packets : List Packet) (held : Held) (x : ℕ)
+next_stands : (stream : List ℕ) (units : List Tpdu) (start : ℕ) (rest : List ℕ) (packets : List Packet) (held : ReaderState) (x : ℕ)
     → IsOctets (rest ++ x ∷ []) → Splits [] stream units rest → start + length rest ≡ length stream → packets ≡ handed [] units → IsState (begun_by [] units) rest start held
     → Stands (stream ++ x ∷ []) (taken held.fault held.coming (record { packets = packets; held = held }) x)
 next_stands stream units start rest packets held x fits splits starts handed_up (Idle place short at) =
@@ -225,7 +225,7 @@ after_stands stream (x ∷ xs) f fits s =
     (after_stands (stream ++ x ∷ []) xs (taken f.held.fault f.held.coming f x) all
     (next_stands stream s.units s.start s.rest f.packets f.held x here s.splits s.starts s.packets s.state))
 
-stops : (begun rest : List ℕ) (start : ℕ) (held : Held) → IsState begun rest start held → IsStop (unit_at begun rest) start held.fault
+stops : (begun rest : List ℕ) (start : ℕ) (held : ReaderState) → IsState begun rest start held → IsStop (unit_at begun rest) start held.fault
 stops begun rest start held (Idle place short at) = subst (λ r. IsStop r start None) (sym (short_yet begun rest short)) tt
 stops begun rest start held (Comes left place last octets some within size whole at) =
     let short : unit_at begun rest ≡ Err Short = ap (unit_at begun) whole ∙ data_yet begun (length octets + left) last octets (omega arith) within in
@@ -294,7 +294,7 @@ one_of_three begun xs fits = go (unit_at begun xs) refl
 
 -- ---- any cutting
 
-abbrev comes : ℕ → Bool → List ℕ → ℕ → Held
+abbrev comes : ℕ → Bool → List ℕ → ℕ → ReaderState
 comes left last tsdu place = record { unread = []; tsdu = tsdu; coming = Some (record { left = left; last = last }); place = place; fault = None }
 
 -- packets handed up before
@@ -328,7 +328,7 @@ unfolding after
 after_before ps f [] = refl
 after_before ps f (x ∷ xs) = ap (λ g. after g xs) (taken_before f.held.fault f.held.coming ps f x) ∙ after_before ps (taken f.held.fault f.held.coming f x) xs
 
-pub any_cut : (held : Held) (xs ys : List ℕ) → reading held (xs ++ ys) ≡ fed ((reading held xs).packets ++ (reading (reading held xs).held ys).packets) (reading (reading held xs).held ys).held
+pub any_cut : (held : ReaderState) (xs ys : List ℕ) → reading held (xs ++ ys) ≡ fed ((reading held xs).packets ++ (reading (reading held xs).held ys).packets) (reading (reading held xs).held ys).held
 any_cut held xs ys =
     let f = reading held xs in
     let whole : before f.packets (fed [] f.held) ≡ f = ap (λ (ps : List Packet). fed ps f.held) (append-nil f.packets) in
@@ -340,7 +340,7 @@ unfolding after
 nothing_read = refl
 
 -- what a reader makes of a stream and then of more octets
-pub goes_on : (stream more : List ℕ) (given packets : List Packet) (old new : Held) → reading nothing stream ≡ fed given old → reading old more ≡ fed packets new
+pub goes_on : (stream more : List ℕ) (given packets : List Packet) (old new : ReaderState) → reading nothing stream ≡ fed given old → reading old more ≡ fed packets new
     → reading nothing (stream ++ more) ≡ fed (given ++ packets) new
 goes_on stream more given packets old new a b =
     any_cut nothing stream more
@@ -355,28 +355,28 @@ octets_join (x ∷ xs) ys p q (suc i) = octets_join xs ys (λ j. p (suc j)) q i
 -- ---- one feed
 
 -- all feeds together give the packets of the stream, and its fault
-pub feed_goes_on : (came bytes : List ℕ) (given packets : List Packet) (old : Option Held) (held new : Held) → old ≡ Some held → reading held bytes ≡ fed packets new → HasRead came given old
+pub feed_goes_on : (came bytes : List ℕ) (given packets : List Packet) (old : Option ReaderState) (held new : ReaderState) → old ≡ Some held → reading held bytes ≡ fed packets new → HasRead came given old
     → reading nothing (came ++ bytes) ≡ fed (given ++ packets) new
 feed_goes_on came bytes given packets old held new is now came_so = goes_on came bytes given packets held new (subst (HasRead came given) is came_so) now
 
-pub feed_all : (came bytes : List ℕ) (given packets : List Packet) (old : Option Held) (held new : Held) → IsOctets came → IsOctets bytes → old ≡ Some held → reading held bytes ≡ fed packets new
+pub feed_all : (came bytes : List ℕ) (given packets : List Packet) (old : Option ReaderState) (held new : ReaderState) → IsOctets came → IsOctets bytes → old ≡ Some held → reading held bytes ≡ fed packets new
     → HasRead came given old → ReadsAsPackets (came ++ bytes) (given ++ packets) new.fault
 feed_all came bytes given packets old held new fits more is now came_so =
     subst (λ (f : ReaderProgress). ReadsAsPackets (came ++ bytes) f.packets f.held.fault) (feed_goes_on came bytes given packets old held new is now came_so)
     (stream_read (came ++ bytes) (octets_join came bytes fits more))
 
-some_is : (a b : Held) (o : Option Held) → o ≡ Some a → o ≡ Some b → a ≡ b
+some_is : (a b : ReaderState) (o : Option ReaderState) → o ≡ Some a → o ≡ Some b → a ≡ b
 some_is a b o e f = (let g : Some a ≡ Some b = sym e ∙ f in cc)
 
 -- after a fault nothing changes
-pub feed_again : (bytes : List ℕ) (packets : List Packet) (old : Option Held) (held new was : Held) (fault : TFault) → old ≡ Some held → reading held bytes ≡ fed packets new
+pub feed_again : (bytes : List ℕ) (packets : List Packet) (old : Option ReaderState) (held new was : ReaderState) (fault : TFault) → old ≡ Some held → reading held bytes ≡ fed packets new
     → old ≡ Some was → was.fault ≡ Some fault → (packets ≡ []) × (new.fault ≡ Some fault) × (Some new ≡ old)
 feed_again bytes packets old held new was fault is now e bad =
     let same : held ≡ was = some_is held was old is e in
-    let right : held.fault ≡ Some fault = ap (λ (h : Held). h.fault) same ∙ bad in
+    let right : held.fault ≡ Some fault = ap (λ (h : ReaderState). h.fault) same ∙ bad in
     let f : fed packets new ≡ fed [] held = sym now ∙ after_fault (fed [] held) fault bytes right in
     let next : new ≡ held = ap (λ (f : ReaderProgress). f.held) f in
-    (ap (λ (f : ReaderProgress). f.packets) f, ap (λ (h : Held). h.fault) next ∙ right, ap (λ (h : Held). Some h) next ∙ sym is)
+    (ap (λ (f : ReaderProgress). f.packets) f, ap (λ (h : ReaderState). h.fault) next ∙ right, ap (λ (h : ReaderState). Some h) next ∙ sym is)
 
 stopped : (r : Result (Tpdu × List ℕ) Stop) (start : ℕ) (fault : Option TFault) → IsStop r start fault → (s : Stop) × (r ≡ Err s)
 stopped (Ok p) start fault e = absurd e

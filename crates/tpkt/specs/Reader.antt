@@ -6,7 +6,7 @@ use Rattle.tpkt.specs.declared.packet.Packet.TheVariants.{Tsdu}
 use Rattle.tpkt.specs.declared.packet.TFault.{TFault}
 use Rattle.tpkt.specs.declared.packet.TFed.{TFed}
 use Rattle.tpkt.specs.declared.reader_state.Coming.{Coming}
-use Rattle.tpkt.specs.declared.reader_state.Held.{Held}
+use Rattle.tpkt.specs.declared.reader_state.ReaderState.{ReaderState}
 use Rattle.tpkt.specs.declared.header.Header.{Header}
 use Rattle.tpkt.specs.declared.header.Header.TheVariants.{Control, Data}
 use Rattle.tpkt.specs.declared.header_stops.Stop.{Stop}
@@ -16,18 +16,18 @@ use Rattle.tpkt.specs.Header.{header_at}
 -- what a reader holds, and the packets that it has handed up
 pub record ReaderProgress : Type 0 where
   pub packets : List Packet
-  pub held : Held
+  pub held : ReaderState
 
 -- a place further on, which stands still at the end of its type
 abbrev pub on : ℕ → ℕ → ℕ
 on place n = min (place + n) (2 ^ 64 - 1)
 
 -- what is held between two packets, where the TSDU has these octets so far
-abbrev pub between : List ℕ → ℕ → Held
+abbrev pub between : List ℕ → ℕ → ReaderState
 between tsdu place = record { unread = []; tsdu = tsdu; coming = None; place = place; fault = None }
 
 -- what a new reader holds
-abbrev pub nothing : Held
+abbrev pub nothing : ReaderState
 nothing = between [] 0
 
 -- A DT is whole: the last of a TSDU hands it up.
@@ -60,11 +60,11 @@ after f [] = f
 after f (x ∷ xs) = after (taken f.held.fault f.held.coming f x) xs
 
 -- what these octets make of a reader
-abbrev pub reading : Held → List ℕ → ReaderProgress
+abbrev pub reading : ReaderState → List ℕ → ReaderProgress
 reading held octets = after (record { packets = []; held = held }) octets
 
 -- What a feed of these octets gave; what was held is None where memory once ran out.
-abbrev pub IsFed : Option Held → List ℕ → TFed → Option Held → Type 0
+abbrev pub IsFed : Option ReaderState → List ℕ → TFed → Option ReaderState → Type 0
 IsFed (Some old) octets fed (Some new) = (reading old octets ≡ record { packets = fed.packets; held = new }) × (fed.fault ≡ new.fault)
 IsFed (Some old) octets fed None = ⊥
 IsFed None octets fed new = ⊥
@@ -80,12 +80,12 @@ abbrev pub left_of : Option Coming → ℕ
 left_of None = 0
 left_of (Some coming) = coming.left
 
-pub record IsSoundReader (held : Held) : Type 0 where
+pub record IsSoundReader (held : ReaderState) : Type 0 where
   pub short : header_at (length held.tsdu) held.unread ≡ Err Short
   pub within : length held.tsdu + left_of held.coming ≤ tsdu_limit
   pub idle : IsIdle held.coming held.unread
 
 -- at most one packet and one TSDU
-pub record IsKept (held : Held) : Type 0 where
+pub record IsKept (held : ReaderState) : Type 0 where
   pub packet : length held.unread ≤ unit_most + 4
   pub tsdu : length held.tsdu ≤ tsdu_limit

@@ -3,7 +3,7 @@ use Rattle.std.specs.Prelude.{◌≡◌, ◌≢◌, ℕ, ◌+◌, ◌*◌, ◌<�
 use Rattle.osi_base.specs.declared.layer_words.Kind.{Kind}
 use Rattle.tpkt.specs.declared.packet.Packet.{Packet}
 use Rattle.tpkt.specs.declared.packet.TFault.{TFault}
-use Rattle.tpkt.specs.declared.reader_state.Held.{Held}
+use Rattle.tpkt.specs.declared.reader_state.ReaderState.{ReaderState}
 use Rattle.tpkt.specs.declared.header.Header.{Header}
 use Rattle.tpkt.specs.declared.header.Header.TheVariants.{Control, Data}
 use Rattle.tpkt.specs.declared.header_stops.Stop.{Stop}
@@ -57,7 +57,7 @@ pub record ReadsAsPackets (stream : List ℕ) (packets : List Packet) (fault : O
   pub stop : IsStop (unit_at (begun_by [] units) rest) start fault
 
 -- a reader that took this stream from a connection's first octet on, and handed up these packets on the way
-abbrev pub HasRead : List ℕ → List Packet → Option Held → Type 0
+abbrev pub HasRead : List ℕ → List Packet → Option ReaderState → Type 0
 HasRead stream packets None = ⊥
 HasRead stream packets (Some held) = reading nothing stream ≡ record { packets = packets; held = held }
 

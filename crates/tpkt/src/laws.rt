@@ -3,7 +3,7 @@
 ghost use Rattle.std.specs.Prelude.{◌≡◌, ℕ, ◌<◌, ◌≤◌, ◌++◌, ◌∷◌, List, [], length, take, Option, Some, None, Err, Ok};
 ghost use Rattle.osi_base.specs.declared.layer_words.Kind.{Kind};
 ghost use Rattle.osi_base.specs.Limits.{tsdu_limit, unit_least, unit_most};
-ghost use Rattle.tpkt.specs.declared.reader_state.Held.{Held};
+ghost use Rattle.tpkt.specs.declared.reader_state.ReaderState.{ReaderState};
 ghost use Rattle.tpkt.specs.declared.packet.TFault.{TFault};
 ghost use Rattle.tpkt.specs.declared.header_stops.Stop.{Stop};
 ghost use Rattle.tpkt.specs.declared.packet.ConnectionFields.{ConnectionFields};
@@ -17,7 +17,7 @@ ghost use Rattle.tpkt.specs.Stream.{IsOctets, unit_at, OneHolds, ReadsAsPackets,
 /// What a reader made of a stream, in whatever pieces it came: the packets of its units, and its
 /// first fault with the place counted from the first octet of the stream.
 pub fn stream_is_read()
-    ensures { (stream : List ℕ) (packets : List Packet) (held : Held) → IsOctets stream
+    ensures { (stream : List ℕ) (packets : List Packet) (held : ReaderState) → IsOctets stream
         → HasRead stream packets (Some held) → ReadsAsPackets stream packets held.fault }
 {}
 
@@ -33,14 +33,14 @@ pub fn up_with_its_last_octet()
 
 /// Two feeds give together what one feed of all their octets gives.
 pub fn any_cutting()
-    ensures { (held : Held) (xs ys : List ℕ)
+    ensures { (held : ReaderState) (xs ys : List ℕ)
         → let a = reading held xs in let b = reading a.held ys in
         reading held (xs ++ ys) ≡ record { packets = a.packets ++ b.packets; held = b.held } }
 {}
 
 /// After a fault each feed leaves the reader as it is, and gives no packet.
 pub fn fault_stays_held()
-    ensures { (held : Held) (fault : TFault) (xs : List ℕ) → held.fault ≡ Some fault
+    ensures { (held : ReaderState) (fault : TFault) (xs : List ℕ) → held.fault ≡ Some fault
         → reading held xs ≡ record { packets = []; held = held } }
 {}
 

@@ -3,12 +3,12 @@
 ghost use Rattle.std.specs.Prelude.{◌≡◌, ℕ, ◌++◌, List, [], Some, None, IfSome, IfOk, OnErr};
 ghost use Rattle.tpkt.specs.declared.packet.Packet.{Packet};
 ghost use Rattle.tpkt.specs.declared.packet.TFault.{TFault};
-ghost use Rattle.tpkt.specs.declared.reader_state.Held.{Held};
+ghost use Rattle.tpkt.specs.declared.reader_state.ReaderState.{ReaderState};
 ghost use Rattle.tpkt.specs.Reader.{nothing, IsFed, IsKept};
 ghost use Rattle.tpkt.specs.Stream.{IsOctets, ReadsAsPackets, HasRead};
 
 use crate::packet::{Packets, TFed};
-use crate::reader_state::{Held, all_taken, between};
+use crate::reader_state::{ReaderState, all_taken, between};
 use osi_base::{NoMemory, Octets};
 use std::alloc::Global;
 use std::marker::Model;
@@ -21,14 +21,14 @@ use std::marker::Model;
 #[derive(Drop)]
 pub struct TReader {
     alloc: Global,
-    held: Option<Held>,
+    held: Option<ReaderState>,
 }
 
 impl Model for TReader {
     ghost use Rattle.std.specs.Prelude.{Option, IfSome};
-    ghost use Rattle.tpkt.specs.declared.reader_state.Held.{Held};
+    ghost use Rattle.tpkt.specs.declared.reader_state.ReaderState.{ReaderState};
 
-    ghost Value = { Option Held };
+    ghost Value = { Option ReaderState };
 
     ghost view = { λ r. r.held };
 
@@ -63,7 +63,7 @@ impl TReader {
         ensures goes_on { (came : List ℕ) (given : List Packet) → HasRead came given self.old
             → IfOk result (λ fed. HasRead (came ++ bytes.now) (given ++ fed.packets) self.new) }
         // After a fault nothing changes.
-        ensures again { (held : Held) (fault : TFault) → self.old ≡ Some held
+        ensures again { (held : ReaderState) (fault : TFault) → self.old ≡ Some held
             → held.fault ≡ Some fault → IfOk result (λ fed. (fed.packets ≡ [])
             × (fed.fault ≡ Some fault) × (self.new ≡ self.old)) }
         // What one feed makes of what was held.

@@ -21,7 +21,7 @@ pub struct Coming {
 
 /// What a reader holds.
 #[derive(Debug, Drop)]
-pub struct Held {
+pub struct ReaderState {
     /// The octets of a header that isn't whole.
     pub unread: Octets,
     /// The data of the TSDU that has begun.
@@ -35,10 +35,10 @@ pub struct Held {
 }
 
 /// Between two packets, with these octets of a TSDU.
-pub(crate) fn between(alloc: Global, tsdu: Octets, place: u64) -> Held
+pub(crate) fn between(alloc: Global, tsdu: Octets, place: u64) -> ReaderState
     ensures { result ≡ between tsdu place }
 {
-    Held {
+    ReaderState {
         unread: Octets::new(alloc),
         tsdu,
         coming: None,
@@ -59,12 +59,12 @@ fn opened(
     packets: &mut Packets,
     tsdu: Octets,
     place: u64,
-) -> Result<Held, NoMemory>
+) -> Result<ReaderState, NoMemory>
     ensures { IfOk result (λ held. opened coming.left coming.last packets.old tsdu place
         ≡ record { packets = packets.new; held = held }) }
 {
     if coming.left > 0 {
-        return Ok(Held {
+        return Ok(ReaderState {
             unread: Octets::new(alloc),
             tsdu,
             coming: Some(coming),
@@ -81,10 +81,10 @@ fn opened(
 
 fn header_taken(
     alloc: Global,
-    held: Held,
+    held: ReaderState,
     octet: u8,
     packets: &mut Packets,
-) -> Result<Held, NoMemory>
+) -> Result<ReaderState, NoMemory>
     requires idle { held.coming ≡ None }
     requires right { held.fault ≡ None }
     requires within { length held.tsdu ≤ tsdu_limit }
@@ -94,7 +94,7 @@ fn header_taken(
     }) octet
         ≡ record { packets = packets.new; held = next }) }
 {
-    let Held {
+    let ReaderState {
         mut unread,
         tsdu,
         coming,
@@ -104,14 +104,14 @@ fn header_taken(
     unread.push(octet)?;
     match header_at(alloc, tsdu.len(), unread.as_slice()) {
         Err(Halt::Memory) => Err(NoMemory),
-        Err(Halt::Stop(Stop::Short)) => Ok(Held {
+        Err(Halt::Stop(Stop::Short)) => Ok(ReaderState {
             unread,
             tsdu,
             coming,
             place,
             fault,
         }),
-        Err(Halt::Stop(Stop::At { offset, kind })) => Ok(Held {
+        Err(Halt::Stop(Stop::At { offset, kind })) => Ok(ReaderState {
             unread: Octets::new(alloc),
             tsdu: Octets::new(alloc),
             coming,
@@ -137,11 +137,11 @@ fn header_taken(
 
 fn data_taken(
     alloc: Global,
-    held: Held,
+    held: ReaderState,
     coming: Coming,
     octets: &[u8],
     packets: &mut Packets,
-) -> Result<(Held, usize), NoMemory>
+) -> Result<(ReaderState, usize), NoMemory>
     requires coming { held.coming ≡ Some coming }
     requires more { 0 < coming.left }
     requires idle { held.unread ≡ [] }
@@ -152,7 +152,7 @@ fn data_taken(
         after (record { packets = packets.old; held = held }) (take r.1 octets.now)
         ≡ record { packets = packets.new; held = r.0 }) }
 {
-    let Held {
+    let ReaderState {
         unread: _,
         mut tsdu,
         coming: _,
@@ -172,10 +172,10 @@ fn data_taken(
 /// Takes some octets from the front: what is held then, and how many were taken.
 fn some_taken(
     alloc: Global,
-    held: Held,
+    held: ReaderState,
     octets: &[u8],
     packets: &mut Packets,
-) -> Result<(Held, usize), NoMemory>
+) -> Result<(ReaderState, usize), NoMemory>
     requires sound { IsSoundReader held }
     requires right { held.fault ≡ None }
     requires some { 0 < length octets.now }
@@ -193,10 +193,10 @@ fn some_taken(
 /// Takes all octets, up to a fault.
 pub(crate) fn all_taken(
     alloc: Global,
-    held: Held,
+    held: ReaderState,
     octets: &[u8],
     packets: &mut Packets,
-) -> Result<Held, NoMemory>
+) -> Result<ReaderState, NoMemory>
     requires { IsSoundReader held }
     ensures read { IfOk result (λ new. after (record {
       packets = packets.old;

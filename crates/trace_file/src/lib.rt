@@ -3,8 +3,9 @@
 
 mod fault;
 mod hexadecimal;
-pub mod laws;
+mod laws;
 mod reading;
 
 pub use fault::{RecordingFault, RecordingKind};
+pub use laws::recording_or_fault;
 pub use reading::{Recorded, Recording, read_recording};

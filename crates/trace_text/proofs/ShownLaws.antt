@@ -6,7 +6,7 @@ use Rattle.std.proofs.Math.Seq.{drop-append_seam, drop-length}
 use Rattle.osi_base.specs.declared.layer_words.Side.{Side}
 use Rattle.osi_base.specs.declared.layer_words.Side.TheVariants.{A, B}
 use Rattle.stub_tables.specs.declared.tables.Tables.{Tables}
-use Rattle.tpkt.specs.declared.reader_state.Held.{Held}
+use Rattle.tpkt.specs.declared.reader_state.ReaderState.{ReaderState}
 use Rattle.tpkt.specs.declared.packet.Packet.{Packet}
 use Rattle.tpkt.specs.declared.packet.TFault.{TFault}
 use Rattle.tpkt.specs.declared.packet.TFed.{TFed}
@@ -25,7 +25,7 @@ use Rattle.trace_text.proofs.SaidLaws.{join, no_fault, stays}
 abbrev Texts : Type 0
 Texts = List (List ℕ)
 
-abbrev of_fed : List Packet → Held → ReaderProgress
+abbrev of_fed : List Packet → ReaderState → ReaderProgress
 of_fed packets held = record { packets = packets; held = held }
 
 -- what is shown of a stream, by what its reader made of it
@@ -34,23 +34,23 @@ shows_as tables sent fed over shown e h = (over, subst (λ (f : ReaderProgress).
 
 -- ---- a direction stands at its beginning
 
-pub begins : (tables : Tables) (reader : Option Held) → reader ≡ Some nothing → HasRead [] [] reader → GoesOn tables [] [] reader
+pub begins : (tables : Tables) (reader : Option ReaderState) → reader ≡ Some nothing → HasRead [] [] reader → GoesOn tables [] [] reader
 begins tables reader e h = record {
   packets = [];
   held = nothing;
   is = e;
-  read = subst (λ (r : Option Held). HasRead [] [] r) e h;
+  read = subst (λ (r : Option ReaderState). HasRead [] [] r) e h;
   right = refl;
   said = (refl, refl);
 }
 
 -- ---- what stands is shown
 
-goes_shown : (tables : Tables) (sent : List ℕ) (shown : Texts) (reader : Option Held) → GoesOn tables sent shown reader → Shows tables sent shown
+goes_shown : (tables : Tables) (sent : List ℕ) (shown : Texts) (reader : Option ReaderState) → GoesOn tables sent shown reader → Shows tables sent shown
 goes_shown tables sent shown reader g =
     shows_as tables sent (of_fed g.packets g.held) false shown g.read (subst (λ (x : Option TFault). AllSaid tables g.packets x false shown) (sym g.right) g.said)
 
-stands_shown : (tables : Tables) (sent : List ℕ) (shown : Texts) (over : Bool) (reader : Option Held) → StandsIf over tables sent shown reader → Shows tables sent shown
+stands_shown : (tables : Tables) (sent : List ℕ) (shown : Texts) (over : Bool) (reader : Option ReaderState) → StandsIf over tables sent shown reader → Shows tables sent shown
 stands_shown tables sent shown true reader h = subst (λ (l : List ℕ). Shows tables l shown) (append-nil sent) (h [])
 stands_shown tables sent shown false reader h = goes_shown tables sent shown reader h
 
@@ -71,17 +71,17 @@ over_shown tables from sent octets text direction e s =
 -- ---- a feed
 
 -- what was held at the fault of a stream stays as it is
-follows_fault : (held : Held) (fault : TFault) (more : List ℕ) → held.fault ≡ Some fault → reading held more ≡ of_fed [] held
+follows_fault : (held : ReaderState) (fault : TFault) (more : List ℕ) → held.fault ≡ Some fault → reading held more ≡ of_fed [] held
 follows_fault held fault more e = after_fault (of_fed [] held) fault more e
 
-abbrev later : List Packet → Held → List ℕ → ReaderProgress
+abbrev later : List Packet → ReaderState → List ℕ → ReaderProgress
 later packets held more = of_fed (packets ++ (reading held more).packets) (reading held more).held
 
-read_on : (sent more : List ℕ) (packets : List Packet) (held : Held) → reading nothing sent ≡ of_fed packets held → reading nothing (sent ++ more) ≡ later packets held more
+read_on : (sent more : List ℕ) (packets : List Packet) (held : ReaderState) → reading nothing sent ≡ of_fed packets held → reading nothing (sent ++ more) ≡ later packets held more
 read_on sent more packets held e = any_cut nothing sent more ∙ ap (λ (f : ReaderProgress). later f.packets f.held more) e
 
 -- what is over by its packets or by the fault of its stream is shown so, whatever follows
-whatever_follows : (tables : Tables) (sent : List ℕ) (packets : List Packet) (held : Held) (fault : Option TFault) (shown : Texts) → held.fault ≡ fault → reading nothing sent ≡ of_fed packets held
+whatever_follows : (tables : Tables) (sent : List ℕ) (packets : List Packet) (held : ReaderState) (fault : Option TFault) (shown : Texts) → held.fault ≡ fault → reading nothing sent ≡ of_fed packets held
     → AllSaid tables packets fault true shown → (more : List ℕ) → Shows tables (sent ++ more) shown
 whatever_follows tables sent packets held None shown e r h more =
     shows_as tables (sent ++ more) (later packets held more) true shown (read_on sent more packets held r)
@@ -92,15 +92,15 @@ whatever_follows tables sent packets held (Some fault) shown e r h more =
     (stays tables packets (reading held more).packets (Some fault) (reading held more).held.fault shown (ap (λ (x : ReaderProgress). x.packets) f, ap (λ (x : ReaderProgress). x.held.fault) f ∙ e) h)
 
 -- what a feed made of a reader that held something
-abbrev FedTo : List ℕ → List Packet → Held → Option TFault → Option Held → Type 0
+abbrev FedTo : List ℕ → List Packet → ReaderState → Option TFault → Option ReaderState → Type 0
 FedTo sent packets held fault reader = (reader ≡ Some held) × HasRead sent packets (Some held) × (held.fault ≡ fault)
 
-fed_to : (sent octets : List ℕ) (packets : List Packet) (held : Held) (fed : TFed) (reader : Option Held) → IsFed (Some held) octets fed reader
-    → HasRead (sent ++ octets) (packets ++ fed.packets) reader → (now : Held) × FedTo (sent ++ octets) (packets ++ fed.packets) now fed.fault reader
+fed_to : (sent octets : List ℕ) (packets : List Packet) (held : ReaderState) (fed : TFed) (reader : Option ReaderState) → IsFed (Some held) octets fed reader
+    → HasRead (sent ++ octets) (packets ++ fed.packets) reader → (now : ReaderState) × FedTo (sent ++ octets) (packets ++ fed.packets) now fed.fault reader
 fed_to sent octets packets held fed None i h = absurd i
 fed_to sent octets packets held fed (Some now) i h = (now, (refl, h, sym i.1))
 
-stands_after : (tables : Tables) (sent : List ℕ) (packets : List Packet) (held : Held) (fault : Option TFault) (reader : Option Held) (over : Bool) (shown : Texts)
+stands_after : (tables : Tables) (sent : List ℕ) (packets : List Packet) (held : ReaderState) (fault : Option TFault) (reader : Option ReaderState) (over : Bool) (shown : Texts)
     → FedTo sent packets held fault reader → AllSaid tables packets fault over shown → StandsIf over tables sent shown reader
 stands_after tables sent packets held fault reader true shown f h = whatever_follows tables sent packets held fault shown f.2 f.1 h
 stands_after tables sent packets held fault reader false shown f h =
@@ -119,22 +119,22 @@ shown_behind : (tables : Tables) (from : Side) (sent octets : List ℕ) (shown m
 shown_behind tables from sent octets shown more before after s t e =
     (flat_map (line_from from) more, (shown, shown ++ more, s, t, sym (ap (λ (l : Texts). flat_map (line_from from) l) (drop-append_seam shown more))), e)
 
-abbrev Feeds : List ℕ → List ℕ → TFed → Option Held → Option Held → Type 0
+abbrev Feeds : List ℕ → List ℕ → TFed → Option ReaderState → Option ReaderState → Type 0
 Feeds sent octets fed old new = (given : List Packet) → HasRead sent given old → HasRead (sent ++ octets) (given ++ fed.packets) new
 
-fed_shown_if : (tables : Tables) (from : Side) (sent octets : List ℕ) (old new : Option Held) (fed : TFed) (over : Bool) (before after : List ℕ) (shown : Texts)
+fed_shown_if : (tables : Tables) (from : Side) (sent octets : List ℕ) (old new : Option ReaderState) (fed : TFed) (over : Bool) (before after : List ℕ) (shown : Texts)
     → GoesOn tables sent shown old → IsFed old octets fed new → Feeds sent octets fed old new → AllPut tables from fed.packets fed.fault over before after
     → ShownWith tables from sent octets (record { reader = new; is_over = over }) before after
 fed_shown_if tables from sent octets old new fed over before after shown g i f p =
-    let held_now = fed_to sent octets g.packets g.held fed new (subst (λ (r : Option Held). IsFed r octets fed new) g.is i)
-    (f g.packets (subst (λ (r : Option Held). HasRead sent g.packets r) (sym g.is) g.read)) in
+    let held_now = fed_to sent octets g.packets g.held fed new (subst (λ (r : Option ReaderState). IsFed r octets fed new) g.is i)
+    (f g.packets (subst (λ (r : Option ReaderState). HasRead sent g.packets r) (sym g.is) g.read)) in
     let said = join tables g.packets fed.packets fed.fault over shown p.0 g.said p.1 in
     let stands = stands_after tables (sent ++ octets) (g.packets ++ fed.packets) held_now.0 fed.fault new over (shown ++ p.0) held_now.1 said in (
       (shown ++ p.0, stands),
       shown_behind tables from sent octets shown p.0 before after (goes_shown tables sent shown old g) (stands_shown tables (sent ++ octets) (shown ++ p.0) over new stands) p.2,
     )
 
-pub fed_shown : (tables : Tables) (from : Side) (sent octets : List ℕ) (direction : Direction) (new : Option Held) (fed : TFed) (over : Bool) (before after : List ℕ)
+pub fed_shown : (tables : Tables) (from : Side) (sent octets : List ℕ) (direction : Direction) (new : Option ReaderState) (fed : TFed) (over : Bool) (before after : List ℕ)
     → direction.is_over ≡ false → StandsFor tables sent direction → IsFed direction.reader octets fed new → Feeds sent octets fed direction.reader new
     → AllPut tables from fed.packets fed.fault over before after → ShownWith tables from sent octets (record { reader = new; is_over = over }) before after
 fed_shown tables from sent octets direction new fed over before after e s i f p =

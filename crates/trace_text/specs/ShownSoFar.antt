@@ -2,7 +2,7 @@
 use Rattle.std.specs.Prelude.{◌≡◌, ℕ, Bool, true, false, List, ◌++◌, flat_map, Option, Some, None}
 use Rattle.osi_base.specs.declared.layer_words.Side.{Side}
 use Rattle.stub_tables.specs.declared.tables.Tables.{Tables}
-use Rattle.tpkt.specs.declared.reader_state.Held.{Held}
+use Rattle.tpkt.specs.declared.reader_state.ReaderState.{ReaderState}
 use Rattle.tpkt.specs.declared.packet.Packet.{Packet}
 use Rattle.tpkt.specs.declared.packet.TFault.{TFault}
 use Rattle.tpkt.specs.Stream.{HasRead}
@@ -32,16 +32,16 @@ AllPut tables from packets fault over before after =
     (shown : List (List ℕ)) × AllSaid tables packets fault over shown × (after ≡ before ++ flat_map (line_from from) shown)
 
 -- A direction that isn't over: its reader took all that was sent and found no fault, and all of it was shown.
-pub record GoesOn (tables : Tables) (sent : List ℕ) (shown : List (List ℕ)) (reader : Option Held) : Type 0 where
+pub record GoesOn (tables : Tables) (sent : List ℕ) (shown : List (List ℕ)) (reader : Option ReaderState) : Type 0 where
   pub packets : List Packet
-  pub held : Held
+  pub held : ReaderState
   pub is : reader ≡ Some held
   pub read : HasRead sent packets (Some held)
   pub right : held.fault ≡ None
   pub said : AllSaid tables packets None false shown
 
 -- Of a direction that is over the same is shown, whatever is sent behind it.
-abbrev pub StandsIf : Bool → Tables → List ℕ → List (List ℕ) → Option Held → Type 0
+abbrev pub StandsIf : Bool → Tables → List ℕ → List (List ℕ) → Option ReaderState → Type 0
 StandsIf true tables sent shown reader = (more : List ℕ) → Shows tables (sent ++ more) shown
 StandsIf false tables sent shown reader = GoesOn tables sent shown reader
 

@@ -31,7 +31,7 @@ use Rattle.agreement.specs.Messages as model
 use Rattle.agreement.specs.Messages.Apdu.{Invoke as model_invoke, Outcome as model_outcome, Reject as model_reject}
 use Rattle.agreement.specs.Messages.Problem.{General as of_general, OfInvocation as of_invocation, OfResult as of_result, OfError as of_error}
 use Rattle.end_model.specs.Seen.{number_seen, pair_seen, set_seen, problem_in, rejected_seen, apdu_seen, item_seen}
-use Rattle.end_model.specs.Opens.{IsNumber, IsNamed, IsProblem, IsProper, FitsReturned, fits_argument, fits_result, fits_parameter, operation_of_code, error_of_code}
+use Rattle.end_model.specs.OpenInvocations.{IsNumber, IsNamed, IsProblem, IsProper, FitsReturned, fits_argument, fits_result, fits_parameter, operation_of_code, error_of_code}
 use Rattle.end_model.proofs.Fitting.{one-name, same-itself}
 use Rattle.transfer_spelling.specs.reliable_model.Codecs.{IsShort, IsTransferable, IsPlaced, SpellsTransfers, IsTransferOf, Carries}
 use Rattle.transfer_spelling.specs.Laws.{IsModule}

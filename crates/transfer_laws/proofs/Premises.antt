@@ -9,10 +9,10 @@ use Rattle.end_rules.specs.Writing.{own_proposals}
 use Rattle.end_config.proofs.Proposes.{proposes-rightly}
 use Rattle.agreement.specs.Sets.Role.{Initiator}
 use Rattle.end_model.specs.Seen.{Free}
-use Rattle.end_model.specs.Pairs.{base_at}
+use Rattle.end_model.specs.BothEnds.{base_at}
 use Rattle.association_reading.specs.Transfers.{arrived_at, transferred}
 use Rattle.reliable_model.specs.Codecs.{Carries}
-use Rattle.reliable_model.specs.ReliablePairs.{IsFit}
+use Rattle.reliable_model.specs.ReliableEnds.{IsFit}
 use Rattle.reliable_model.proofs.Laws.{reliable-modelled, reliable-takes, reliable-one_holder, reliable-whole, reliable-items, reliable-once, reliable-as_sent}
 use Rattle.outcome_laws.proofs.Transferred.{transferred-answers}
 use Rattle.transfer_spelling.specs.Laws.{IsModule}
@@ -66,5 +66,5 @@ ends-as_sent tables a b m x y two ledger reached role item e arrived =
     let f = has-free tables a b m x y in reliable-as_sent f.0 tables _ a b f.1 (fit tables a b m x y) two ledger reached role item e arrived
 
 pub ends-answers : ReliableEndsTellAnswers
-ends-answers tables a b m x y two ledger dealings deals role =
-    let f = has-free tables a b m x y in transferred-answers f.0 tables _ a b f.1 (fit tables a b m x y) two ledger dealings deals role
+ends-answers tables a b m x y two ledger exchanges reached_exchanges role =
+    let f = has-free tables a b m x y in transferred-answers f.0 tables _ a b f.1 (fit tables a b m x y) two ledger exchanges reached_exchanges role

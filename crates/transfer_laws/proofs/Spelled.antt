@@ -28,7 +28,7 @@ use Rattle.end_rules.specs.Invoking.{is_too_long}
 use Rattle.end_wire.specs.Heads.{head_at, apdu_of}
 use Rattle.end_wire.specs.Values.{content_of}
 use Rattle.end_wire.proofs.ContentLaws.{content_says, said_is, spelled_said}
-use Rattle.end_model.specs.Opens.{IsProper}
+use Rattle.end_model.specs.OpenInvocations.{IsProper}
 use Rattle.end_model.specs.Acting.{ReadsBack, IsSaidBack}
 use Rattle.end_model.proofs.Fitting.{same-itself}
 use Rattle.association_reading.specs.association_wire.Values.{in_form}

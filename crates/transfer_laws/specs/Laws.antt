@@ -17,19 +17,19 @@ use Rattle.agreement.specs.Sets.{Role, other}
 use Rattle.agreement.specs.Sets.Role.{Initiator}
 use Rattle.agreement.specs.Laws.{AreFalling}
 use Rattle.end_model.specs.Seen.{Free}
-use Rattle.end_model.specs.Pairs.{Common, base_at, Two, body_at, coming_to}
-use Rattle.end_model.specs.DirectPairs.{RunOf}
+use Rattle.end_model.specs.BothEnds.{Common, base_at, Two, body_at, coming_to}
+use Rattle.end_model.specs.DirectEnds.{RunOf}
 use Rattle.association_reading.specs.Transfers.{association_spellings}
 use Rattle.reliable_model.specs.Codecs.{Carries}
-use Rattle.reliable_model.specs.Goes.{Encoding, deeds_of, Ledger, Goes}
-use Rattle.reliable_model.specs.ReliablePairs.{reliable_pair}
+use Rattle.reliable_model.specs.Ledgers.{Encoding, transfer_log_of, Ledger, ReachedWithLedger}
+use Rattle.reliable_model.specs.ReliableEnds.{reliable_common}
 use Rattle.reliable_model.specs.Transfers.{TakesTransferEnd, IsNewest, ArrivesWhole, item_of, IsOf}
-use Rattle.outcome_laws.specs.Deals.{Dealings, dealt_of, Deals}
+use Rattle.outcome_laws.specs.Exchanges.{Exchanges, exchange_of, ReachedWithExchanges}
 use Rattle.outcome_laws.specs.Outcomes.{AreAnswers}
 use Rattle.transfer_spelling.specs.Laws.{IsModule}
 
 abbrev pub reliable_ends : Tables → Config → Config → Common
-reliable_ends tables a b = reliable_pair tables (association_spellings tables) a b
+reliable_ends tables a b = reliable_common tables (association_spellings tables) a b
 
 -- a configuration of reliable mode that no end refuses
 pub record IsReliable (config : Config) : Type 0 where
@@ -41,13 +41,13 @@ abbrev pub ReliableEndsAreModelled : Type 0
 ReliableEndsAreModelled =
     (tables : Tables) (a b : Config) → IsModule tables → IsReliable a → IsReliable b →
     (free : Free) × Carries free (base_at Initiator (reliable_ends tables a b)) ×
-    ((two : Two) (ledger : Ledger) → Goes (reliable_ends tables a b) two ledger → RunOf free (reliable_ends tables a b) two)
+    ((two : Two) (ledger : Ledger) → ReachedWithLedger (reliable_ends tables a b) two ledger → RunOf free (reliable_ends tables a b) two)
 
 -- in every pair of such ends this holds of whatever they reach
 abbrev pub EverInEnds : (Common → Two → Ledger → Type 0) → Type 0
 EverInEnds Law =
     (tables : Tables) (a b : Config) → IsModule tables → IsReliable a → IsReliable b →
-    (two : Two) (ledger : Ledger) → Goes (reliable_ends tables a b) two ledger → Law (reliable_ends tables a b) two ledger
+    (two : Two) (ledger : Ledger) → ReachedWithLedger (reliable_ends tables a b) two ledger → Law (reliable_ends tables a b) two ledger
 
 -- Neither aborts of itself: whatever comes next to an end is taken or passed over.
 abbrev pub ReliableEndsTake : Type 0
@@ -68,11 +68,11 @@ ReliableEndsArriveWhole = EverInEnds (λ common two ledger. (role : Role) → Ta
 abbrev pub ReliableEndsKeepItems : Type 0
 ReliableEndsKeepItems =
     EverInEnds (λ common two ledger.
-    (role : Role) (encoding : Encoding) → IsNewest encoding (deeds_of role ledger.deeds).encoded → IsOf encoding.apdu (item_of encoding.activity (deeds_of role ledger.deeds).started))
+    (role : Role) (encoding : Encoding) → IsNewest encoding (transfer_log_of role ledger.transfer_log).encoded → IsOf encoding.apdu (item_of encoding.activity (transfer_log_of role ledger.transfer_log).started))
 
 -- The numbers of the transfers that are handed up rise.
 abbrev pub ReliableEndsArriveOnce : Type 0
-ReliableEndsArriveOnce = EverInEnds (λ common two ledger. (role : Role) → AreFalling (deeds_of role ledger.deeds).arrived)
+ReliableEndsArriveOnce = EverInEnds (λ common two ledger. (role : Role) → AreFalling (transfer_log_of role ledger.transfer_log).arrived)
 
 -- Taken as sent: what arrives has the pair that the taker's own set gives its context, which is the pair that the shared set gave
 -- it as the other end encoded the item.
@@ -81,14 +81,14 @@ ReliableEndsTakeAsSent =
     EverInEnds (λ common two ledger.
     (role : Role) (item : Item) → TakesTransferEnd common two role → arrived_now (base_at role common) (body_at role two) ≡ Ok (Whole item) →
     (pair_of (body_at role two).sets.held item.id ≡ Some item.pair) ×
-    IsNewest (record { activity = (body_at role two).receiving.last; id = item.id; pair = pair_of (body_at role two).sets.held item.id; apdu = item.apdu }) (deeds_of (other role) ledger.deeds).encoded)
+    IsNewest (record { activity = (body_at role two).receiving.last; id = item.id; pair = pair_of (body_at role two).sets.held item.id; apdu = item.apdu }) (transfer_log_of (other role) ledger.transfer_log).encoded)
 
 -- Each outcome that an end is told is an APDU that the other end wrote.
 abbrev pub ReliableEndsTellAnswers : Type 0
 ReliableEndsTellAnswers =
     (tables : Tables) (a b : Config) → IsModule tables → IsReliable a → IsReliable b →
-    (two : Two) (ledger : Ledger) (dealings : Dealings) → Deals (reliable_ends tables a b) two ledger dealings →
-    (role : Role) → AreAnswers tables (dealt_of (other role) dealings).wrote (dealt_of role dealings).shown
+    (two : Two) (ledger : Ledger) (exchanges : Exchanges) → ReachedWithExchanges (reliable_ends tables a b) two ledger exchanges →
+    (role : Role) → AreAnswers tables (exchange_of (other role) exchanges).wrote (exchange_of role exchanges).shown
 
 -- These premises are met: by a module of two operations, with a context that each end may have in reliable mode. That the CP of the
 -- initiator's configuration isn't too long isn't computed here.

@@ -44,7 +44,7 @@ use Rattle.apdu_spelling.specs.Writing.{written_apdu, written_typed, written_car
 use Rattle.reliable_model.specs.end_rules.Base.{Base}
 use Rattle.reliable_model.specs.end_rules.Invoking.{is_too_long, is_too_long_in}
 use Rattle.reliable_model.specs.end_model.Seen.{number_seen}
-use Rattle.reliable_model.specs.end_model.Opens.{IsNumber, IsNamed, IsProblem, FitsReturned, fits_argument, fits_result, fits_parameter, operation_of_code, error_of_code}
+use Rattle.reliable_model.specs.end_model.OpenInvocations.{IsNumber, IsNamed, IsProblem, FitsReturned, fits_argument, fits_result, fits_parameter, operation_of_code, error_of_code}
 use Rattle.reliable_model.specs.Codecs.{IsTransferable}
 use Rattle.transfer_spelling.specs.Laws.{IsModule, TransferablesAreWritable}
 use Rattle.transfer_spelling.proofs.Lengths.{integer-length, definite-length}

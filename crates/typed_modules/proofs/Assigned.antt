@@ -10,7 +10,7 @@ use Rattle.operation_notation.specs.declared.module.OpText.{OpText}
 use Rattle.stub_tables.specs.declared.tables.Tables.{Tables}
 use Rattle.module_compiler.specs.Scope.{Ground, behind}
 use Rattle.module_compiler.specs.Numbering.{◌>>=◌, give, row_behind, type_row, use_of}
-use Rattle.module_compiler.specs.Tabling.{code_of, known_or_none, operation_of, error_of, with_operation, with_error, body_of, assignment_of, walk_all, ground_of, start, whole, whole_of}
+use Rattle.module_compiler.specs.ModuleTables.{code_of, known_or_none, operation_of, error_of, with_operation, with_error, body_of, assignment_of, walk_all, ground_of, start, whole, whole_of}
 use Rattle.module_compiler.specs.Tables.{AreTablesOf}
 use Rattle.typed_modules.proofs.TypedRows.{AreTyped}
 use Rattle.typed_modules.proofs.Numbers.{Typed, Keeps, keeps_then, keeps_give, keeps_none, keeps_behind, keeps_type, keeps_use}

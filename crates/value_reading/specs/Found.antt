@@ -1,8 +1,8 @@
 -- What stands first in a text.
 use Rattle.std.specs.Prelude.{ℕ, List, Option, option_map}
 use Rattle.asn1_types.specs.Value.{Value}
-use Rattle.value_reading.specs.declared.front.Front.{Front}
-use Rattle.value_reading.specs.declared.front.Items.{Items}
+use Rattle.value_reading.specs.declared.value_and_rest.ValueAndRest.{ValueAndRest}
+use Rattle.value_reading.specs.declared.value_and_rest.Items.{Items}
 
 -- a value, and what follows it
 pub record Found : Type 0 where
@@ -16,7 +16,7 @@ Reader = List ℕ → Option Found
 abbrev pub found_before : List ℕ → Option Value → Option Found
 found_before rest v = option_map (λ value. record { value = value; rest = rest }) v
 
-abbrev pub found : Option Front → Option Found
+abbrev pub found : Option ValueAndRest → Option Found
 found front = option_map (λ f. record { value = f.value; rest = f.rest.now }) front
 
 -- the items of a list, and what follows it

@@ -7,7 +7,7 @@ ghost use Rattle.value_reading.specs.Found.{found, found_before};
 ghost use Rattle.value_reading.specs.Words.{len_to, word, behind_word};
 ghost use Rattle.value_reading.specs.Forms.{octets_of, bit_of, bit_at, of_bits, octet_of_bits, bit_octets, by_letter, quoted_form, characters_at, oid_before, arcs_at, word_form, form_at};
 
-use crate::front::Front;
+use crate::value_and_rest::ValueAndRest;
 use crate::word::{behind_word, from, len_to, up_to, word};
 use asn1_types::{Node, Val};
 use osi_base::{NoMemory, Octets, Oid, octet_of_digits};
@@ -17,7 +17,7 @@ use value_text::{decimal_integer, decimal_number};
 /// Reads the value that stands first in a text by its form (X.680, the notation for values):
 /// `TRUE`, `FALSE`, `NULL`, a decimal number, `'0A'H`, `'0101'B`, `"text"` or `{2 999 1}`; or
 /// `None` where none of these stands there. What may follow is the caller's matter.
-pub fn read_form(alloc: Global, text: &[u8]) -> Result<Option<Front<'_>>, NoMemory>
+pub fn read_form(alloc: Global, text: &[u8]) -> Result<Option<ValueAndRest<'_>>, NoMemory>
     ensures { IfOk result (λ front. found front ≡ form_at text.now) }
 {
     let [first, rest @ ..] = text else {
@@ -32,10 +32,10 @@ pub fn read_form(alloc: Global, text: &[u8]) -> Result<Option<Front<'_>>, NoMemo
 }
 
 /// A value that is one word.
-fn read_word(text: &[u8]) -> Option<Front<'_>>
+fn read_word(text: &[u8]) -> Option<ValueAndRest<'_>>
     ensures { found result ≡ found_before (behind_word text.now) (word_form (word text.now)) }
 {
-    Some(Front {
+    Some(ValueAndRest {
         value: word_value(word(text))?,
         rest: behind_word(text),
     })
@@ -66,7 +66,7 @@ fn value(node: Node) -> Val
 
 /// What follows a single quote.
 #[tactic(auto, using(crate::proofs::Quoted::no_letter, crate::proofs::Quoted::with_letter))]
-fn read_quoted(alloc: Global, text: &[u8]) -> Result<Option<Front<'_>>, NoMemory>
+fn read_quoted(alloc: Global, text: &[u8]) -> Result<Option<ValueAndRest<'_>>, NoMemory>
     ensures { IfOk result (λ front. found front ≡ quoted_form (take (len_to 39 text.now) text.now)
         (drop (len_to 39 text.now) text.now)) }
 {
@@ -85,7 +85,7 @@ fn read_by_letter<'a>(
     inside: &[u8],
     letter: u8,
     rest: &'a [u8],
-) -> Result<Option<Front<'a>>, NoMemory>
+) -> Result<Option<ValueAndRest<'a>>, NoMemory>
     ensures { IfOk result (λ front. found front ≡ by_letter inside.now letter rest.now) }
 {
     match letter {
@@ -96,10 +96,10 @@ fn read_by_letter<'a>(
 }
 
 /// A value, where there is one, before what follows.
-fn before(value: Option<Val>, rest: &[u8]) -> Option<Front<'_>>
+fn before(value: Option<Val>, rest: &[u8]) -> Option<ValueAndRest<'_>>
     ensures { found result ≡ found_before rest.now value }
 {
-    Some(Front {
+    Some(ValueAndRest {
         value: value?,
         rest,
     })
@@ -229,7 +229,7 @@ fn read_bit_string(alloc: Global, digits: &[u8]) -> Result<Option<Val>, NoMemory
 
 /// What follows a double quote: characters up to the quote that ends them, of which each quote
 /// stands twice.
-fn read_characters(alloc: Global, text: &[u8]) -> Result<Option<Front<'_>>, NoMemory>
+fn read_characters(alloc: Global, text: &[u8]) -> Result<Option<ValueAndRest<'_>>, NoMemory>
     ensures { IfOk result (λ front. found front ≡ characters_at [] text.now) }
 {
     let mut characters = Octets::new(alloc);
@@ -241,7 +241,7 @@ fn read_characters(alloc: Global, text: &[u8]) -> Result<Option<Front<'_>>, NoMe
             continue;
         }
         let [b'"', more @ ..] = behind else {
-            return Ok(Some(Front {
+            return Ok(Some(ValueAndRest {
                 value: value(Node::Text(characters)),
                 rest: behind,
             }));
@@ -254,7 +254,7 @@ fn read_characters(alloc: Global, text: &[u8]) -> Result<Option<Front<'_>>, NoMe
 
 /// What follows an opening brace: the arcs of an object identifier, with spaces around them.
 #[tactic(auto, using(crate::proofs::Turns::arcs_none, crate::proofs::Turns::arcs_space, crate::proofs::Turns::arcs_end, crate::proofs::Turns::arcs_more, crate::proofs::Turns::arcs_not, crate::proofs::Turns::arcs_over))]
-fn read_arcs(alloc: Global, text: &[u8]) -> Result<Option<Front<'_>>, NoMemory>
+fn read_arcs(alloc: Global, text: &[u8]) -> Result<Option<ValueAndRest<'_>>, NoMemory>
     ensures { IfOk result (λ front. found front ≡ arcs_at (length text.now) [] text.now) }
 {
     let mut arcs = Vec::new(alloc);
@@ -279,10 +279,10 @@ fn read_arcs(alloc: Global, text: &[u8]) -> Result<Option<Front<'_>>, NoMemory>
 }
 
 /// The object identifier of these arcs, where they are one.
-fn oid_before(arcs: Vec<u32>, rest: &[u8]) -> Option<Front<'_>>
+fn oid_before(arcs: Vec<u32>, rest: &[u8]) -> Option<ValueAndRest<'_>>
     ensures { found result ≡ oid_before arcs.items rest.now }
 {
-    Some(Front {
+    Some(ValueAndRest {
         value: value(Node::ObjectId(Oid::from_vec(arcs)?)),
         rest,
     })

@@ -3,11 +3,11 @@
 #![tactic(auto)]
 
 mod form;
-mod front;
 mod typed;
+mod value_and_rest;
 mod word;
 
 pub use form::read_form;
-pub use front::{Front, Items};
 pub use typed::read_typed;
+pub use value_and_rest::{Items, ValueAndRest};
 pub use word::{after_spaces, len_to};

@@ -11,7 +11,7 @@ ghost use Rattle.value_reading.specs.Words.{word, behind_word, behind_sign};
 ghost use Rattle.value_reading.specs.Typed.{item_named, place_from, place_of, may_stand, part_at, kept_slot, kept_slots, no_slots, closed_parts, first_part, parts_at, sequence_at, items_at, braced_items, list_at, as_read, named_alternative, choice_at, read_by, read_as, value_at};
 
 use crate::form::read_form;
-use crate::front::{Front, Items};
+use crate::value_and_rest::{Items, ValueAndRest};
 use crate::word::{
     after_brace, after_comma, after_spaces, behind_sign, behind_word, closed_by, word,
 };
@@ -33,7 +33,7 @@ pub fn read_typed<'a>(
     table: &TypeTable,
     of: TypeId,
     text: &'a [u8],
-) -> Result<Option<Front<'a>>, NoMemory>
+) -> Result<Option<ValueAndRest<'a>>, NoMemory>
     ensures { IfOk result (λ front. found front ≡ value_at table.now of.0 text.now) }
 {
     match read_as(alloc, table, of, text)? {
@@ -48,7 +48,7 @@ fn read_as<'a>(
     table: &TypeTable,
     of: TypeId,
     text: &'a [u8],
-) -> Result<Option<Front<'a>>, NoMemory>
+) -> Result<Option<ValueAndRest<'a>>, NoMemory>
     ensures { IfOk result (λ front. found front ≡ read_as table.now of.0 text.now) }
 {
     if table.has(of) {
@@ -65,7 +65,7 @@ fn read_row<'a>(
     of: TypeId,
     row: &TypeRow,
     text: &'a [u8],
-) -> Result<Option<Front<'a>>, NoMemory>
+) -> Result<Option<ValueAndRest<'a>>, NoMemory>
     requires row { IsRowOf table.now of.0 row.now }
     ensures { IfOk result (λ front. found front ≡ read_by (written table.now) (read_as table.now)
         row.now text.now) }
@@ -91,7 +91,7 @@ fn read_tagged<'a>(
     of: TypeId,
     inner: TypeId,
     text: &'a [u8],
-) -> Result<Option<Front<'a>>, NoMemory>
+) -> Result<Option<ValueAndRest<'a>>, NoMemory>
     requires below { inner.0 < of.0 }
     ensures { IfOk result (λ front. found front ≡ read_as table.now inner.0 text.now) }
 {
@@ -99,11 +99,11 @@ fn read_tagged<'a>(
 }
 
 /// An item of an ENUMERATED.
-fn read_item<'a>(items: &[Item], text: &'a [u8]) -> Option<Front<'a>>
+fn read_item<'a>(items: &[Item], text: &'a [u8]) -> Option<ValueAndRest<'a>>
     ensures { found result ≡ found_before (behind_word text.now) (item_named items.now (word
         text.now)) }
 {
-    Some(Front {
+    Some(ValueAndRest {
         value: item_named(items, word(text))?,
         rest: behind_word(text),
     })
@@ -214,11 +214,11 @@ fn closed_parts<'a>(
     parts: &Parts,
     slots: MaybeVals,
     rest: &'a [u8],
-) -> Result<Option<Front<'a>>, NoMemory>
+) -> Result<Option<ValueAndRest<'a>>, NoMemory>
     ensures { IfOk result (λ front. found front ≡ closed_parts parts.now slots.items rest.now) }
 {
     let values = kept_slots(alloc, parts.as_slice(), slots)?;
-    Ok(Some(Front {
+    Ok(Some(ValueAndRest {
         value: Val {
             node: Node::Parts(values),
         },
@@ -234,7 +234,7 @@ fn read_part<'a>(
     of: TypeId,
     part: &Part,
     text: &'a [u8],
-) -> Result<Option<Front<'a>>, NoMemory>
+) -> Result<Option<ValueAndRest<'a>>, NoMemory>
     requires below { part.now.inner.0 < of.0 }
     ensures { IfOk result (λ front. found front ≡ part_at (read_as table.now) (Some part.now)
         text.now) }
@@ -254,7 +254,7 @@ fn read_sequence<'a>(
     parts: &Parts,
     in_order: bool,
     text: &'a [u8],
-) -> Result<Option<Front<'a>>, NoMemory>
+) -> Result<Option<ValueAndRest<'a>>, NoMemory>
     requires below { AllByRecursion (λ m. m < of.0) (rows_of_parts parts.now) }
     ensures { IfOk result (λ front. found front ≡ sequence_at (read_as table.now) in_order
         parts.now text.now) }
@@ -280,7 +280,7 @@ fn read_parts<'a>(
     in_order: bool,
     slots: MaybeVals,
     text: &'a [u8],
-) -> Result<Option<Front<'a>>, NoMemory>
+) -> Result<Option<ValueAndRest<'a>>, NoMemory>
     requires below { AllByRecursion (λ m. m < of.0) (rows_of_parts parts.now) }
     requires slots { length slots.items ≡ length parts.now }
     ensures { IfOk result (λ front. found front ≡ parts_at (read_as table.now) in_order parts.now
@@ -381,13 +381,13 @@ fn read_list<'a>(
     of: TypeId,
     inner: TypeId,
     text: &'a [u8],
-) -> Result<Option<Front<'a>>, NoMemory>
+) -> Result<Option<ValueAndRest<'a>>, NoMemory>
     requires below { inner.0 < of.0 }
     ensures { IfOk result (λ front. found front ≡ list_at (read_as table.now inner.0) as_read
         text.now) }
 {
     match read_items(alloc, table, of, inner, text)? {
-        Some(Items { values, rest }) => Ok(Some(Front {
+        Some(Items { values, rest }) => Ok(Some(ValueAndRest {
             value: Val {
                 node: Node::List(values),
             },
@@ -405,13 +405,13 @@ fn read_set_of<'a>(
     of: TypeId,
     inner: TypeId,
     text: &'a [u8],
-) -> Result<Option<Front<'a>>, NoMemory>
+) -> Result<Option<ValueAndRest<'a>>, NoMemory>
     requires below { inner.0 < of.0 }
     ensures { IfOk result (λ front. found front ≡ list_at (read_as table.now inner.0) (sorted
         (written table.now inner.0)) text.now) }
 {
     match read_items(alloc, table, of, inner, text)? {
-        Some(Items { values, rest }) => Ok(Some(Front {
+        Some(Items { values, rest }) => Ok(Some(ValueAndRest {
             value: Val {
                 node: Node::List(in_order(alloc, table, inner, values)?),
             },
@@ -429,7 +429,7 @@ fn read_choice<'a>(
     of: TypeId,
     alternatives: &Parts,
     text: &'a [u8],
-) -> Result<Option<Front<'a>>, NoMemory>
+) -> Result<Option<ValueAndRest<'a>>, NoMemory>
     requires below { AllByRecursion (λ m. m < of.0) (rows_of_parts alternatives.now) }
     ensures { IfOk result (λ front. found front ≡ choice_at (read_as table.now) alternatives.now
         text.now) }
@@ -444,7 +444,7 @@ fn read_choice<'a>(
         return Ok(None);
     };
     match read_as(alloc, table, part.inner, inside)? {
-        Some(Front { value, rest }) => Ok(Some(Front {
+        Some(ValueAndRest { value, rest }) => Ok(Some(ValueAndRest {
             value: Val {
                 node: Node::Chosen {
                     which,

@@ -8,7 +8,7 @@ use Rattle.end_rules.specs.Reacting.{word_fault, after_word, answers_to_word, sh
 use Rattle.association_words.specs.declared.words.Word.{Word}
 use Rattle.association_words.specs.Seen.{seen_association, seen_word}
 use Rattle.association_place.specs.association_state.Seen.{base_in, seen}
-use Rattle.association_connecting.specs.association_answers.Reacted.{TakenAs}
+use Rattle.association_connecting.specs.association_answers.BroughtAs.{TakenAs}
 use Rattle.association_reacting.specs.ActivityEnds.{is_end_word}
 use Rattle.association_reacting.proofs.Reactions.{nothing_later}
 use Rattle.association_reacting.proofs.taking.take_word.Goals as goal

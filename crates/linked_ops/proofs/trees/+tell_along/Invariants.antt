@@ -1,6 +1,6 @@
 use Rattle.std.proofs.Common.{◌≡◌, ◌++◌, ◌≤◌}
 use Rattle.slab.specs.Slab.{get}
-use Rattle.linked_ops.specs.Along.{trees_along}
+use Rattle.linked_ops.specs.KeysAlong.{trees_along}
 use Rattle.linked_ops.proofs.trees.+tell_along.Given as goal
 
 abbrev pub decreases-tell_along : goal.decreases-tell_along

@@ -1,5 +1,5 @@
 use Rattle.std.proofs.Common.{◌≡◌, length}
-use Rattle.module_compiler.specs.Tabling.{walk_all}
+use Rattle.module_compiler.specs.ModuleTables.{walk_all}
 use Rattle.module_compiler.proofs.module_tables.assign_all.Given as goal
 
 abbrev pub invariant-loop-rest : goal.invariant-loop-rest

@@ -1,5 +1,5 @@
 use Rattle.std.proofs.Common.{◌∙◌}
-use Rattle.module_compiler.specs.Tabling.{sort_test}
+use Rattle.module_compiler.specs.ModuleTables.{sort_test}
 use Rattle.module_compiler.proofs.Slots.{numbers_step}
 use Rattle.module_compiler.proofs.module_tables.numbers_of.Goals as goal
 

@@ -1,5 +1,5 @@
 use Rattle.std.proofs.Common.{◌≡◌, [], drop}
-use Rattle.module_compiler.specs.Tabling.{numbers_of, sort_test}
+use Rattle.module_compiler.specs.ModuleTables.{numbers_of, sort_test}
 use Rattle.module_compiler.proofs.module_tables.numbers_of.Given as goal
 
 abbrev pub invariant-loop-name : goal.invariant-loop-name

@@ -1,7 +1,7 @@
 use Rattle.std.proofs.Common.{List, refl, ap, sym, subst, ◌∙◌}
 use Rattle.association_words.specs.declared.words.Message.{Message}
 use Rattle.end_rules.specs.State.{passes_over}
-use Rattle.association_reacting.specs.association_answers.Reacted.{seen_messages}
+use Rattle.association_reacting.specs.association_answers.BroughtAs.{seen_messages}
 use Rattle.association_end.specs.View.{EndView}
 use Rattle.association_end.specs.OneMessage.{AllMayStand}
 use Rattle.association_end.proofs.Inside.{view_in}

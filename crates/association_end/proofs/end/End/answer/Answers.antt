@@ -1,7 +1,7 @@
 use Rattle.std.proofs.Common.{List, sym, subst}
 use Rattle.std.proofs.lemmas.Result.{on_ok_weaker, on_err_weaker}
 use Rattle.association_words.specs.declared.words.Message.{Message}
-use Rattle.association_reacting.specs.association_answers.Reacted.{seen_messages}
+use Rattle.association_reacting.specs.association_answers.BroughtAs.{seen_messages}
 use Rattle.association_end.specs.OneMessage.{AllMayStand}
 use Rattle.association_end.proofs.Inside.{view_in}
 use Rattle.association_end.proofs.Sounds.{sound_size}

@@ -1,5 +1,5 @@
 use Rattle.std.proofs.Common.{ap, ◌∙◌}
-use Rattle.association_reacting.specs.association_answers.Reacted.{seen_messages}
+use Rattle.association_reacting.specs.association_answers.BroughtAs.{seen_messages}
 use Rattle.association_end.specs.OneMessage.{sending}
 use Rattle.association_end.proofs.Inside.{view_in}
 use Rattle.association_end.proofs.Sounds.{sound_waiting}

@@ -1,5 +1,5 @@
 use Rattle.std.proofs.Common.{◌≡◌, ℕ, ◌+◌, ◌≤◌, ◌++◌, [], drop, take}
-use Rattle.context_sets.specs.Held.{lowest}
+use Rattle.context_sets.specs.HeldSets.{lowest}
 use Rattle.context_sets.proofs.contexts.Contexts.lowest.Given as goal
 
 abbrev pub invariant-loop-item : goal.invariant-loop-item

@@ -3,7 +3,7 @@ use Rattle.slab.specs.Slab.{get}
 use Rattle.linked_ops.specs.Entries.{children_of}
 use Rattle.linked_ops.specs.Rows.{place_with}
 use Rattle.linked_ops.specs.Links.{first_child_of}
-use Rattle.linked_ops.specs.Along.{keys_along}
+use Rattle.linked_ops.specs.KeysAlong.{keys_along}
 use Rattle.linked_ops.proofs.Forests.{children_are}
 use Rattle.linked_ops.proofs.forest.Forest.children.Goals as goal
 

@@ -3,7 +3,7 @@ use Rattle.std.specs.Option.{option_map}
 use Rattle.std.specs.Ordering.{int_eq}
 use Rattle.linked_ops.specs.declared.key.Key.{Key}
 use Rattle.linked_ops.specs.Entries.{is_open, is_open_or_none}
-use Rattle.rose_roles.specs.Calls.{Invoking, called, key_of, AreOpen, opens_in}
+use Rattle.rose_roles.specs.Calls.{Invoking, called, key_of, AreOpen, open_calls_in}
 use Rattle.rose_roles.proofs.Changes.{shut_by, opens_own, own_after, peer_after}
 use Rattle.rose_roles.proofs.invoker.Invoker.open.Goals as goal
 
@@ -29,7 +29,7 @@ returns-clause-opened c = λ performed.
     (λ q. c.in_ok-enter.ensures.updated q ∙ ap (λ (k : Key). cond (int_eq k.id q) (Some c.args.called) (called q c.self.inside.kept.entries)) e) c.args.forest.now c.enter.new.forest
     (c.in_ok-enter.ensures.forest ∙ ap (λ (k : Key). c.args.forest.now ++ (k, option_map (key_of (not k.own)) c.args.linked) ∷ []) e) performed _ refl c.requires.fresh
     ∙ ap
-    (λ (i : Invoking). opens_in c.args.forest.now i.kept performed ++ record { own = true; id = pos (c.args.self.now.made + 1); operation = c.args.called.operation; context = c.args.called.context; parent = c.args.linked } ∷ [])
+    (λ (i : Invoking). open_calls_in c.args.forest.now i.kept performed ++ record { own = true; id = pos (c.args.self.now.made + 1); operation = c.args.called.operation; context = c.args.called.context; parent = c.args.linked } ∷ [])
     c.self.view_is in
     let y = ap (λ (i : Invoking). i.made + 1) c.self.view_is in λ k. record { opens = x k; made = y k }
 

@@ -5,7 +5,7 @@ use Rattle.std.specs.Ordering.{int_eq}
 use Rattle.linked_ops.specs.declared.key.Key.{Key}
 use Rattle.linked_ops.specs.Entries.{is_open, is_open_or_none}
 use Rattle.rose_roles.specs.declared.invoked_with.InvokedWith.{InvokedWith}
-use Rattle.rose_roles.specs.Calls.{Performing, key_of, called, AreOpen, opens_in, calls_of}
+use Rattle.rose_roles.specs.Calls.{Performing, key_of, called, AreOpen, open_calls_in, calls_of}
 use Rattle.rose_roles.proofs.Hearings.{not_admitted, admitted}
 use Rattle.rose_roles.proofs.Changes.{not_open, opens_peer, their_after, ours_after}
 use Rattle.rose_roles.proofs.performer.Performer.admit.Goals as goal
@@ -32,7 +32,7 @@ returns-clause-admitted c = λ base own same.
     let x = opens_peer c.args.id.now (record { operation = c.args.place; context = c.self.inside.context }) c.args.linked c.self.inside.kept.entries c.enter.new.kept.entries (λ q. c.in_ok-enter.ensures.updated q ∙ ap (λ (k : Key). cond (int_eq k.id q) (Some (record { operation = c.args.place; context = c.self.inside.context })) (called q c.self.inside.kept.entries)) c.key_of-key.ensures) c.args.forest.now c.enter.new.forest
     (c.in_ok-enter.ensures.forest ∙ ap (λ (k : Key). c.args.forest.now ++ (k, option_map (key_of (not k.own)) c.args.linked) ∷ []) c.key_of-key.ensures) own.kept fresh
     ∙ ap
-    (λ (p : Performing). opens_in c.args.forest.now own.kept p.kept ++ record { own = false; id = c.args.id.now; operation = c.args.place; context = p.context; parent = c.args.linked } ∷ [])
+    (λ (p : Performing). open_calls_in c.args.forest.now own.kept p.kept ++ record { own = false; id = c.args.id.now; operation = c.args.place; context = p.context; parent = c.args.linked } ∷ [])
     c.self.view_is in
     (λ k. record { opens = x k; made = own.made })
     ∙ admitted base c.args.tables.now same (record { own = false; id = c.args.id.now; operation = c.args.place; context = c.args.self.now.context; parent = c.args.linked })

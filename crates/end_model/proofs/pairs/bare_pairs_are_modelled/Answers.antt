@@ -1,6 +1,0 @@
-use Rattle.end_model.proofs.BareTaking.{bare-modelled, bare-takes}
-use Rattle.end_model.proofs.Plain.{has-codec}
-use Rattle.end_model.proofs.pairs.bare_pairs_are_modelled.Goals as goal
-
-pub returns : goal.returns
-returns c = record { codec = has-codec; modelled = bare-modelled; takes = bare-takes }

@@ -1,5 +1,0 @@
-use Rattle.end_model.proofs.DirectLaws.{direct-as_sent}
-use Rattle.end_model.proofs.pairs.direct_values_are_as_sent.Goals as goal
-
-pub returns : goal.returns
-returns c = record { law = direct-as_sent }

@@ -1,5 +1,0 @@
-use Rattle.reliable_model.proofs.Laws.{reliable-modelled, reliable-takes}
-use Rattle.reliable_model.proofs.pairs.reliable_pairs_are_modelled.Goals as goal
-
-pub returns : goal.returns
-returns c = record { modelled = reliable-modelled; takes = reliable-takes }
