@@ -18,7 +18,6 @@ use std::collections::VecDeque;
 use tpkt::{ConnectionFields, Packet};
 
 /// Puts a front behind the others.
-#[tactic(auto, using(crate::proofs::Placed::placed_on))]
 fn push(fronts: &mut VecDeque<Front>, front: Front) -> Result<(), NoMemory>
     requires front { IsPlaced front }
     requires fronts { ArePlaced fronts.old.items }
