@@ -17,7 +17,7 @@ use Rattle.agreement.specs.Takings.{taken, hears, between, handed_up, cut_item, 
 use Rattle.agreement.specs.Worlds.{Step, World, Sending, state_of, IsStep, IsRun, after}
 use Rattle.agreement.specs.Worlds.Step.{Acts, Takes, Passes}
 use Rattle.agreement.specs.Worlds.Moment.{By, Break}
-use Rattle.agreement.specs.Laws.{HasParent, AcceptedNamesOpen, outcome_in, told_by, told_after, told, OneOutcome}
+use Rattle.agreement.specs.Laws.{HasParent, AcceptedNamesOpen, outcome_in, outcomes_told_by, outcomes_told_after, outcomes_told, OneOutcome}
 use Rattle.agreement.proofs.Order.{by_test}
 
 -- numbers of invocations that are no longer open, and below what was made
@@ -143,7 +143,7 @@ hears-apdu setup ts calls context apdu k = go (is_accepted setup calls apdu) ref
     go true e = takes apdu e
     go false e = k
 
-hears-value : (setup : ModelSetup) (ts : List ℕ) (x : State) (v : Option Value) → Keeps_calls ts x.calls → Keeps_calls (told_by setup x v ++ ts) (hears setup v x).calls
+hears-value : (setup : ModelSetup) (ts : List ℕ) (x : State) (v : Option Value) → Keeps_calls ts x.calls → Keeps_calls (outcomes_told_by setup x v ++ ts) (hears setup v x).calls
 hears-value setup ts x None k = k
 hears-value setup ts x (Some v) k = hears-apdu setup ts x.calls v.identifier v.apdu k
 
@@ -192,7 +192,7 @@ cuts-item ts (Some t) calls k = go t.item.apdu
 begins-calls : Keeps_calls [] no_calls
 begins-calls = record { distinct = tt; closed = tt; made = tt }
 
-opens-calls : (setup : ModelSetup) (role : Role) (ts : List ℕ) (x : State) (choice : Choice) → Keeps_calls ts x.calls → Keeps_calls (told_after setup x (Takes Connect choice) ts) (taken setup role x Connect choice).calls
+opens-calls : (setup : ModelSetup) (role : Role) (ts : List ℕ) (x : State) (choice : Choice) → Keeps_calls ts x.calls → Keeps_calls (outcomes_told_after setup x (Takes Connect choice) ts) (taken setup role x Connect choice).calls
 opens-calls setup role ts x (Accepting set) k = begins-calls
 opens-calls setup role ts x Refusing k = k
 opens-calls setup role ts x Nothing k = k
@@ -213,7 +213,7 @@ alters-calls setup role ts x items Nothing k = k
 between-calls : (ts : List ℕ) (x : State) → Keeps_calls ts x.calls → Keeps_calls ts (between x).calls
 between-calls ts x k = k
 
-takes-calls : (setup : ModelSetup) (role : Role) (ts : List ℕ) (x : State) (m : Message) (choice : Choice) → Keeps_calls ts x.calls → Keeps_calls (told_after setup x (Takes m choice) ts) (taken setup role x m choice).calls
+takes-calls : (setup : ModelSetup) (role : Role) (ts : List ℕ) (x : State) (m : Message) (choice : Choice) → Keeps_calls ts x.calls → Keeps_calls (outcomes_told_after setup x (Takes m choice) ts) (taken setup role x m choice).calls
 takes-calls setup role ts x Connect choice k = opens-calls setup role ts x choice k
 takes-calls setup role ts x Recover choice k = recovers-calls setup role ts x choice k
 takes-calls setup role ts x (Accept set) choice k = k
@@ -247,21 +247,21 @@ takes-calls setup role ts x Release choice k = cuts ts x.calls k
 takes-calls setup role ts x ReleaseAnswer choice k = cuts ts x.calls k
 takes-calls setup role ts x UserAbort choice k = cuts ts x.calls k
 
-step-calls : (setup : ModelSetup) (role : Role) (ts : List ℕ) (x : State) (flight : List Sending) (step : Step) → IsStep setup role x flight step → Keeps_calls ts x.calls → Keeps_calls (told_after setup x step ts) (after setup role x step).calls
+step-calls : (setup : ModelSetup) (role : Role) (ts : List ℕ) (x : State) (flight : List Sending) (step : Step) → IsStep setup role x flight step → Keeps_calls ts x.calls → Keeps_calls (outcomes_told_after setup x step ts) (after setup role x step).calls
 step-calls setup role ts x flight (Acts act) h k = acts-calls setup role ts x act h k
 step-calls setup role ts x flight (Takes m choice) h k = takes-calls setup role ts x m choice k
 step-calls setup role ts x flight (Passes m) h k = k
 
-calls-kept : (setup : ModelSetup) (world : World) → IsRun setup world → (role : Role) → Keeps_calls (told setup role world) (state_of setup role world).calls
+calls-kept : (setup : ModelSetup) (world : World) → IsRun setup world → (role : Role) → Keeps_calls (outcomes_told setup role world) (state_of setup role world).calls
 calls-kept setup [] h role = begins-calls
 calls-kept setup (Break ∷ world) h role = go setup.mode (calls-kept setup world h.1 role)
   where
-    go : (m : Mode) → Keeps_calls (told setup role world) (state_of setup role world).calls → Keeps_calls (told setup role world) (broken_calls m (state_of setup role world).calls)
-    go Bare k = cuts (told setup role world) (state_of setup role world).calls k
-    go Direct k = cuts (told setup role world) (state_of setup role world).calls k
+    go : (m : Mode) → Keeps_calls (outcomes_told setup role world) (state_of setup role world).calls → Keeps_calls (outcomes_told setup role world) (broken_calls m (state_of setup role world).calls)
+    go Bare k = cuts (outcomes_told setup role world) (state_of setup role world).calls k
+    go Direct k = cuts (outcomes_told setup role world) (state_of setup role world).calls k
     go Reliable k = k
-calls-kept setup (By Initiator step ∷ world) h Initiator = step-calls setup Initiator (told setup Initiator world) (state_of setup Initiator world) _ step h.0 (calls-kept setup world h.1 Initiator)
-calls-kept setup (By Responder step ∷ world) h Responder = step-calls setup Responder (told setup Responder world) (state_of setup Responder world) _ step h.0 (calls-kept setup world h.1 Responder)
+calls-kept setup (By Initiator step ∷ world) h Initiator = step-calls setup Initiator (outcomes_told setup Initiator world) (state_of setup Initiator world) _ step h.0 (calls-kept setup world h.1 Initiator)
+calls-kept setup (By Responder step ∷ world) h Responder = step-calls setup Responder (outcomes_told setup Responder world) (state_of setup Responder world) _ step h.0 (calls-kept setup world h.1 Responder)
 calls-kept setup (By Initiator step ∷ world) h Responder = calls-kept setup world h.1 Responder
 calls-kept setup (By Responder step ∷ world) h Initiator = calls-kept setup world h.1 Initiator
 

@@ -124,26 +124,26 @@ outcome_in (Invoke number operation link argument) = []
 outcome_in (Outcome number content) = number ∷ []
 outcome_in (Reject number problem) = number ∷ []
 
-abbrev pub told_by : ModelSetup → State → Option Value → List ℕ
-told_by setup state None = []
-told_by setup state (Some value) = if is_accepted setup state.calls value.apdu then outcome_in value.apdu else []
+abbrev pub outcomes_told_by : ModelSetup → State → Option Value → List ℕ
+outcomes_told_by setup state None = []
+outcomes_told_by setup state (Some value) = if is_accepted setup state.calls value.apdu then outcome_in value.apdu else []
 
 -- the outcomes that an end was told since its association began, the newest first
-abbrev pub told_after : ModelSetup → State → Step → List ℕ → List ℕ
-told_after setup state (Acts act) told = told
-told_after setup state (Passes message) told = told
-told_after setup state (Takes Connect (Accepting set)) told = []
-told_after setup state (Takes message choice) told = told_by setup state (value_of setup state message) ++ told
+abbrev pub outcomes_told_after : ModelSetup → State → Step → List ℕ → List ℕ
+outcomes_told_after setup state (Acts act) before = before
+outcomes_told_after setup state (Passes message) before = before
+outcomes_told_after setup state (Takes Connect (Accepting set)) before = []
+outcomes_told_after setup state (Takes message choice) before = outcomes_told_by setup state (value_of setup state message) ++ before
 
-abbrev pub told : ModelSetup → Role → World → List ℕ
-told setup role [] = []
-told setup role (Break ∷ world) = told setup role world
-told setup role (By who step ∷ world) =
-    if_same role who (told_after setup (state_of setup role world) step (told setup role world)) (told setup role world)
+abbrev pub outcomes_told : ModelSetup → Role → World → List ℕ
+outcomes_told setup role [] = []
+outcomes_told setup role (Break ∷ world) = outcomes_told setup role world
+outcomes_told setup role (By who step ∷ world) =
+    if_same role who (outcomes_told_after setup (state_of setup role world) step (outcomes_told setup role world)) (outcomes_told setup role world)
 
 -- one outcome: no invocation gets two
 abbrev pub OneOutcome : ModelSetup → Type 0
-OneOutcome setup = (world : World) → IsRun setup world → (role : Role) → AreDistinct (told setup role world)
+OneOutcome setup = (world : World) → IsRun setup world → (role : Role) → AreDistinct (outcomes_told setup role world)
 
 -- what was handed in at an end, the newest first
 abbrev pub handed_by : Step → List Apdu

@@ -46,7 +46,7 @@ use Rattle.association_end.specs.OneMessage.{AllMayStand, with_body, sending}
 use Rattle.association_end.proofs.Histories.{body_after, same_base, stands_on, stepped_on, after_all-append}
 use Rattle.association_end.proofs.Sounds.{up_some, sound_body, sound_same}
 use Rattle.association_end.proofs.Sent.{waiting_with, sent_line}
-use Rattle.association_end.proofs.Dealing.{kept_same, kept_body}
+use Rattle.association_end.proofs.ReactionSent.{kept_same, kept_body}
 
 -- ---- the CR of a configuration that isn't refused has room for its selectors
 

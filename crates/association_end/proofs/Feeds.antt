@@ -12,7 +12,7 @@ use Rattle.association_line.specs.Line.{End, after, after_all}
 use Rattle.association_line.specs.Feeding.{Reads, is_over, Begins, nothing_read, all_read, BeginsByItself}
 use Rattle.association_end.specs.View.{EndView, base, Stepped}
 use Rattle.association_end.specs.Fed.{Fed, BeganFeed, DiedFed}
-use Rattle.association_end.specs.Progress.{Keeps, ReadsOn, DealtWith, ReadAll, BeganReading, DidOwn, BeganOwn}
+use Rattle.association_end.specs.Progress.{Keeps, ReadsOn, ReadOne, ReadAll, BeganReading, DidOwn, BeganOwn}
 use Rattle.association_end.specs.OneMessage.{with_came}
 use Rattle.association_end.proofs.Histories.{same_base, stands_on, stepped_on, after_all-append}
 
@@ -70,7 +70,7 @@ module _ (old now next : EndView) (before shown after : List Indication) (h : Re
       joined_steps (Begins (base old) old.end) h.steps steps more
       (h.begins_on (steps ++ more) (moved_back old now h.steps h.made (λ (b : Base) (e : End). Begins b e (steps ++ more)) r))
 
-  pub reads_on_more : DealtWith now next shown after → ReadsOn old next before after
+  pub reads_on_more : ReadOne now next shown after → ReadsOn old next before after
   reads_on_more d =
       let one : ReadsOn now next shown after = d.on in
       record {

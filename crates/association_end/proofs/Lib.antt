@@ -2,8 +2,8 @@ pub mod Inside
 pub mod Histories
 pub mod Sounds
 pub mod Sent
-pub mod Dealt
-pub mod Dealing
+pub mod ReactionSteps
+pub mod ReactionSent
 pub mod Feeds
 pub mod Own
 pub mod Calls

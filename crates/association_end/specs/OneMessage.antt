@@ -98,10 +98,10 @@ SettlesFor (Fails came aborts shown) size old new before after more =
     (more ≡ false) × Settles old new (with_came None (sending (seen_messages aborts) old)) before after shown
 
 -- what was taken off was reacted to
-pub data Deals (old new : EndView) (front : Front) (before after : List Indication) : Bool → Type 0 where
-  passes : react_to (view.base old) old.end.body front ≡ Some rules.Passes → new ≡ old → after ≡ before → Deals old new front before after true
+pub data ReactionDone (old new : EndView) (front : Front) (before after : List Indication) : Bool → Type 0 where
+  passes : react_to (view.base old) old.end.body front ≡ Some rules.Passes → new ≡ old → after ≡ before → ReactionDone old new front before after true
   takes : (left : Body) (answers : List meant.Message) (told : List Indication) → react_to (view.base old) old.end.body front ≡ Some (rules.Takes left answers told)
       → new ≡ sending answers (with_line (record old.end.line { size = size_of_front (first_size old.config.initiator) old.end.line.size front }) (with_body left old))
-      → after ≡ before ++ told → Deals old new front before after true
+      → after ≡ before ++ told → ReactionDone old new front before after true
   fails : (fault : base.Fault) (left : Body) (aborts : List meant.Message) (told : List Indication) → react_to (view.base old) old.end.body front ≡ Some (rules.Fails fault left aborts told)
-      → new ≡ with_came None (sending aborts (with_body left old)) → after ≡ before ++ told → Deals old new front before after false
+      → new ≡ with_came None (sending aborts (with_body left old)) → after ≡ before ++ told → ReactionDone old new front before after false

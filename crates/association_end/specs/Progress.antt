@@ -37,7 +37,7 @@ pub record ReadsOn (old new : EndView) (before after : List Indication) : Type 0
   pub begins_on : (more : List Step) → Begins (base old) (after_all (base old) old.end steps) more → Begins (base old) old.end (steps ++ more)
 
 -- one message was passed over or taken
-pub record DealtWith (old new : EndView) (before after : List Indication) : Type 0 where
+pub record ReadOne (old new : EndView) (before after : List Indication) : Type 0 where
   pub on : ReadsOn old new before after
   pub fewer : messages_left new < messages_left old
 
@@ -51,9 +51,9 @@ pub record ReadAll (old new : EndView) (before after : List Indication) : Type 0
   pub rests : Reads (base new) new.end [] []
   pub begins_on : (more : List Step) → Begins (base old) (after_all (base old) old.end steps) more → Begins (base old) old.end (steps ++ more)
 
--- a message was dealt with and more may follow, or all was read
+-- one message was read and more may follow, or all was read
 abbrev pub Goes : Bool → EndView → EndView → List Indication → List Indication → Type 0
-Goes true old new before after = DealtWith old new before after
+Goes true old new before after = ReadOne old new before after
 Goes false old new before after = ReadAll old new before after
 
 -- reading was begun, and what waits is what waited and what is due for that

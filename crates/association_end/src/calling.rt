@@ -66,7 +66,7 @@ impl<'t> End<'t> {
         let sent = self.send_due(&message);
         drop(message);
         sent?;
-        self.pump()?;
+        self.do_own_acts()?;
         Ok(answer)
     }
 

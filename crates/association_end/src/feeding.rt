@@ -56,7 +56,7 @@ impl<'t> End<'t> {
             drop(front);
             return Ok(false);
         }
-        self.deal_with(front, shown)
+        self.react_to_next(front, shown)
     }
 
     /// Reads what came, message by message.
@@ -108,7 +108,7 @@ impl<'t> End<'t> {
         let mut shown = self.nothing_shown();
         self.keep(octets)?;
         self.read_all(&mut shown)?;
-        self.pump()?;
+        self.do_own_acts()?;
         Ok(shown)
     }
 

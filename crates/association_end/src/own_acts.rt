@@ -187,7 +187,7 @@ impl<'t> End<'t> {
     }
 
     /// Does all that the end does by itself.
-    pub(crate) fn pump(&mut self) -> Result<(), NoMemory>
+    pub(crate) fn do_own_acts(&mut self) -> Result<(), NoMemory>
         ensures ok { OnOk result (DidOwn self.old self.new) }
         ensures err { OnErr result (BeganOwn self.old self.new) }
     {

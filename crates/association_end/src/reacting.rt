@@ -5,7 +5,7 @@ ghost use Rattle.osi_base.specs.Limits.{IsUnitSize};
 ghost use Rattle.end_rules.specs.State.{passes_over};
 ghost use Rattle.association_meaning.specs.association_intake.Seen.{seen_front, IsPlaced, TakesFirst};
 ghost use Rattle.association_end.specs.Progress.{Keeps};
-ghost use Rattle.association_end.specs.OneMessage.{TookFirst, ReactedTo, Deals, size_of_front};
+ghost use Rattle.association_end.specs.OneMessage.{TookFirst, ReactedTo, ReactionDone, size_of_front};
 ghost use Rattle.association_end.specs.Seen.{came_in};
 ghost use Rattle.association_end.specs.Sound.{IsMessage, HasMessages};
 ghost use Rattle.association_line.specs.Line as line;
@@ -71,7 +71,7 @@ impl<'t> End<'t> {
 
     /// Does what is to be done with what stood first and was taken off, and answers whether more
     /// may follow.
-    pub(crate) fn deal_with(
+    pub(crate) fn react_to_next(
         &mut self,
         front: Front,
         shown: &mut Indications,
@@ -79,7 +79,7 @@ impl<'t> End<'t> {
         requires up { passes_over self.old.end.body.link.phase ≡ false }
         requires placed { IsPlaced front }
         requires whole { IsMessage (seen_front front) }
-        ensures { MatchResult result (Deals self.old self.new (seen_front front) shown.old
+        ensures { MatchResult result (ReactionDone self.old self.new (seen_front front) shown.old
             shown.new) (λ _. Keeps self.old self.new) }
     {
         reactions_are_steps();

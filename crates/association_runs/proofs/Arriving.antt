@@ -22,12 +22,12 @@ use Rattle.outcome_laws.specs.reliable_model.Transfers.{ArrivesWhole, IsNewest, 
 use Rattle.outcome_laws.specs.Exchanges.{Exchanges}
 use Rattle.association_runs.specs.Worlds.{stepping}
 use Rattle.association_runs.specs.Sides.{ends_for}
-use Rattle.association_runs.specs.TransferLogs.{transfer_log_at}
+use Rattle.association_runs.specs.TransferLogsAt.{transfer_log_at}
 use Rattle.association_runs.specs.Arriving.{IsWhole, UnlessHanded, ArrivesThen, EachArrivesWhole, TransfersAreWhole, ItemsAreKept}
 use Rattle.association_runs.proofs.Histories.{end_for, body-for}
 use Rattle.association_runs.proofs.Keeps.{IsQuiet, Keeps}
 use Rattle.association_runs.proofs.Joint.{Joint}
-use Rattle.association_runs.proofs.TransferLogs.{AreDone, transfer-log-keeps}
+use Rattle.association_runs.proofs.TransferLogsAt.{AreDone, transfer-log-keeps}
 
 -- steps that end no transfer
 abbrev IsNoTaking : Step → Type 0

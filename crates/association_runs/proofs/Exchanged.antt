@@ -35,7 +35,7 @@ peer-side : (role : Role) (f g : EndExchange → EndExchange) (d : Exchanges) �
 peer-side Initiator f g d = refl
 peer-side Responder f g d = refl
 
--- steps that deal with nothing
+-- steps that exchange nothing
 abbrev IsIdle : Step → Type 0
 IsIdle (called call (Ok answer)) = ⊥
 IsIdle (took message) = ⊥

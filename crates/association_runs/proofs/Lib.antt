@@ -14,7 +14,7 @@ pub mod Holder
 pub mod InPlace
 pub mod Exchanged
 pub mod Calm
-pub mod TransferLogs
+pub mod TransferLogsAt
 pub mod Shown
 pub mod Arriving
 pub mod Reached

@@ -12,7 +12,7 @@ use Rattle.association_runs.proofs.InPlace.{place-keeps}
 use Rattle.association_runs.proofs.Calm.{calm-keeps}
 use Rattle.association_runs.proofs.Histories.{body-for}
 use Rattle.association_runs.proofs.Exchanged.{AreExchanged, exchange-keeps}
-use Rattle.association_runs.proofs.TransferLogs.{AreDone, transfer-log-keeps}
+use Rattle.association_runs.proofs.TransferLogsAt.{AreDone, transfer-log-keeps}
 use Rattle.association_runs.specs.Arriving.{EachArrivesWhole}
 use Rattle.association_runs.proofs.Arriving.{whole-keeps}
 use Rattle.association_runs.proofs.Shown.{each-carry-shows}

@@ -12,7 +12,7 @@ use Rattle.end_model.specs.BothEnds.{Common, Two}
 use Rattle.outcome_laws.specs.reliable_model.Ledgers.{Encoding, Ledger, ReachedWithLedger, transfer_log_of}
 use Rattle.outcome_laws.specs.reliable_model.Transfers as transfers
 use Rattle.outcome_laws.specs.reliable_model.Transfers.{ArrivesWhole, IsNewest, IsOf, item_of}
-use Rattle.association_runs.specs.TransferLogs.{transfer_log_at}
+use Rattle.association_runs.specs.TransferLogsAt.{transfer_log_at}
 
 pub record IsWhole (ends : Ends) (side : Side) (w : World) : Type 0 where
   pub item : Item
@@ -39,5 +39,5 @@ TransfersAreWhole common = (two : Two) (ledger : Ledger) → ReachedWithLedger c
 
 abbrev pub ItemsAreKept : Common → Type 0
 ItemsAreKept common =
-    (two : Two) (ledger : Ledger) → ReachedWithLedger common two ledger → (role : Role) (encoding : Encoding) → IsNewest encoding (transfer_log_of role ledger.transfer_log).encoded →
-    IsOf encoding.apdu (item_of encoding.activity (transfer_log_of role ledger.transfer_log).started)
+    (two : Two) (ledger : Ledger) → ReachedWithLedger common two ledger → (role : Role) (encoding : Encoding) → IsNewest encoding (transfer_log_of role ledger.transfer_logs).encoded →
+    IsOf encoding.apdu (item_of encoding.activity (transfer_log_of role ledger.transfer_logs).started)

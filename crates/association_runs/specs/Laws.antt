@@ -23,7 +23,7 @@ use Rattle.run_laws.specs.Showing.{EachCarryShows}
 use Rattle.run_laws.specs.Laws.{KeepsLaws, AtEachMoment, NothingFails, OneHolder}
 use Rattle.association_runs.specs.Sides.{ends_for}
 use Rattle.association_runs.specs.OwnExchanges.{Own, own_at}
-use Rattle.association_runs.specs.TransferLogs.{transfer_log_at}
+use Rattle.association_runs.specs.TransferLogsAt.{transfer_log_at}
 use Rattle.association_runs.specs.Arriving.{EachArrivesWhole, TransfersAreWhole, ItemsAreKept}
 use Rattle.association_worlds.specs.said_words.Calls.{IsCall, Speaks}
 use Rattle.association_runs.specs.Worlds.{Runs}
@@ -66,7 +66,7 @@ pub record ReachesMessages (common : Common) (w : World) : Type 0 where
   pub bodies : (role : Role) → body_at (ends_for common) (side_of role) w ≡ both_ends.body_at role two
   pub shared : shared_at (ends_for common) w ≡ ledger.shared
   pub exchange : (role : Role) → own_at (ends_for common) (side_of role) w ≡ of_exchange (exchange_of role exchanges)
-  pub transfer_log : (role : Role) → transfer_log_at (ends_for common) (side_of role) w ≡ transfer_log_of role ledger.transfer_log
+  pub transfer_log : (role : Role) → transfer_log_at (ends_for common) (side_of role) w ≡ transfer_log_of role ledger.transfer_logs
 
 -- this holds of every run of two ends of which each word that is taken means itself and that never fail
 abbrev pub EverInRuns : (Common → World → Type 0) → Type 0

@@ -2,7 +2,7 @@ pub mod Worlds
 pub mod Octets
 pub mod Sides
 pub mod OwnExchanges
-pub mod TransferLogs
+pub mod TransferLogsAt
 pub mod Arriving
 pub mod Laws
 pub use Rattle.association_line.specs as association_line

@@ -1,4 +1,4 @@
--- Two ends with octets reach what two ends with messages reach, and what is kept of the ways between them.
+-- Two ends with octets reach what two ends with messages reach, and what is kept of the messages in transit between them.
 use Rattle.std.proofs.Common.{◌≡◌, refl, sym, ap, subst, ◌∙◌, ℕ, ◌+◌, ◌≤◌, List, [], ◌∷◌, ◌++◌, map, length, take, drop, arith, append_assoc, length-append, inl, inr, None, Ok}
 use Rattle.std.specs.Prelude.{ℤ, Option, Some}
 use Rattle.std.proofs.lemmas.List.{append-nil, take-append-drop}
@@ -32,7 +32,7 @@ use Rattle.association_worlds.specs.Lines.{End, written_all, more_came}
 use Rattle.osi_base.specs.Limits.{IsUnitSize}
 use Rattle.association_worlds.specs.Worlds.{LineEnds, ends_new, end_at, with_end, sending, carried, both_cut, Spoken}
 use Rattle.association_worlds.specs.Worlds as spoken
-use Rattle.association_worlds.specs.InTransit.{AreCarried, front_of, Sent, text_of, texts, messages_of, fronts_of_sent, AreWritten, IsWay, Way}
+use Rattle.association_worlds.specs.InTransit.{AreCarried, front_of, SentMessage, text_of, texts, messages_of, fronts_of_sent, AreWritten, IsWay, Way}
 use Rattle.association_worlds.specs.Laws.{IsHeard, IsSpelled, OctetsAreMessages, WholeWaitsForNothing}
 use Rattle.association_worlds.proofs.Streams.{reads-all}
 
@@ -50,11 +50,11 @@ cancel : {X : Type 0} (xs ys zs : List X) → xs ++ ys ≡ xs ++ zs → ys ≡ z
 cancel [] ys zs e = e
 cancel (x ∷ xs) ys zs e = let tails : xs ++ ys ≡ xs ++ zs = cc in cancel xs ys zs tails
 
-pub texts-append : (tables : Tables) (xs ys : List Sent) → texts tables (xs ++ ys) ≡ texts tables xs ++ texts tables ys
+pub texts-append : (tables : Tables) (xs ys : List SentMessage) → texts tables (xs ++ ys) ≡ texts tables xs ++ texts tables ys
 texts-append tables [] ys = refl
 texts-append tables (x ∷ xs) ys = ap (λ (os : List ℕ). text_of tables x ++ os) (texts-append tables xs ys) ∙ sym (append_assoc (text_of tables x) (texts tables xs) (texts tables ys))
 
-pub written-append : (tables : Tables) (xs ys : List Sent) → AreWritten tables xs → AreWritten tables ys → AreWritten tables (xs ++ ys)
+pub written-append : (tables : Tables) (xs ys : List SentMessage) → AreWritten tables xs → AreWritten tables ys → AreWritten tables (xs ++ ys)
 written-append tables [] ys h k = k
 written-append tables (x ∷ xs) ys h k = (h.0, h.1, written-append tables xs ys h.2 k)
 
@@ -64,7 +64,7 @@ carried-behind tables (x ∷ xs) ys h = carried-behind tables xs ys h.1
 
 -- ---- messages with the size of their packets
 
-abbrev sized : ℕ → List Message → List Sent
+abbrev sized : ℕ → List Message → List SentMessage
 sized size [] = []
 sized size (m ∷ ms) = record { message = m; size = size } ∷ sized size ms
 
@@ -89,7 +89,7 @@ way-sent tables (Some intake) waiting coming ms size z h w = record {
   done = w.done;
   ahead = w.ahead ++ sized size ms;
   got = w.got;
-  are = map-append (λ (s : Sent). s.message) w.ahead (sized size ms) ∙ (λ i. w.are i ++ messages-sized size ms i);
+  are = map-append (λ (s : SentMessage). s.message) w.ahead (sized size ms) ∙ (λ i. w.are i ++ messages-sized size ms i);
   taken = w.taken;
   sent = written-append tables w.ahead (sized size ms) w.sent (written-sized tables size ms z (carried-behind tables coming ms h));
   octets =
@@ -132,7 +132,7 @@ none-fault held xs e = go held.fault refl
     go (Some fault) k = let there : (reading held xs).held.fault ≡ held.fault = ap (λ (f : ReaderProgress). f.held.fault) (after_fault (fed [] held) fault xs k) in absurd cc
 
 -- what the end has stands in front of what else is ahead, and no fault
-record Ahead (tables : Tables) (intake : Intake) (ahead : List Sent) : Type 0 where
+record Ahead (tables : Tables) (intake : Intake) (ahead : List SentMessage) : Type 0 where
   more : List Front
   fronts : fronts_of_sent tables ahead ≡ intake.fronts ++ more
   faultless : intake.held.fault ≡ None
@@ -143,7 +143,7 @@ what-is-ahead tables intake waiting coming w =
     let cut = any_cut nothing w.got waiting in
     let x : List Front = all_fronts (reading (reading nothing w.got).held waiting).packets in
     let all : fronts_of_sent tables w.done ++ fronts_of_sent tables w.ahead ≡ fronts_of_sent tables w.done ++ (intake.fronts ++ x) =
-    sym (map-append (λ (s : Sent). front_of tables s.message) w.done w.ahead)
+    sym (map-append (λ (s : SentMessage). front_of tables s.message) w.done w.ahead)
     ∙ sym r.fronts
     ∙ ap (λ (os : List ℕ). all_fronts (reading nothing os).packets) (sym w.octets)
     ∙ ap (λ (f : ReaderProgress). all_fronts f.packets) cut
@@ -168,7 +168,7 @@ pub first-of : (tables : Tables) (base : Base) (body : Body) (intake : Intake) (
 first-of tables base body intake waiting coming r w h =
     let a = what-is-ahead tables intake waiting coming w in go a intake.fronts w.ahead refl refl
   where
-    go : (a : Ahead tables intake w.ahead) (fronts : List Front) (ahead : List Sent) → intake.fronts ≡ fronts → w.ahead ≡ ahead → FirstOf tables intake waiting coming
+    go : (a : Ahead tables intake w.ahead) (fronts : List Front) (ahead : List SentMessage) → intake.fronts ≡ fronts → w.ahead ≡ ahead → FirstOf tables intake waiting coming
     go a [] ahead e k =
         let short : first_in intake ≡ Short = ap (first_front intake.held) e ∙ ap front_held a.faultless in
         let none : None ≡ Some r = ap (react_to base body) (sym short) ∙ h in absurd cc
@@ -190,14 +190,14 @@ first-of tables base body intake waiting coming r w h =
                 are = refl;
                 taken = written-append tables w.done (s ∷ []) w.taken (sent.0, sent.1, tt);
                 sent = sent.2;
-                octets = w.octets ∙ ap (λ (l : List Sent). texts tables (w.done ++ l)) k ∙ ap (texts tables) (sym (append_assoc w.done (s ∷ []) later));
+                octets = w.octets ∙ ap (λ (l : List SentMessage). texts tables (w.done ++ l)) k ∙ ap (texts tables) (sym (append_assoc w.done (s ∷ []) later));
                 held = w.held;
                 fronts =
                     w.fronts
                     ∙ (λ i. fronts_of_sent tables w.done ++ e i)
                     ∙ ap (λ (g : Front). fronts_of_sent tables w.done ++ (g ∷ more)) (sym head)
                     ∙ sym (append_assoc (fronts_of_sent tables w.done) (front_of tables s.message ∷ []) more)
-                    ∙ ap (λ (fs : List Front). fs ++ more) (sym (map-append (λ (t : Sent). front_of tables t.message) w.done (s ∷ [])))
+                    ∙ ap (λ (fs : List Front). fs ++ more) (sym (map-append (λ (t : SentMessage). front_of tables t.message) w.done (s ∷ [])))
                     ∙ ap (λ (fs : List Front). fronts_of_sent tables (w.done ++ s ∷ []) ++ fs) (sym (ap without_first e));
               };
         }
@@ -412,10 +412,10 @@ whole-waits common intake waiting coming way next later k short =
     none : length waiting ≤ length (texts common.tables later) → ⊥
     none ge =
         let tables : Tables = common.tables in
-        let upto : List Sent = way.done ++ next ∷ [] in
+        let upto : List SentMessage = way.done ++ next ∷ [] in
         let sent : AreWritten tables (next ∷ later) = subst (AreWritten tables) k way.sent in
         let octets : way.got ++ waiting ≡ texts tables upto ++ texts tables later =
-        way.octets ∙ ap (λ (l : List Sent). texts tables (way.done ++ l)) k ∙ ap (texts tables) (sym (append_assoc way.done (next ∷ []) later)) ∙ texts-append tables upto later in
+        way.octets ∙ ap (λ (l : List SentMessage). texts tables (way.done ++ l)) k ∙ ap (texts tables) (sym (append_assoc way.done (next ∷ []) later)) ∙ texts-append tables upto later in
         let long : length way.got + length waiting ≡ length (texts tables upto) + length (texts tables later) =
         sym (length-append way.got waiting) ∙ ap length octets ∙ length-append (texts tables upto) (texts tables later) in
         let b = behind way.got waiting (texts tables upto) (texts tables later) octets (omega arith) in
@@ -427,7 +427,7 @@ whole-waits common intake waiting coming way next later k short =
         ∙ ap (λ (os : List ℕ). all_fronts (reading nothing os).packets) b.front
         ∙ ap (λ (f : ReaderProgress). all_fronts f.packets) cut
         ∙ fronts-append (reading nothing (texts tables upto)).packets (reading (reading nothing (texts tables upto)).held b.more).packets
-        ∙ ap (λ (fs : List Front). fs ++ x) (r.fronts ∙ map-append (λ (s : Sent). front_of tables s.message) way.done (next ∷ []))
+        ∙ ap (λ (fs : List Front). fs ++ x) (r.fronts ∙ map-append (λ (s : SentMessage). front_of tables s.message) way.done (next ∷ []))
         ∙ append_assoc (fronts_of_sent tables way.done) (front_of tables next.message ∷ []) x in
         let here : intake.fronts ≡ front_of tables next.message ∷ x = cancel (fronts_of_sent tables way.done) intake.fronts (front_of tables next.message ∷ x) all in
         stands tables next.message (sym (ap (first_front intake.held) here) ∙ short)

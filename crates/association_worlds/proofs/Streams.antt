@@ -24,7 +24,7 @@ use Rattle.association_reading.specs.association_wire.Written.{with_user, in_its
 use Rattle.association_reading.specs.Front.{Front, OfSession, OfTransport, fronts_of, fronts_of_units, all_fronts}
 use Rattle.association_reading.specs.Laws.{IsSendable}
 use Rattle.osi_base.specs.Limits.{IsUnitSize}
-use Rattle.association_worlds.specs.InTransit.{IsOfTransport, IsCarried, start_in, session_front, front_of, Sent, text_of, texts, fronts_of_sent, AreWritten}
+use Rattle.association_worlds.specs.InTransit.{IsOfTransport, IsCarried, start_in, session_front, front_of, SentMessage, text_of, texts, fronts_of_sent, AreWritten}
 
 -- what a message adds in front of other units
 record Adds (tables : Tables) (text : List ℕ) (front : Front) (more : List ℕ) (us : List Tpdu) : Type 0 where
@@ -63,7 +63,7 @@ adds-transport tables (DisconnectRequest destination) more us h sp =
     (adds-unit tables Disconnect _ _ more us (disconnect_is [] 1 0 0 (omega arith) (omega arith)) refl sp)
 adds-transport tables TransportError more us h sp = absurd h
 
-adds : (tables : Tables) (s : Sent) (more : List ℕ) (us : List Tpdu) → IsCarried tables s.message → IsUnitSize s.size → Splits [] more us [] → Adds tables (text_of tables s) (front_of tables s.message) more us
+adds : (tables : Tables) (s : SentMessage) (more : List ℕ) (us : List Tpdu) → IsCarried tables s.message → IsUnitSize s.size → Splits [] more us [] → Adds tables (text_of tables s) (front_of tables s.message) more us
 adds tables s more us h z sp = by s.message h
   where
     by : (m : Message) → IsCarried tables m → Adds tables (written tables s.size m) (front_of tables m) more us
@@ -79,7 +79,7 @@ o : (x : ℕ) (xs : List ℕ) → x < 256 → IsOctets xs → IsOctets (x ∷ xs
 o x xs p q zero = p
 o x xs p q (suc i) = q i
 
-pub small-octets : (tables : Tables) (s : Sent) → IsCarried tables s.message → IsUnitSize s.size → IsOctets (text_of tables s)
+pub small-octets : (tables : Tables) (s : SentMessage) → IsCarried tables s.message → IsUnitSize s.size → IsOctets (text_of tables s)
 small-octets tables s h z = by s.message h
   where
     dr : (destination : ℕ) → destination ≡ 1 → IsOctets (written_unit (DisconnectRequest destination))
@@ -98,29 +98,29 @@ small-octets tables s h z = by s.message h
     by (Transport unit) h = of-unit unit h
     by (Session word) h = written_octets s.size (tsdu_of tables word) z.least z.most h.octets
 
-pub texts-octets : (tables : Tables) (sents : List Sent) → AreWritten tables sents → IsOctets (texts tables sents)
+pub texts-octets : (tables : Tables) (sents : List SentMessage) → AreWritten tables sents → IsOctets (texts tables sents)
 texts-octets tables [] h = none
 texts-octets tables (s ∷ sents) h = octets_join (text_of tables s) (texts tables sents) (small-octets tables s h.0 h.1) (texts-octets tables sents h.2)
 
 -- ---- all of them
 
-record AllAdds (tables : Tables) (sents : List Sent) : Type 0 where
+record AllAdds (tables : Tables) (sents : List SentMessage) : Type 0 where
   parts : List Tpdu
   splits : Splits [] (texts tables sents) parts []
   hands : all_fronts (handed [] parts) ≡ fronts_of_sent tables sents
 
-all-adds : (tables : Tables) (sents : List Sent) → AreWritten tables sents → AllAdds tables sents
+all-adds : (tables : Tables) (sents : List SentMessage) → AreWritten tables sents → AllAdds tables sents
 all-adds tables [] h = record { parts = []; splits = refl; hands = refl }
 all-adds tables (s ∷ sents) h =
     let r = all-adds tables sents h.2 in
     let o = adds tables s (texts tables sents) r.parts h.0 h.1 r.splits in
     record { parts = o.parts; splits = o.splits; hands = o.hands ∙ ap (λ (fs : List Front). front_of tables s.message ∷ fs) r.hands }
 
-pub record ReadsAllSent (tables : Tables) (sents : List Sent) : Type 0 where
+pub record ReadsAllSent (tables : Tables) (sents : List SentMessage) : Type 0 where
   pub fronts : all_fronts (reading nothing (texts tables sents)).packets ≡ fronts_of_sent tables sents
   pub faultless : (reading nothing (texts tables sents)).held.fault ≡ None
 
-pub reads-all : (tables : Tables) (sents : List Sent) → AreWritten tables sents → ReadsAllSent tables sents
+pub reads-all : (tables : Tables) (sents : List SentMessage) → AreWritten tables sents → ReadsAllSent tables sents
 reads-all tables sents h =
     let a = all-adds tables sents h in
     let r = split_read (texts tables sents) a.parts [] (texts-octets tables sents h) a.splits (short_yet (begun_by [] a.parts) [] (short_empty _)) in

@@ -46,24 +46,24 @@ front_of tables (Session word) = session_front (user_places (tsdu_of tables word
 
 -- ---- messages as they were sent
 
-pub record Sent : Type 0 where
+pub record SentMessage : Type 0 where
   pub message : Message
   pub size : ℕ
 
-abbrev pub text_of : Tables → Sent → List ℕ
+abbrev pub text_of : Tables → SentMessage → List ℕ
 text_of tables s = written tables s.size s.message
 
-abbrev pub texts : Tables → List Sent → List ℕ
+abbrev pub texts : Tables → List SentMessage → List ℕ
 texts tables [] = []
 texts tables (s ∷ sents) = text_of tables s ++ texts tables sents
 
-abbrev pub messages_of : List Sent → List Message
-messages_of sents = map (λ (s : Sent). s.message) sents
+abbrev pub messages_of : List SentMessage → List Message
+messages_of sents = map (λ (s : SentMessage). s.message) sents
 
-abbrev pub fronts_of_sent : Tables → List Sent → List Front
-fronts_of_sent tables sents = map (λ (s : Sent). front_of tables s.message) sents
+abbrev pub fronts_of_sent : Tables → List SentMessage → List Front
+fronts_of_sent tables sents = map (λ (s : SentMessage). front_of tables s.message) sents
 
-abbrev pub AreWritten : Tables → List Sent → Type 0
+abbrev pub AreWritten : Tables → List SentMessage → Type 0
 AreWritten tables [] = Unit {0}
 AreWritten tables (s ∷ sents) = IsCarried tables s.message × IsUnitSize s.size × AreWritten tables sents
 
@@ -72,8 +72,8 @@ AreWritten tables (s ∷ sents) = IsCarried tables s.message × IsUnitSize s.siz
 -- Since the connection began, `done` were taken and `ahead` are on their way; `got` are all octets that came. With those that
 -- wait at the other end they are the octets of all; what a reader makes of them are the fronts of `done` and what the end has.
 pub record IsWay (tables : Tables) (intake : Intake) (waiting : List ℕ) (coming : List Message) : Type 0 where
-  pub done : List Sent
-  pub ahead : List Sent
+  pub done : List SentMessage
+  pub ahead : List SentMessage
   pub got : List ℕ
   pub are : messages_of ahead ≡ coming
   pub taken : AreWritten tables done

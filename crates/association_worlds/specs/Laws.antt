@@ -16,7 +16,7 @@ use Rattle.association_reading.specs.Front.{Intake, Short, first_in}
 use Rattle.association_reading.specs.Reacting.{react_to}
 use Rattle.said_words.specs.Calls.{Speaks}
 use Rattle.association_worlds.specs.Worlds.{LineEnds, end_at, Spoken}
-use Rattle.association_worlds.specs.InTransit.{AreCarried, front_of, Sent, texts, IsWay, Way}
+use Rattle.association_worlds.specs.InTransit.{AreCarried, front_of, SentMessage, texts, IsWay, Way}
 
 -- Whatever is on its way may be written, and what comes next to an end is heard as itself: its octets mean it to the end as it
 -- is then.
@@ -71,7 +71,7 @@ OctetsAreMessages = (common : Common) (ends : LineEnds) → IsHeard common → S
 -- those behind the message have.
 abbrev pub WholeWaitsForNothing : Type 0
 WholeWaitsForNothing =
-    (common : Common) (intake : Intake) (waiting : List ℕ) (coming : List Message) (way : IsWay common.tables intake waiting coming) (next : Sent) (later : List Sent) →
+    (common : Common) (intake : Intake) (waiting : List ℕ) (coming : List Message) (way : IsWay common.tables intake waiting coming) (next : SentMessage) (later : List SentMessage) →
     way.ahead ≡ next ∷ later → first_in intake ≡ Short → length (texts common.tables later) < length waiting
 
 -- Neither end finds a fault in what came, whatever stands first in it.

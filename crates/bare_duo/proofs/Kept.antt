@@ -191,7 +191,7 @@ module _ (t : Tables) (ca cb : Config) (free : Free) (readable : IsReadable t) (
     pub own_settled : Settled t v.own.body.calls (asked t v.own_sent) (answered_in t v.own_took)
     pub peer_settled : Settled t v.peer.body.calls (asked t v.peer_sent) (answered_in t v.peer_took)
 
-  -- ---- pairs, as one moves
+  -- ---- both ends, as one moves
 
   own_body : (role : Role) (body : Body) (left more : List Message) (two : Two) → body ≡ body_at role (stepped role body left more two)
   own_body Initiator body left more two = refl

@@ -13,7 +13,7 @@ use Rattle.bare_end.specs.View.{EndView, StandsFor}
 use Rattle.bare_duo.specs.Worlds.{config_at, ends_of, end_at, Runs}
 use Rattle.bare_duo.specs.Laws.{KeepsLaws}
 
--- The end of this side has these tables and its configuration of the setup, and stands for its own history.
+-- The end of this side has these tables and its configuration of the `BareSetup`, and stands for its own history.
 pub record StandsAt (setup : BareSetup) (tables : Tables) (side : Side) (w : World) (e : EndView) : Type 0 where
   pub tables_are : e.tables ≡ tables
   pub config_is : e.config ≡ config_at setup side
@@ -47,6 +47,6 @@ pub record RanFromStart (setup : BareSetup) (tables : Tables) (all : List Event)
   pub told : Told setup tables [] all transcript a b
   pub laws : KeepsLaws tables (ends_of setup tables) transcript.entries told.ran.world
 
--- From every setup for which the ends stand and had made no step.
+-- From every `BareSetup` for which the ends stand and had made no step.
 abbrev pub RunsFromStart : List Event → Transcript → EndView → EndView → EndView → EndView → Type 0
 RunsFromStart all transcript a b a_after b_after = (setup : BareSetup) → Stand setup a.tables [] a b → RanFromStart setup a.tables all transcript a_after b_after

@@ -22,7 +22,7 @@ abbrev pub config_at : BareSetup → Side → Config
 config_at setup A = setup.a
 config_at setup B = setup.b
 
--- two ends of bare mode with these tables and the configurations of a setup
+-- two ends of bare mode with these tables and the configurations of a `BareSetup`
 abbrev pub ends_of : BareSetup → Tables → Ends
 ends_of setup tables = record { a = bare_base tables setup.a; b = bare_base tables setup.b }
 

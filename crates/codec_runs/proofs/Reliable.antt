@@ -17,7 +17,7 @@ use Rattle.run_laws.specs.Laws.{AtEachMoment, NothingFails, OneHolder}
 use Rattle.association_runs.specs.Worlds.{ends_of, Runs}
 use Rattle.association_runs.specs.Sides.{ends_for}
 use Rattle.association_runs.specs.Arriving.{EachArrivesWhole}
-use Rattle.association_runs.specs.TransferLogs.{transfer_log_at}
+use Rattle.association_runs.specs.TransferLogsAt.{transfer_log_at}
 use Rattle.association_runs.specs.OwnExchanges.{Own, own_at}
 use Rattle.outcome_laws.specs.Exchanges.{exchange_of, AreDistinct, outcomes_in}
 use Rattle.outcome_laws.specs.Outcomes.{AreAllowed, AreAnswers}
@@ -30,7 +30,7 @@ use Rattle.end_model.specs.BothEnds.{Two}
 use Rattle.reliable_model.specs.Ledgers.{TransferLog, Encoding, Ledger, ReachedWithLedger, transfer_log_of}
 use Rattle.reliable_model.specs.Transfers.{TakesTransferEnd as Ends_of, ArrivesWhole, IsNewest, item_of, IsOf}
 use Rattle.run_laws.specs.Transfers.{OneTransfer}
-use Rattle.association_runs.proofs.TransferLogs.{AreDone}
+use Rattle.association_runs.proofs.TransferLogsAt.{AreDone}
 use Rattle.association_runs.specs.Laws.{AreEvents, AreOneHolder, ReachesMessages, RunsReachMessages, RunsTakeInPlace, RunsShowWhatIsTaken, RunsNeverFail, RunsHaveOneHolder, RunsTransferWhole, RunsTellOneOutcome, RunsLeaveNothingWhole, RunKeepsLaws}
 use Rattle.counted_runs.specs.Laws.{RunsTakeWhatIsWhole}
 use Rattle.codec_runs.specs.ReliableLaws.{AreReliable, ReliableRunsTakeInPlace, ReliableRunsShowWhatIsTaken, ReliableRunsTellOneOutcome, ReliableRunsNeverFail, ReliableRunsHaveOneHolder, ReliableRunsArriveWhole, ReliableRunsArriveOnce, ReliableRunsTellAnswers, ReliableRunsKeepLaws}
@@ -96,10 +96,10 @@ module _ (tables : Tables) (a b : Config) (d : AreReliable tables a b) where
   whole : (two : Two) (ledger : Ledger) → ReachedWithLedger (reliable_ends tables a b) two ledger → (role : Role) → Ends_of (reliable_ends tables a b) two role → ArrivesWhole (reliable_ends tables a b) two ledger role
   whole two ledger g = ends-whole tables a b d.ends.module_s (of_first tables a b d.ends) (of_second tables a b d.ends) two ledger g
 
-  items : (two : Two) (ledger : Ledger) → ReachedWithLedger (reliable_ends tables a b) two ledger → (role : Role) (encoding : Encoding) → IsNewest encoding (transfer_log_of role ledger.transfer_log).encoded → IsOf encoding.apdu (item_of encoding.activity (transfer_log_of role ledger.transfer_log).started)
+  items : (two : Two) (ledger : Ledger) → ReachedWithLedger (reliable_ends tables a b) two ledger → (role : Role) (encoding : Encoding) → IsNewest encoding (transfer_log_of role ledger.transfer_logs).encoded → IsOf encoding.apdu (item_of encoding.activity (transfer_log_of role ledger.transfer_logs).started)
   items two ledger g = ends-items tables a b d.ends.module_s (of_first tables a b d.ends) (of_second tables a b d.ends) two ledger g
 
-  falls : (two : Two) (ledger : Ledger) → ReachedWithLedger (reliable_ends tables a b) two ledger → (role : Role) → AreFalling (transfer_log_of role ledger.transfer_log).arrived
+  falls : (two : Two) (ledger : Ledger) → ReachedWithLedger (reliable_ends tables a b) two ledger → (role : Role) → AreFalling (transfer_log_of role ledger.transfer_logs).arrived
   falls two ledger g role = ends-once tables a b d.ends.module_s (of_first tables a b d.ends) (of_second tables a b d.ends) two ledger g role
 
   falling : (w : World) → ReachesMessages (reliable_ends tables a b) w → (side : Side) → AreFalling (transfer_log_at (ends_for (reliable_ends tables a b)) side w).arrived

@@ -204,7 +204,7 @@ module _ (free : Free) (tables : Tables) (spellings : Spellings) (a b : Config) 
   -- ---- all that is reached
 
   abbrev pub Nothing : Two → Ledger → Type 0
-  Nothing two ledger = is_early two.b.link.phase ≡ true → (ledger.transfer_log.b.started ≡ []) × (ledger.transfer_log.b.arrived ≡ [])
+  Nothing two ledger = is_early two.b.link.phase ≡ true → (ledger.transfer_logs.b.started ≡ []) × (ledger.transfer_logs.b.arrived ≡ [])
 
   abbrev pub NeverFails : Type 0
   NeverFails =

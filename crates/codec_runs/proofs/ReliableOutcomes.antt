@@ -265,9 +265,9 @@ no-older : (last : ℕ) (arrived : List ℕ) → AreFalling (last ∷ arrived) �
 no-older last [] h = omega arith
 no-older last (n ∷ ns) h = let l : n < last = h.0 in omega arith
 
-own-log : (role : Role) (f : TransferLog → TransferLog) (transfer_log : TransferLogs) → transfer_log_of role (on_transfer_log role f transfer_log) ≡ f (transfer_log_of role transfer_log)
-own-log Initiator f transfer_log = refl
-own-log Responder f transfer_log = refl
+own-log : (role : Role) (f : TransferLog → TransferLog) (transfer_logs : TransferLogs) → transfer_log_of role (on_transfer_log role f transfer_logs) ≡ f (transfer_log_of role transfer_logs)
+own-log Initiator f transfer_logs = refl
+own-log Responder f transfer_logs = refl
 
 -- ---- two ends
 
@@ -289,7 +289,7 @@ module _ (free : Free) (tables : Tables) (spellings : Spellings) (a b : Config) 
 
   abbrev pub Told : Role → World → Two → Ledger → Exchanges → Type 0
   Told role w two ledger exchanges =
-      Facts tables (made role w) (made (other role) w) (given role w) (given (other role) w) (both_ends.body_at role two) (transfer_log_of role ledger.transfer_log).started (transfer_log_of (other role) ledger.transfer_log).started (exchange_of role exchanges).asked (exchange_of role exchanges).shown (transfer_log_of role ledger.transfer_log).arrived
+      Facts tables (made role w) (made (other role) w) (given role w) (given (other role) w) (both_ends.body_at role two) (transfer_log_of role ledger.transfer_logs).started (transfer_log_of (other role) ledger.transfer_logs).started (exchange_of role exchanges).asked (exchange_of role exchanges).shown (transfer_log_of role ledger.transfer_logs).arrived
 
   abbrev pub BothTold : World → Two → Ledger → Exchanges → Type 0
   BothTold w two ledger exchanges = (r : Role) → Told r w two ledger exchanges
@@ -367,18 +367,18 @@ module _ (free : Free) (tables : Tables) (spellings : Spellings) (a b : Config) 
     pub never : early.NeverFails free tables spellings a b
     pub kept : (two : Two) (ledger : Ledger) → ReachedWithLedger common two ledger → machine.Kept free tables spellings a b two ledger
     pub whole : (two : Two) (ledger : Ledger) → ReachedWithLedger common two ledger → (role : Role) → transfers.TakesTransferEnd common two role → ArrivesWhole common two ledger role
-    pub items : (two : Two) (ledger : Ledger) → ReachedWithLedger common two ledger → (role : Role) (encoding : Encoding) → IsNewest encoding (transfer_log_of role ledger.transfer_log).encoded → IsOf encoding.apdu (item_of encoding.activity (transfer_log_of role ledger.transfer_log).started)
-    pub falls : (two : Two) (ledger : Ledger) → ReachedWithLedger common two ledger → (role : Role) → AreFalling (transfer_log_of role ledger.transfer_log).arrived
+    pub items : (two : Two) (ledger : Ledger) → ReachedWithLedger common two ledger → (role : Role) (encoding : Encoding) → IsNewest encoding (transfer_log_of role ledger.transfer_logs).encoded → IsOf encoding.apdu (item_of encoding.activity (transfer_log_of role ledger.transfer_logs).started)
+    pub falls : (two : Two) (ledger : Ledger) → ReachedWithLedger common two ledger → (role : Role) → AreFalling (transfer_log_of role ledger.transfer_logs).arrived
 
   module _ (p : Presumed) where
     -- an opening that is taken forgets nothing
     keeps-all : (role : Role) (two : Two) (ledger : Ledger) (left : List Message) (later : Body) (answers : List Message) (shown : List Indication) → ReachedWithLedger common two ledger → (message : Message) → coming_to role two ≡ message ∷ left → react (base role) (both_ends.body_at role two) message ≡ Takes later answers shown
-        → KeepsAll (base role) (both_ends.body_at role two) (transfer_log_of role ledger.transfer_log) (took message)
+        → KeepsAll (base role) (both_ends.body_at role two) (transfer_log_of role ledger.transfer_logs) (took message)
     keeps-all Initiator two ledger left later answers shown g (Session (OfAssociation (Connect session presentation values))) e r = absurd (early.no-opening free tables spellings a b two session presentation values later answers shown r)
     keeps-all Responder two ledger left later answers shown g (Session (OfAssociation (Connect session presentation values))) e r =
         go (early.opening-keeps free tables spellings a b two session presentation values left later answers shown (p.kept two ledger g) e r)
       where
-        go : early.Opens free tables spellings a b two session presentation values → KeepsAll (base Responder) two.b ledger.transfer_log.b (took (Session (OfAssociation (Connect session presentation values))))
+        go : early.Opens free tables spellings a b two session presentation values → KeepsAll (base Responder) two.b ledger.transfer_logs.b (took (Session (OfAssociation (Connect session presentation values))))
         go (inl k) = inl k
         go (inr soon) = inr (early.nothing free tables spellings a b p.never two ledger g soon)
     keeps-all role two ledger left later answers shown g message e r = tt
@@ -397,25 +397,25 @@ module _ (free : Free) (tables : Tables) (spellings : Spellings) (a b : Config) 
     connect-queue body session presentation values started false false (inl e) = absurd cc
     connect-queue body session presentation values started false false (inr n) = inr (refl, refl, n)
 
-    word-queue : (role : Role) (two : Two) (ledger : Ledger) (left : List Message) (later : Body) (answers : List Message) (shown : List Indication) → (word : Word) → KeepsAll (base role) (both_ends.body_at role two) (transfer_log_of role ledger.transfer_log) (took (Session word)) → react (base role) (both_ends.body_at role two) (Session word) ≡ Takes later answers shown
-        → QueueTook (both_ends.body_at role two) (after_word (base role) (both_ends.body_at role two) word) (transfer_log_of role ledger.transfer_log).started
+    word-queue : (role : Role) (two : Two) (ledger : Ledger) (left : List Message) (later : Body) (answers : List Message) (shown : List Indication) → (word : Word) → KeepsAll (base role) (both_ends.body_at role two) (transfer_log_of role ledger.transfer_logs) (took (Session word)) → react (base role) (both_ends.body_at role two) (Session word) ≡ Takes later answers shown
+        → QueueTook (both_ends.body_at role two) (after_word (base role) (both_ends.body_at role two) word) (transfer_log_of role ledger.transfer_logs).started
     word-queue Initiator two ledger left later answers shown (OfAssociation (Connect session presentation values)) k r = absurd (early.no-opening free tables spellings a b two session presentation values later answers shown r)
     word-queue Responder two ledger left later answers shown (OfAssociation (Connect session presentation values)) k r =
-        connect-queue two.b session presentation values ledger.transfer_log.b.started (is_refused (base Responder) two.b session presentation values) (recovers_in (base Responder) values) (first-half k)
+        connect-queue two.b session presentation values ledger.transfer_logs.b.started (is_refused (base Responder) two.b session presentation values) (recovers_in (base Responder) values) (first-half k)
     word-queue role two ledger left later answers shown word k r = inl (word-queues (base role) (both_ends.body_at role two) word (λ c. c))
 
-    took-so : (role : Role) (two : Two) (ledger : Ledger) (left : List Message) (later : Body) (answers : List Message) (shown : List Indication) → (message : Message) → KeepsAll (base role) (both_ends.body_at role two) (transfer_log_of role ledger.transfer_log) (took message) → react (base role) (both_ends.body_at role two) message ≡ Takes later answers shown → QueueTook (both_ends.body_at role two) later (transfer_log_of role ledger.transfer_log).started
+    took-so : (role : Role) (two : Two) (ledger : Ledger) (left : List Message) (later : Body) (answers : List Message) (shown : List Indication) → (message : Message) → KeepsAll (base role) (both_ends.body_at role two) (transfer_log_of role ledger.transfer_logs) (took message) → react (base role) (both_ends.body_at role two) message ≡ Takes later answers shown → QueueTook (both_ends.body_at role two) later (transfer_log_of role ledger.transfer_logs).started
     took-so role two ledger left later answers shown (Transport unit) k r =
-        subst (λ (z : Body). QueueTook (both_ends.body_at role two) z (transfer_log_of role ledger.transfer_log).started) (sym (took-unit (base role) (both_ends.body_at role two) unit later answers shown r).later_is) (inl (unit-queues (base role) (both_ends.body_at role two) unit))
+        subst (λ (z : Body). QueueTook (both_ends.body_at role two) z (transfer_log_of role ledger.transfer_logs).started) (sym (took-unit (base role) (both_ends.body_at role two) unit later answers shown r).later_is) (inl (unit-queues (base role) (both_ends.body_at role two) unit))
     took-so role two ledger left later answers shown (Session word) k r =
-        subst (λ (z : Body). QueueTook (both_ends.body_at role two) z (transfer_log_of role ledger.transfer_log).started) (sym (took-word (base role) (both_ends.body_at role two) word later answers shown r).later_is) (word-queue role two ledger left later answers shown word k r)
+        subst (λ (z : Body). QueueTook (both_ends.body_at role two) z (transfer_log_of role ledger.transfer_logs).started) (sym (took-word (base role) (both_ends.body_at role two) word later answers shown r).later_is) (word-queue role two ledger left later answers shown word k r)
 
     -- ---- what a transfer brings
 
     record Brings (role : Role) (two : Two) (ledger : Ledger) : Type 0 where
       item : Item
       arrived : arrived_now (base role) (both_ends.body_at role two) ≡ Ok (Whole item)
-      is_of : IsOf item.apdu (item_of (both_ends.body_at role two).receiving.last (transfer_log_of (other role) ledger.transfer_log).started)
+      is_of : IsOf item.apdu (item_of (both_ends.body_at role two).receiving.last (transfer_log_of (other role) ledger.transfer_logs).started)
 
     brings : (role : Role) (two : Two) (ledger : Ledger) (number : ℕ) (left : List Message) (later : Body) (answers : List Message) (shown : List Indication) → ReachedWithLedger common two ledger → coming_to role two ≡ Session (OfActivities (End number)) ∷ left → react (base role) (both_ends.body_at role two) (Session (OfActivities (End number))) ≡ Takes later answers shown → (both_ends.body_at role two).receiving.was_handed ≡ false → Brings role two ledger
     brings role two ledger number left later answers shown g e r new =
@@ -423,7 +423,7 @@ module _ (free : Free) (tables : Tables) (spellings : Spellings) (a b : Config) 
         record { item = w.item; arrived = w.arrived; is_of = p.items two ledger g (other role) _ w.encoded }
 
     -- what is heard is what the other end handed in
-    heard-holds : (role : Role) (two : Two) (ledger : Ledger) (left : List Message) (later : Body) (answers : List Message) (shown : List Indication) (own : List Invocation) (outcomes : List ToldOutcome) → ReachedWithLedger common two ledger → QueueOurs tables own outcomes (transfer_log_of (other role) ledger.transfer_log).started → (message : Message) → coming_to role two ≡ message ∷ left → react (base role) (both_ends.body_at role two) message ≡ Takes later answers shown
+    heard-holds : (role : Role) (two : Two) (ledger : Ledger) (left : List Message) (later : Body) (answers : List Message) (shown : List Indication) (own : List Invocation) (outcomes : List ToldOutcome) → ReachedWithLedger common two ledger → QueueOurs tables own outcomes (transfer_log_of (other role) ledger.transfer_logs).started → (message : Message) → coming_to role two ≡ message ∷ left → react (base role) (both_ends.body_at role two) message ≡ Takes later answers shown
         → HoldOurs tables own outcomes (heard_values (base role) (both_ends.body_at role two) message)
     heard-holds role two ledger left later answers shown own outcomes g q (Session (OfActivities (End number))) e r = go (both_ends.body_at role two).receiving.was_handed refl
       where
@@ -432,7 +432,7 @@ module _ (free : Free) (tables : Tables) (spellings : Spellings) (a b : Config) 
         go false d =
             let x = brings role two ledger number left later answers shown g e r d in
             subst (λ (y : Result Arrived Fault). HoldOurs tables own outcomes (values_arrived y)) (sym x.arrived)
-            (record { apdu = x.item.apdu; is_it = refl; is_ours = apdu-ours tables own outcomes (both_ends.body_at role two).receiving.last (transfer_log_of (other role) ledger.transfer_log).started x.item.apdu q x.is_of }, tt)
+            (record { apdu = x.item.apdu; is_it = refl; is_ours = apdu-ours tables own outcomes (both_ends.body_at role two).receiving.last (transfer_log_of (other role) ledger.transfer_logs).started x.item.apdu q x.is_of }, tt)
     heard-holds role two ledger left later answers shown own outcomes g q (Transport unit) e r = tt
     heard-holds role two ledger left later answers shown own outcomes g q (Session (OfAssociation word)) e r = tt
     heard-holds role two ledger left later answers shown own outcomes g q (Session (OfData word)) e r = no-data word
@@ -447,13 +447,13 @@ module _ (free : Free) (tables : Tables) (spellings : Spellings) (a b : Config) 
     -- ---- what is told of invocations
 
     record Hears (role : Role) (two : Two) (ledger : Ledger) (message : Message) : Type 0 where
-      more : newest_of (transfer_log_of role ledger.transfer_log).arrived ≤ newest_of (arrived_by (base role) (both_ends.body_at role two) message (transfer_log_of role ledger.transfer_log).arrived)
-      told : (invoked_ids (shown_of (base role) (both_ends.body_at role two) message) ≡ []) ⊎ OneTold (transfer_log_of (other role) ledger.transfer_log).started (transfer_log_of role ledger.transfer_log).arrived (arrived_by (base role) (both_ends.body_at role two) message (transfer_log_of role ledger.transfer_log).arrived) (shown_of (base role) (both_ends.body_at role two) message)
+      more : newest_of (transfer_log_of role ledger.transfer_logs).arrived ≤ newest_of (arrived_by (base role) (both_ends.body_at role two) message (transfer_log_of role ledger.transfer_logs).arrived)
+      told : (invoked_ids (shown_of (base role) (both_ends.body_at role two) message) ≡ []) ⊎ OneTold (transfer_log_of (other role) ledger.transfer_logs).started (transfer_log_of role ledger.transfer_logs).arrived (arrived_by (base role) (both_ends.body_at role two) message (transfer_log_of role ledger.transfer_logs).arrived) (shown_of (base role) (both_ends.body_at role two) message)
 
     same-more : (n m : List ℕ) → n ≡ m → newest_of m ≤ newest_of n
     same-more n m e = subst (λ (l : List ℕ). newest_of m ≤ newest_of l) (sym e) (omega arith)
 
-    plain-hears : (role : Role) (two : Two) (ledger : Ledger) (message : Message) → arrived_by (base role) (both_ends.body_at role two) message (transfer_log_of role ledger.transfer_log).arrived ≡ (transfer_log_of role ledger.transfer_log).arrived → ArePlain (shown_of (base role) (both_ends.body_at role two) message) → Hears role two ledger message
+    plain-hears : (role : Role) (two : Two) (ledger : Ledger) (message : Message) → arrived_by (base role) (both_ends.body_at role two) message (transfer_log_of role ledger.transfer_logs).arrived ≡ (transfer_log_of role ledger.transfer_logs).arrived → ArePlain (shown_of (base role) (both_ends.body_at role two) message) → Hears role two ledger message
     plain-hears role two ledger message e s = record { more = same-more _ _ e; told = inl (plain-ids (shown_of (base role) (both_ends.body_at role two) message) s) }
 
     -- the identifiers that one value shows
@@ -490,33 +490,33 @@ module _ (free : Free) (tables : Tables) (spellings : Spellings) (a b : Config) 
         go (inr e) = told e (one-invoked apdu)
 
     -- the numbers rise
-    falls-so : (role : Role) (two : Two) (ledger : Ledger) (message : Message) (left : List Message) (later : Body) (answers : List Message) (shown : List Indication) → ReachedWithLedger common two ledger → coming_to role two ≡ message ∷ left → react (base role) (both_ends.body_at role two) message ≡ Takes later answers shown → AreFalling (arrived_by (base role) (both_ends.body_at role two) message (transfer_log_of role ledger.transfer_log).arrived)
+    falls-so : (role : Role) (two : Two) (ledger : Ledger) (message : Message) (left : List Message) (later : Body) (answers : List Message) (shown : List Indication) → ReachedWithLedger common two ledger → coming_to role two ≡ message ∷ left → react (base role) (both_ends.body_at role two) message ≡ Takes later answers shown → AreFalling (arrived_by (base role) (both_ends.body_at role two) message (transfer_log_of role ledger.transfer_logs).arrived)
     falls-so role two ledger message left later answers shown g e r =
-        subst AreFalling (ap (λ (x : TransferLog). x.arrived) (own-log role (ledgers.transfer_log_taken (base role) (both_ends.body_at role two) message) ledger.transfer_log))
+        subst AreFalling (ap (λ (x : TransferLog). x.arrived) (own-log role (ledgers.transfer_log_taken (base role) (both_ends.body_at role two) message) ledger.transfer_logs))
         (p.falls (stepped role later left answers two) (after_taking common role (both_ends.body_at role two) message answers ledger) (ledgers.takes two ledger role message left later answers shown g e r) role)
 
     end-hears : (role : Role) (two : Two) (ledger : Ledger) (number : ℕ) (left : List Message) (later : Body) (answers : List Message) (shown : List Indication) → ReachedWithLedger common two ledger → coming_to role two ≡ Session (OfActivities (End number)) ∷ left → react (base role) (both_ends.body_at role two) (Session (OfActivities (End number))) ≡ Takes later answers shown
         → Hears role two ledger (Session (OfActivities (End number)))
     end-hears role two ledger number left later answers shown g e r = let s = go (both_ends.body_at role two).receiving.was_handed refl in record { more = s.0; told = s.1 }
       where
-        falls : (both_ends.body_at role two).receiving.was_handed ≡ false → AreFalling ((both_ends.body_at role two).receiving.last ∷ (transfer_log_of role ledger.transfer_log).arrived)
-        falls d = subst (λ (h : Bool). AreFalling ((if h then [] else (both_ends.body_at role two).receiving.last ∷ []) ++ (transfer_log_of role ledger.transfer_log).arrived)) d (falls-so role two ledger (Session (OfActivities (End number))) left later answers shown g e r)
+        falls : (both_ends.body_at role two).receiving.was_handed ≡ false → AreFalling ((both_ends.body_at role two).receiving.last ∷ (transfer_log_of role ledger.transfer_logs).arrived)
+        falls d = subst (λ (h : Bool). AreFalling ((if h then [] else (both_ends.body_at role two).receiving.last ∷ []) ++ (transfer_log_of role ledger.transfer_logs).arrived)) d (falls-so role two ledger (Session (OfActivities (End number))) left later answers shown g e r)
 
-        go : (h : Bool) → (both_ends.body_at role two).receiving.was_handed ≡ h → Sees (transfer_log_of (other role) ledger.transfer_log).started (transfer_log_of role ledger.transfer_log).arrived (both_ends.body_at role two).receiving.last h (take_values (base role) (received (λ x. record x { was_handed = true; active = false }) (both_ends.body_at role two)) (if h then [] else values_arrived (arrived_now (base role) (both_ends.body_at role two)))).shown
-        go true d = (itself (newest_of (transfer_log_of role ledger.transfer_log).arrived), inl refl)
+        go : (h : Bool) → (both_ends.body_at role two).receiving.was_handed ≡ h → Sees (transfer_log_of (other role) ledger.transfer_logs).started (transfer_log_of role ledger.transfer_logs).arrived (both_ends.body_at role two).receiving.last h (take_values (base role) (received (λ x. record x { was_handed = true; active = false }) (both_ends.body_at role two)) (if h then [] else values_arrived (arrived_now (base role) (both_ends.body_at role two)))).shown
+        go true d = (itself (newest_of (transfer_log_of role ledger.transfer_logs).arrived), inl refl)
         go false d =
             let x = brings role two ledger number left later answers shown g e r d in
-            subst (λ (y : Result Arrived Fault). Sees (transfer_log_of (other role) ledger.transfer_log).started (transfer_log_of role ledger.transfer_log).arrived (both_ends.body_at role two).receiving.last false (take_values (base role) (received (λ x. record x { was_handed = true; active = false }) (both_ends.body_at role two)) (values_arrived y)).shown) (sym x.arrived)
-            (one-sees (transfer_log_of (other role) ledger.transfer_log).started (transfer_log_of role ledger.transfer_log).arrived (both_ends.body_at role two).receiving.last x.item.apdu _ (falls d) x.is_of
+            subst (λ (y : Result Arrived Fault). Sees (transfer_log_of (other role) ledger.transfer_logs).started (transfer_log_of role ledger.transfer_logs).arrived (both_ends.body_at role two).receiving.last false (take_values (base role) (received (λ x. record x { was_handed = true; active = false }) (both_ends.body_at role two)) (values_arrived y)).shown) (sym x.arrived)
+            (one-sees (transfer_log_of (other role) ledger.transfer_logs).started (transfer_log_of role ledger.transfer_logs).arrived (both_ends.body_at role two).receiving.last x.item.apdu _ (falls d) x.is_of
             (value-ids (base role) (received (λ x. record x { was_handed = true; active = false }) (both_ends.body_at role two)) x.item))
 
     arrived-same : (role : Role) (body : Body) (transfer_log : TransferLog) (session : SessionConnect) (presentation : PresentationConnect) (values : List DataValue) → KeepsAll (base role) body transfer_log (took (Session (OfAssociation (Connect session presentation values)))) → arrived_by (base role) body (Session (OfAssociation (Connect session presentation values))) transfer_log.arrived ≡ transfer_log.arrived
     arrived-same role body transfer_log session presentation values k = anew-same (is_refused (base role) body session presentation values || recovers_in (base role) values) transfer_log.arrived (second-half k)
 
-    hears : (role : Role) (two : Two) (ledger : Ledger) (left : List Message) (later : Body) (answers : List Message) (shown : List Indication) → ReachedWithLedger common two ledger → (message : Message) → KeepsAll (base role) (both_ends.body_at role two) (transfer_log_of role ledger.transfer_log) (took message) → coming_to role two ≡ message ∷ left → react (base role) (both_ends.body_at role two) message ≡ Takes later answers shown → Hears role two ledger message
+    hears : (role : Role) (two : Two) (ledger : Ledger) (left : List Message) (later : Body) (answers : List Message) (shown : List Indication) → ReachedWithLedger common two ledger → (message : Message) → KeepsAll (base role) (both_ends.body_at role two) (transfer_log_of role ledger.transfer_logs) (took message) → coming_to role two ≡ message ∷ left → react (base role) (both_ends.body_at role two) message ≡ Takes later answers shown → Hears role two ledger message
     hears role two ledger left later answers shown g (Transport unit) k e r = plain-hears role two ledger (Transport unit) refl (transport-plain unit)
     hears role two ledger left later answers shown g (Session (OfAssociation (Connect session presentation values))) k e r =
-        plain-hears role two ledger (Session (OfAssociation (Connect session presentation values))) (arrived-same role (both_ends.body_at role two) (transfer_log_of role ledger.transfer_log) session presentation values k) (association-plain (base role) (both_ends.body_at role two) (Connect session presentation values))
+        plain-hears role two ledger (Session (OfAssociation (Connect session presentation values))) (arrived-same role (both_ends.body_at role two) (transfer_log_of role ledger.transfer_logs) session presentation values k) (association-plain (base role) (both_ends.body_at role two) (Connect session presentation values))
     hears role two ledger left later answers shown g (Session (OfAssociation word)) k e r = plain-hears role two ledger (Session (OfAssociation word)) refl (association-plain (base role) (both_ends.body_at role two) word)
     hears role two ledger left later answers shown g (Session (OfData (Values values))) k e r = plain-hears role two ledger (Session (OfData (Values values))) refl tt
     hears role two ledger left later answers shown g (Session (OfData (AlterContext add delete))) k e r = plain-hears role two ledger (Session (OfData (AlterContext add delete))) refl (tt, tt)
@@ -535,28 +535,28 @@ module _ (free : Free) (tables : Tables) (spellings : Spellings) (a b : Config) 
         (message-noted (base role) (made role w) (made (other role) w) (given (other role) w) (exchange_of role exchanges).asked (both_ends.body_at role two) message (exchange_of role exchanges).shown (x role).asked_so (once common two ledger exchanges j.reached_exchanges role)
         (heard-holds role two ledger left body answers shown (made (other role) w) (given (other role) w) j.speaks.goes (their-started role x) message e r))
       where
-        their-started : (role : Role) → BothTold w two ledger exchanges → QueueOurs tables (made (other role) w) (given (other role) w) (transfer_log_of (other role) ledger.transfer_log).started
+        their-started : (role : Role) → BothTold w two ledger exchanges → QueueOurs tables (made (other role) w) (given (other role) w) (transfer_log_of (other role) ledger.transfer_logs).started
         their-started Initiator x = (x Responder).started_so
         their-started Responder x = (x Initiator).started_so
 
     own-taken : (role : Role) (w : World) (two : Two) (ledger : Ledger) (exchanges : Exchanges) (message : Message) (left : List Message) (body : Body) (answers : List Message) (shown : List Indication) → Joint common w two ledger exchanges → coming_to role two ≡ message ∷ left → react (base role) (both_ends.body_at role two) message ≡ Takes body answers shown → BothTold w two ledger exchanges
-        → Facts tables (made role w) (made (other role) w) (given role w) (given (other role) w) body (items_by (base role) (both_ends.body_at role two) message (transfer_log_of role ledger.transfer_log).started) (transfer_log_of (other role) ledger.transfer_log).started
-        (still_after (base role) (both_ends.body_at role two) message (exchange_of role exchanges).asked) (still_after (base role) (both_ends.body_at role two) message (exchange_of role exchanges).shown ++ shown) (arrived_by (base role) (both_ends.body_at role two) message (transfer_log_of role ledger.transfer_log).arrived)
+        → Facts tables (made role w) (made (other role) w) (given role w) (given (other role) w) body (items_by (base role) (both_ends.body_at role two) message (transfer_log_of role ledger.transfer_logs).started) (transfer_log_of (other role) ledger.transfer_logs).started
+        (still_after (base role) (both_ends.body_at role two) message (exchange_of role exchanges).asked) (still_after (base role) (both_ends.body_at role two) message (exchange_of role exchanges).shown ++ shown) (arrived_by (base role) (both_ends.body_at role two) message (transfer_log_of role ledger.transfer_logs).arrived)
     own-taken role w two ledger exchanges message left body answers shown j e r x =
         let k = keeps-all role two ledger left body answers shown j.speaks.goes message e r in
         let h = hears role two ledger left body answers shown j.speaks.goes message k e r in
-        moved tables _ _ _ _ _ _ _ _ _ _ _ _ (items-same role (both_ends.body_at role two) (transfer_log_of role ledger.transfer_log) message k) refl
+        moved tables _ _ _ _ _ _ _ _ _ _ _ _ (items-same role (both_ends.body_at role two) (transfer_log_of role ledger.transfer_logs) message k) refl
         (own-took tables _ _ _ _ _ _ _ _ _ _ (x role) (base role) message body shown _ (took-so role two ledger left body answers shown message k r) (now-noted role w two ledger exchanges message left body answers shown j e r x) h.more
-        (subst (λ (l : List Indication). (invoked_ids l ≡ []) ⊎ OneTold (transfer_log_of (other role) ledger.transfer_log).started (transfer_log_of role ledger.transfer_log).arrived (arrived_by (base role) (both_ends.body_at role two) message (transfer_log_of role ledger.transfer_log).arrived) l) (sym (shows-so (base role) (both_ends.body_at role two) message body answers shown r)) h.told)
+        (subst (λ (l : List Indication). (invoked_ids l ≡ []) ⊎ OneTold (transfer_log_of (other role) ledger.transfer_logs).started (transfer_log_of role ledger.transfer_logs).arrived (arrived_by (base role) (both_ends.body_at role two) message (transfer_log_of role ledger.transfer_logs).arrived) l) (sym (shows-so (base role) (both_ends.body_at role two) message body answers shown r)) h.told)
         (their-fresh role x))
       where
-        their-fresh : (role : Role) → BothTold w two ledger exchanges → AreFresh (started_invoke (transfer_log_of (other role) ledger.transfer_log).started)
-        their-fresh Initiator x = fresh-front (started_invoke ledger.transfer_log.b.started) (queue_invokes two.b.sending.queue) (x Responder).numbers.fresh
-        their-fresh Responder x = fresh-front (started_invoke ledger.transfer_log.a.started) (queue_invokes two.a.sending.queue) (x Initiator).numbers.fresh
+        their-fresh : (role : Role) → BothTold w two ledger exchanges → AreFresh (started_invoke (transfer_log_of (other role) ledger.transfer_logs).started)
+        their-fresh Initiator x = fresh-front (started_invoke ledger.transfer_logs.b.started) (queue_invokes two.b.sending.queue) (x Responder).numbers.fresh
+        their-fresh Responder x = fresh-front (started_invoke ledger.transfer_logs.a.started) (queue_invokes two.a.sending.queue) (x Initiator).numbers.fresh
 
     their-taken : (role : Role) (w : World) (two : Two) (ledger : Ledger) (exchanges : Exchanges) (message : Message) (left : List Message) (body : Body) (answers : List Message) (shown : List Indication) → Joint common w two ledger exchanges → coming_to role two ≡ message ∷ left → react (base role) (both_ends.body_at role two) message ≡ Takes body answers shown
-        → items_by (base role) (both_ends.body_at role two) message (transfer_log_of role ledger.transfer_log).started ≡ (transfer_log_of role ledger.transfer_log).started
-    their-taken role w two ledger exchanges message left body answers shown j e r = items-same role (both_ends.body_at role two) (transfer_log_of role ledger.transfer_log) message (keeps-all role two ledger left body answers shown j.speaks.goes message e r)
+        → items_by (base role) (both_ends.body_at role two) message (transfer_log_of role ledger.transfer_logs).started ≡ (transfer_log_of role ledger.transfer_logs).started
+    their-taken role w two ledger exchanges message left body answers shown j e r = items-same role (both_ends.body_at role two) (transfer_log_of role ledger.transfer_logs) message (keeps-all role two ledger left body answers shown j.speaks.goes message e r)
 
     taken-told : (role : Role) (w : World) (two : Two) (ledger : Ledger) (exchanges : Exchanges) (message : Message) (left : List Message) (body : Body) (answers : List Message) (shown : List Indication) → Joint common w two ledger exchanges → coming_to role two ≡ message ∷ left → react (base role) (both_ends.body_at role two) message ≡ Takes body answers shown → BothTold w two ledger exchanges
         → BothTold (stepping (side_of role) w (took message ∷ map (answered message) answers)) (stepped role body left answers two) (after_taking common role (both_ends.body_at role two) message answers ledger) (on_exchange role (takes_so (base role) (both_ends.body_at role two) message shown) (gets answers) exchanges)
@@ -580,7 +580,7 @@ module _ (free : Free) (tables : Tables) (spellings : Spellings) (a b : Config) 
     -- ---- steps that call nothing and take nothing
 
     step-told : (role : Role) (w : World) (two later : Two) (ledger : Ledger) (exchanges after : Exchanges) (x : Step) → all_calls invoked_by (x ∷ []) ≡ [] → all_calls answered_by (x ∷ []) ≡ []
-        → (r : Role) → Facts tables (made r w) (made (other r) w) (given r w) (given (other r) w) (both_ends.body_at r later) (transfer_log_of r ledger.transfer_log).started (transfer_log_of (other r) ledger.transfer_log).started (exchange_of r after).asked (exchange_of r after).shown (transfer_log_of r ledger.transfer_log).arrived
+        → (r : Role) → Facts tables (made r w) (made (other r) w) (given r w) (given (other r) w) (both_ends.body_at r later) (transfer_log_of r ledger.transfer_logs).started (transfer_log_of (other r) ledger.transfer_logs).started (exchange_of r after).asked (exchange_of r after).shown (transfer_log_of r ledger.transfer_logs).arrived
         → Told r (record { side = side_of role; step = x } ∷ w) later ledger after
     step-told Initiator w two later ledger exchanges after x e f Initiator h =
         changed tables _ _ _ _ _ _ _ _ _ _ _ _ _ _ (calls-same invoked_by Initiator w (x ∷ []) e) (peer-calls invoked_by A w (x ∷ [])) (calls-same answered_by Initiator w (x ∷ []) f) (peer-calls answered_by A w (x ∷ [])) h
@@ -603,7 +603,7 @@ module _ (free : Free) (tables : Tables) (spellings : Spellings) (a b : Config) 
         step-told Responder (record { side = A; step = broke } ∷ w) two (both_broke common two) ledger exchanges (on_exchange Initiator loses loses exchanges) broke refl refl r
         (step-told Initiator w two (both_broke common two) ledger exchanges (on_exchange Initiator loses loses exchanges) broke refl refl r (here r))
       where
-        here : (r : Role) → Facts tables (made r w) (made (other r) w) (given r w) (given (other r) w) (both_ends.body_at r (both_broke common two)) (transfer_log_of r ledger.transfer_log).started (transfer_log_of (other r) ledger.transfer_log).started (exchange_of r (on_exchange Initiator loses loses exchanges)).asked (exchange_of r (on_exchange Initiator loses loses exchanges)).shown (transfer_log_of r ledger.transfer_log).arrived
+        here : (r : Role) → Facts tables (made r w) (made (other r) w) (given r w) (given (other r) w) (both_ends.body_at r (both_broke common two)) (transfer_log_of r ledger.transfer_logs).started (transfer_log_of (other r) ledger.transfer_logs).started (exchange_of r (on_exchange Initiator loses loses exchanges)).asked (exchange_of r (on_exchange Initiator loses loses exchanges)).shown (transfer_log_of r ledger.transfer_logs).arrived
         here Initiator = own-same tables _ _ _ _ _ _ _ _ _ _ (x Initiator) (after_broke (base Initiator) two.a) refl refl
         here Responder = own-same tables _ _ _ _ _ _ _ _ _ _ (x Responder) (after_broke (base Responder) two.b) refl refl
 

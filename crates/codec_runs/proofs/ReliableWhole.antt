@@ -36,13 +36,13 @@ use Rattle.outcome_laws.specs.Exchanges.{Exchanges}
 use Rattle.run_laws.specs.Transfers.{first_of, started_in, started, Encoding, encoding_of, encoded_in, encodings, Arrival, arrivals_of, arrived_in, arrivals, item_of, IsOf, IsNewest, AreWhole, ArriveWhole, AreFalling, OneTransfer}
 use Rattle.association_runs.specs.Worlds.{stepping}
 use Rattle.association_runs.specs.Sides.{ends_for}
-use Rattle.association_runs.specs.TransferLogs.{transfer_log_after, transfer_log_at}
+use Rattle.association_runs.specs.TransferLogsAt.{transfer_log_after, transfer_log_at}
 use Rattle.association_runs.specs.Arriving as arriving
 use Rattle.association_runs.specs.Arriving.{UnlessHanded, ArrivesThen, EachArrivesWhole}
 use Rattle.association_runs.proofs.Histories.{end_for, body-for}
 use Rattle.association_runs.proofs.Keeps.{IsQuiet, Keeps}
 use Rattle.association_runs.proofs.Joint.{Joint}
-use Rattle.association_runs.proofs.TransferLogs.{AreDone, transfer-log-keeps}
+use Rattle.association_runs.proofs.TransferLogsAt.{AreDone, transfer-log-keeps}
 use Rattle.codec_runs.proofs.ReliableEarly as early
 
 -- ---- no opening forgets what was started or handed up
@@ -264,7 +264,7 @@ module _ (free : Free) (tables : Tables) (spellings : Spellings) (a b : Config) 
         (subst (λ (x : TransferLog). KeepsAll (sides.base_at ends B) two.b x (took (Session (OfAssociation (Connect session presentation values))))) (sym (d Responder))
         (go (early.opening-keeps free tables spellings a b two session presentation values left body answers shown (kept two ledger j.speaks.goes) e r)))
       where
-        go : early.Opens free tables spellings a b two session presentation values → KeepsAll (sides.base_at ends B) two.b ledger.transfer_log.b (took (Session (OfAssociation (Connect session presentation values))))
+        go : early.Opens free tables spellings a b two session presentation values → KeepsAll (sides.base_at ends B) two.b ledger.transfer_logs.b (took (Session (OfAssociation (Connect session presentation values))))
         go (inl k) = inl k
         go (inr soon) = inr (early.nothing free tables spellings a b never two ledger j.speaks.goes soon)
     taken-keeps role w two ledger exchanges left body answers shown j d message e r = tt

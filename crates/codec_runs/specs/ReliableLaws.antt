@@ -12,7 +12,7 @@ use Rattle.run_laws.specs.Showing.{EachCarryShows}
 use Rattle.run_laws.specs.Laws.{AtEachMoment, NothingFails, OneHolder}
 use Rattle.association_runs.specs.Worlds.{ends_of, Runs}
 use Rattle.association_runs.specs.Arriving.{EachArrivesWhole}
-use Rattle.association_runs.specs.TransferLogs.{transfer_log_at}
+use Rattle.association_runs.specs.TransferLogsAt.{transfer_log_at}
 use Rattle.association_runs.specs.OwnExchanges.{own_at}
 use Rattle.association_runs.specs.Laws.{AreEvents, RunKeepsLaws}
 use Rattle.outcome_laws.specs.Exchanges.{AreDistinct, outcomes_in}

@@ -12,7 +12,7 @@ use Rattle.end_rules.specs.Messages.{Message}
 use Rattle.end_rules.specs.History.{Step, called, sent, encoded, fed, took, answered, passed, fault, aborted, feed_end, gave, broke}
 use Rattle.association_worlds.specs.association_wire.Written.{written}
 use Rattle.association_worlds.specs.association_reading.Front.{Front, Intake, nothing_came, all_fronts, with_octets, behind_first, without_first}
-use Rattle.association_worlds.specs.InTransit.{Sent, texts}
+use Rattle.association_worlds.specs.InTransit.{SentMessage, texts}
 use Rattle.association_worlds.proofs.Kept.{fronts-append, texts-append}
 use Rattle.run_laws.specs.Passing.{Passed, sent_in, as_read, on_connection, read_in}
 use Rattle.association_runs.specs.association_line.Line.{End, after}
@@ -33,7 +33,7 @@ Holds got read None = Unit {0}
 Holds got read (Some intake) = IsHeld got read intake
 
 -- what came and what waits are what was sent; so many octets were given out
-pub record Flow (tables : Tables) (sents : List Sent) (waiting : List ℕ) (given read : ℕ) (came : Option Intake) : Type 0 where
+pub record Flow (tables : Tables) (sents : List SentMessage) (waiting : List ℕ) (given read : ℕ) (came : Option Intake) : Type 0 where
   pub got : List ℕ
   pub octets : got ++ waiting ≡ texts tables sents
   pub counts : given ≡ length got
@@ -56,7 +56,7 @@ IsOut (gave n) = ⊥
 IsOut broke = ⊥
 IsOut _ = Unit {0}
 
-module _ (tables : Tables) (sents : List Sent) (waiting : List ℕ) (given read : ℕ) (came : Option Intake) (f : Flow tables sents waiting given read came) where
+module _ (tables : Tables) (sents : List SentMessage) (waiting : List ℕ) (given read : ℕ) (came : Option Intake) (f : Flow tables sents waiting given read came) where
   no-more : Flow tables (sents ++ []) waiting (given + 0) read came
   no-more = record { got = f.got; octets = f.octets ∙ ap (texts tables) (sym (append-nil sents)); counts = (let c : given ≡ length f.got = f.counts in omega (arith, c)); holds = f.holds }
 
@@ -72,7 +72,7 @@ module _ (tables : Tables) (sents : List Sent) (waiting : List ℕ) (given read 
     holds = f.holds;
   }
 
-pub giver-step : (base : Base) (e : End) (x : Step) (sents : List Sent) (given : ℕ) (reads : List (Option Passed)) (came : Option Intake) → IsOut x → Flow base.tables sents e.line.waiting given (length reads) came
+pub giver-step : (base : Base) (e : End) (x : Step) (sents : List SentMessage) (given : ℕ) (reads : List (Option Passed)) (came : Option Intake) → IsOut x → Flow base.tables sents e.line.waiting given (length reads) came
     → Flow base.tables (on_connection x (sents ++ sized e.line.size (sent_in x))) (after base e x).line.waiting (or_none x (given + given_in x)) (length (on_connection x reads)) came
 giver-step base e (called call reply) sents given reads came o f = no-more base.tables sents e.line.waiting given (length reads) came f
 giver-step base e (sent message) sents given reads came o f = one-more base.tables sents e.line.waiting given (length reads) came f e.line.size message
@@ -97,7 +97,7 @@ IsStill passed = ⊥
 IsStill broke = ⊥
 IsStill _ = Unit {0}
 
-module _ (tables : Tables) (sents : List Sent) (waiting : List ℕ) (given : ℕ) (reads : List (Option Passed)) where
+module _ (tables : Tables) (sents : List SentMessage) (waiting : List ℕ) (given : ℕ) (reads : List (Option Passed)) where
   none-read : (came : Option Intake) → Flow tables sents waiting given (length reads) came → Flow tables sents waiting given (length (reads ++ [])) came
   none-read came f = subst (λ (l : List (Option Passed)). Flow tables sents waiting given (length l) came) (sym (append-nil reads)) f
 
@@ -127,7 +127,7 @@ module _ (tables : Tables) (sents : List Sent) (waiting : List ℕ) (given : ℕ
             };
       }
 
-pub taker-step : (base : Base) (e : End) (x : Step) (tables : Tables) (sents : List Sent) (waiting : List ℕ) (given : ℕ) (reads : List (Option Passed)) → IsStill x → Flow tables sents waiting given (length reads) e.line.came
+pub taker-step : (base : Base) (e : End) (x : Step) (tables : Tables) (sents : List SentMessage) (waiting : List ℕ) (given : ℕ) (reads : List (Option Passed)) → IsStill x → Flow tables sents waiting given (length reads) e.line.came
     → Flow tables (on_connection x sents) waiting (or_none x given) (length (on_connection x (reads ++ read_in x))) (after base e x).line.came
 taker-step base e (called call reply) tables sents waiting given reads s f = none-read tables sents waiting given reads e.line.came f
 taker-step base e (sent message) tables sents waiting given reads s f = none-read tables sents waiting given reads e.line.came f
@@ -148,7 +148,7 @@ IsReading (took message) = Unit {0}
 IsReading passed = Unit {0}
 IsReading _ = ⊥
 
-pub reading-step : (base : Base) (e : End) (x : Step) (tables : Tables) (sents : List Sent) (waiting : List ℕ) (given : ℕ) (reads : List (Option Passed)) (intake : Intake) (front : Front) (more : List Front) → IsReading x
+pub reading-step : (base : Base) (e : End) (x : Step) (tables : Tables) (sents : List SentMessage) (waiting : List ℕ) (given : ℕ) (reads : List (Option Passed)) (intake : Intake) (front : Front) (more : List Front) → IsReading x
     → e.line.came ≡ Some intake → intake.fronts ≡ front ∷ more → Flow tables sents waiting given (length reads) e.line.came
     → Flow tables (on_connection x sents) waiting (or_none x given) (length (on_connection x (reads ++ read_in x))) (after base e x).line.came
 reading-step base e (took message) tables sents waiting given reads intake front more r c k f =
@@ -179,7 +179,7 @@ holds-fed got os read false (Some intake) h =
     }
 
 -- the first octets that wait are given out and fed to the other end
-pub carry-step : (tables : Tables) (sents : List Sent) (waiting os : List ℕ) (given read : ℕ) (over : Bool) (came : Option Intake) → os ≡ take (length os) waiting → Flow tables sents waiting given read came
+pub carry-step : (tables : Tables) (sents : List SentMessage) (waiting os : List ℕ) (given read : ℕ) (over : Bool) (came : Option Intake) → os ≡ take (length os) waiting → Flow tables sents waiting given read came
     → Flow tables (sents ++ []) (drop (length os) waiting) (given + length os) read (if over then None else option_map (with_octets os) came)
 carry-step tables sents waiting os given read over came e f =
     let c : given ≡ length f.got = f.counts in

@@ -9,7 +9,7 @@ use Rattle.end_rules.specs.History.{Step, History, took, broke}
 use Rattle.end_rules.specs.World.{World, Ends, base_at, history_of, is_side}
 use Rattle.association_worlds.specs.association_wire.Written.{written}
 use Rattle.osi_base.specs.Limits.{IsUnitSize}
-use Rattle.association_worlds.specs.InTransit.{AreCarried, Sent, text_of, messages_of, AreWritten}
+use Rattle.association_worlds.specs.InTransit.{AreCarried, SentMessage, text_of, messages_of, AreWritten}
 use Rattle.association_worlds.proofs.Kept.{map-append}
 use Rattle.run_laws.specs.Passing.{Passed, sent_in, at_sending, on_connection, sendings}
 use Rattle.association_runs.specs.association_line.Line.{End, after, end_of}
@@ -19,10 +19,10 @@ use Rattle.association_runs.proofs.Lines.{first-fits, size-fits}
 use Rattle.association_runs.proofs.Moments.{messages_in}
 use Rattle.counted_runs.proofs.Counts.{texts_of}
 
-abbrev pub sized : ℕ → List Message → List Sent
+abbrev pub sized : ℕ → List Message → List SentMessage
 sized size ms = map (λ (m : Message). record { message = m; size = size }) ms
 
-abbrev pub sents_at : Ends → Side → World → List Sent
+abbrev pub sents_at : Ends → Side → World → List SentMessage
 sents_at ends side [] = []
 sents_at ends side (m ∷ w) =
     on_connection m.step
@@ -53,8 +53,8 @@ texts-are ends side (m ∷ w) =
     let size : ℕ = (end_at ends side w).line.size in
     let more : octets.texts ends side w ++ map (written tables size) (sent_in m.step) ≡ texts_of tables (sents_at ends side w ++ sized size (sent_in m.step)) =
     (λ i. texts-are ends side w i ++ sized-texts tables size (sent_in m.step) i) ∙ sym (map-append (text_of tables) (sents_at ends side w) (sized size (sent_in m.step))) in
-    together (λ (ts : List (List ℕ)) (ss : List Sent). ts ≡ texts_of tables ss) m.step _ _ refl
-    (chosen (λ (ts : List (List ℕ)) (ss : List Sent). ts ≡ texts_of tables ss) (is_side side m.side) _ _ _ _ more (texts-are ends side w))
+    together (λ (ts : List (List ℕ)) (ss : List SentMessage). ts ≡ texts_of tables ss) m.step _ _ refl
+    (chosen (λ (ts : List (List ℕ)) (ss : List SentMessage). ts ≡ texts_of tables ss) (is_side side m.side) _ _ _ _ more (texts-are ends side w))
 
 -- ---- their messages
 
@@ -67,19 +67,19 @@ messages-are ends side [] = refl
 messages-are ends side (m ∷ w) =
     let size : ℕ = (end_at ends side w).line.size in
     let more : messages_of (sents_at ends side w ++ sized size (sent_in m.step)) ≡ messages_in (sendings ends side w ++ map (at_sending ends w) (sent_in m.step)) =
-    map-append (λ (s : Sent). s.message) (sents_at ends side w) (sized size (sent_in m.step))
+    map-append (λ (s : SentMessage). s.message) (sents_at ends side w) (sized size (sent_in m.step))
     ∙ (λ i. messages-are ends side w i ++ sized-messages ends w size (sent_in m.step) i)
     ∙ sym (map-append (λ (p : Passed). p.message) (sendings ends side w) (map (at_sending ends w) (sent_in m.step))) in
-    together (λ (ss : List Sent) (ps : List Passed). messages_of ss ≡ messages_in ps) m.step _ _ refl
-    (chosen (λ (ss : List Sent) (ps : List Passed). messages_of ss ≡ messages_in ps) (is_side side m.side) _ _ _ _ more (messages-are ends side w))
+    together (λ (ss : List SentMessage) (ps : List Passed). messages_of ss ≡ messages_in ps) m.step _ _ refl
+    (chosen (λ (ss : List SentMessage) (ps : List Passed). messages_of ss ≡ messages_in ps) (is_side side m.side) _ _ _ _ more (messages-are ends side w))
 
 -- ---- their sizes
 
-abbrev pub AreSized : List Sent → Type 0
+abbrev pub AreSized : List SentMessage → Type 0
 AreSized [] = Unit {0}
 AreSized (s ∷ sents) = IsUnitSize s.size × AreSized sents
 
-sized-append : (xs ys : List Sent) → AreSized xs → AreSized ys → AreSized (xs ++ ys)
+sized-append : (xs ys : List SentMessage) → AreSized xs → AreSized ys → AreSized (xs ++ ys)
 sized-append [] ys h k = k
 sized-append (x ∷ xs) ys h k = (h.0, sized-append xs ys h.1 k)
 
@@ -102,9 +102,9 @@ sizes-are ends side (m ∷ w) =
     let size : ℕ = (end_at ends side w).line.size in
     let more : AreSized (sents_at ends side w ++ sized size (sent_in m.step)) =
     sized-append (sents_at ends side w) (sized size (sent_in m.step)) (sizes-are ends side w) (sized-all size (sent_in m.step) (size-always (base_at ends side) (history_of side w))) in
-    together (λ (ss ts : List Sent). AreSized ss) m.step _ (sents_at ends side w) tt
-    (chosen (λ (ss ts : List Sent). AreSized ss) (is_side side m.side) _ _ (sents_at ends side w) (sents_at ends side w) more (sizes-are ends side w))
+    together (λ (ss ts : List SentMessage). AreSized ss) m.step _ (sents_at ends side w) tt
+    (chosen (λ (ss ts : List SentMessage). AreSized ss) (is_side side m.side) _ _ (sents_at ends side w) (sents_at ends side w) more (sizes-are ends side w))
 
-pub written-so : (tables : Tables) (sents : List Sent) → AreSized sents → AreCarried tables (messages_of sents) → AreWritten tables sents
+pub written-so : (tables : Tables) (sents : List SentMessage) → AreSized sents → AreCarried tables (messages_of sents) → AreWritten tables sents
 written-so tables [] z h = tt
 written-so tables (s ∷ sents) z h = (h.0, z.0, written-so tables sents z.1 h.1)

@@ -8,7 +8,7 @@ use Rattle.tpkt.specs.Reader.{ReaderProgress, reading, nothing}
 use Rattle.tpkt.proofs.StreamLaws.{any_cut}
 use Rattle.agreement.specs.Sets.Role.{Initiator, Responder}
 use Rattle.association_worlds.specs.association_reading.Front.{Front, Short, Intake, first_front, all_fronts}
-use Rattle.association_worlds.specs.InTransit.{AreCarried, front_of, Sent, fronts_of_sent, AreWritten}
+use Rattle.association_worlds.specs.InTransit.{AreCarried, front_of, SentMessage, fronts_of_sent, AreWritten}
 use Rattle.association_worlds.proofs.Streams.{reads-all}
 use Rattle.association_worlds.proofs.Kept.{fronts-append, stands}
 use Rattle.association_runs.specs.Worlds.{end_at}
@@ -24,14 +24,14 @@ use Rattle.counted_runs.proofs.Flows.{IsHeld, Flow}
 use Rattle.counted_runs.proofs.Events.{tallied}
 
 -- none of the fronts of messages is less than a message
-in-row : (tables : Tables) (taken : List Front) (front : Front) (more : List Front) (sents : List Sent) → taken ++ front ∷ more ≡ fronts_of_sent tables sents → front ≡ Short → ⊥
+in-row : (tables : Tables) (taken : List Front) (front : Front) (more : List Front) (sents : List SentMessage) → taken ++ front ∷ more ≡ fronts_of_sent tables sents → front ≡ Short → ⊥
 in-row tables [] front more [] e h = absurd cc
 in-row tables [] front more (s ∷ sents) e h = (let head : front ≡ front_of tables s.message = cc in stands tables s.message (sym head ∙ h))
 in-row tables (t ∷ taken) front more [] e h = absurd cc
 in-row tables (t ∷ taken) front more (s ∷ sents) e h = (let tails : taken ++ front ∷ more ≡ fronts_of_sent tables sents = cc in in-row tables taken front more sents tails h)
 
 -- where less than a message is left, the octets that came say how many were read
-pub so-many : BeginningsBringNothing → (tables : Tables) (sents : List Sent) (waiting : List ℕ) (so_far read : ℕ) (came : Option Intake) → AreWritten tables sents → Flow tables sents waiting so_far read came → IsShort came
+pub so-many : BeginningsBringNothing → (tables : Tables) (sents : List SentMessage) (waiting : List ℕ) (so_far read : ℕ) (came : Option Intake) → AreWritten tables sents → Flow tables sents waiting so_far read came → IsShort came
     → read ≡ whole_within so_far (texts_of tables sents)
 so-many law tables sents waiting so_far read None written f short = absurd short
 so-many law tables sents waiting so_far read (Some intake) written f short =

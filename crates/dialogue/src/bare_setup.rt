@@ -1,4 +1,4 @@
-//! The configurations of two ends that meet.
+//! The configurations of two ends of bare mode that meet.
 
 ghost use Rattle.std.specs.Prelude.{true, false};
 ghost use Rattle.dialogue.specs.Config.{IsBare};

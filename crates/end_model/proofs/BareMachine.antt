@@ -112,7 +112,7 @@ pub record Sides (free : Free) (common : Common) (world : World) (role : Role) (
   pub own : SideOf free common world role body coming
   pub others : SideOf free common world (other role) peer to_peer
 
--- the sides of a pair, seen from a role, and put back
+-- the sides of both ends, seen from a role, and put back
 pub record AsSides (free : Free) (common : Common) (role : Role) (two : Two) : Type 0 where
   pub world : World
   pub sides : Sides free common world role (body_at role two) (coming_to role two) (body_at (other role) two) (coming_to (other role) two)

@@ -35,7 +35,7 @@ use Rattle.agreement.specs.Worlds.Step.{Acts}
 use Rattle.agreement.specs.Worlds.Moment.{By}
 use Rattle.agreement.proofs.Interface.{laws}
 use Rattle.end_model.specs.Seen.{Free, seen}
-use Rattle.end_model.specs.OpenInvocations.{IsProper, Numbered}
+use Rattle.end_model.specs.OpenInvocations.{IsProper, AreNumberedCalls}
 use Rattle.end_model.specs.Acting.{HandsIn, ActsAs, IsSoundBody, ReadsBack}
 use Rattle.end_model.specs.Requests.{sent_all, after_called}
 use Rattle.end_model.specs.BothEnds.{WritesAll}
@@ -160,7 +160,7 @@ module _ (free : Free) (tables : Tables) (spellings : Spellings) (a b : Config) 
       (subst (AreOwn (base Initiator)) (sym due) (tt, tt))
 
   same-numbered : (role : Role) (body later : Body) → IsSoundBody Direct (base role) body → later.calls ≡ body.calls → later.sending.queue ≡ body.sending.queue → IsSoundBody Direct (base role) later
-  same-numbered role body later sound c q = record { numbered = subst Numbered (sym c) sound.numbered; calm = tt; sets = tt; queues = q ∙ sound.queues }
+  same-numbered role body later sound c q = record { numbered = subst AreNumberedCalls (sym c) sound.numbered; calm = tt; sets = tt; queues = q ∙ sound.queues }
 
   pub called-so : (world : World) (role : Role) (body : Body) (call : Call) (answer : Option ℤ) (coming : List Message) (peer : Body) (to_peer : List Message) (fs gs : List (List SetItem)) (shared : Shared) → WritesAll free → ReadsBack (base Initiator) → AreJoint world role body coming peer to_peer fs gs shared → IsSoundBody Direct (base role) body → Live body → can_call (base role) body call ≡ Ok answer → CalledTo role (after_called Direct (base role) body call answer) (due_of (base role) body call (Ok answer)) coming peer to_peer fs gs shared
   called-so world role body (the_calls.Invoke context operation argument linked) answer coming peer to_peer fs gs shared writes back j sound live h =

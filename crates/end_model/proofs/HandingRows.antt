@@ -34,7 +34,7 @@ use Rattle.agreement.specs.Acts.{acted}
 use Rattle.end_model.specs.Seen.{Free, number_seen, apdu_seen, item_seen, queued_seen, calls_seen}
 use Rattle.end_model.specs.Seen.{opens_seen_on, is_outcome, allows_outcome, seen, setup_seen}
 use Rattle.end_model.specs.Rows.{at}
-use Rattle.end_model.specs.OpenInvocations.{IsNumber, IsProper, IsReadBack, AreNumbered, Numbered}
+use Rattle.end_model.specs.OpenInvocations.{IsNumber, IsProper, IsReadBack, AreNumbered, AreNumberedCalls}
 use Rattle.end_model.specs.OpenInvocations.{fits_argument, operation_of_code}
 use Rattle.end_model.specs.Words.{IsData, AreOurs}
 use Rattle.end_model.specs.Acting.{ActsAs, HandsActs, SetsIn, IsSoundBody, HandingIn, apdus_of}
@@ -150,7 +150,7 @@ invoke-steps free mode base proposed body context place argument linked operatio
 pub next-is : (body : Body) → nat_le last_invocation body.calls.made ≡ false → next_id body ≡ pos (suc body.calls.made)
 next-is body h = ap pos (number-next body h)
 
-invoked-sound : (mode : Mode) (base : Base) (body : Body) (context place : ℕ) (linked : Option ℤ) → nat_le last_invocation body.calls.made ≡ false → IsSoundBody mode base body → Numbered (invoking (at mode base) context place (next_id body) linked body).calls
+invoked-sound : (mode : Mode) (base : Base) (body : Body) (context place : ℕ) (linked : Option ℤ) → nat_le last_invocation body.calls.made ≡ false → IsSoundBody mode base body → AreNumberedCalls (invoking (at mode base) context place (next_id body) linked body).calls
 invoked-sound mode base body context place linked room sound =
     let o : OpenCall = record { own = true; id = next_id body; operation = place; context = context; parent = linked } in
     let more : AreNumbered (suc body.calls.made) body.calls.opens = more-made body.calls.made (suc body.calls.made) body.calls.opens (omega arith) sound.numbered in

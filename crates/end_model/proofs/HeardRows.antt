@@ -28,7 +28,7 @@ use Rattle.end_model.specs.Seen.{queued_seen, calls_seen, seen, setup_seen}
 use Rattle.end_model.specs.Rows.{at}
 use Rattle.end_model.specs.Words.{AreOurs}
 use Rattle.end_model.specs.Acting.{IsSoundBody, QueuesIn}
-use Rattle.end_model.specs.OpenInvocations.{Numbered, IsProper}
+use Rattle.end_model.specs.OpenInvocations.{AreNumberedCalls, IsProper}
 use Rattle.end_model.specs.Heard.{MayThen, then_acted, sent_then, HearsIn}
 use Rattle.end_model.proofs.Facts.{up-seen, up-there}
 use Rattle.end_model.proofs.Held.{found-pair, some-deletes}
@@ -87,10 +87,10 @@ no-queue-after mode base body calls o q =
 is-free-there : (base : Base) (body : Body) → is_up body.link.phase ≡ true → body.link.awaits ≡ NoAnswer → IsFree (seen base body)
 is-free-there base body up e = record { is_up = up-seen body.link.stage body.link.phase up; is_calm = ap awaited_seen e }
 
-with-calls : (mode : Mode) (base : Base) (body : Body) (calls : Calls) → IsSoundBody mode base body → Numbered calls → IsSoundBody mode base (record body { calls = calls })
+with-calls : (mode : Mode) (base : Base) (body : Body) (calls : Calls) → IsSoundBody mode base body → AreNumberedCalls calls → IsSoundBody mode base (record body { calls = calls })
 with-calls mode base body calls sound numbered = record { numbered = numbered; calm = sound.calm; sets = same-sets mode base body (record body { calls = calls }) refl sound.sets; queues = sound.queues }
 
-with-carrier : (free : Free) (mode : Mode) (base : Base) (body : Body) (context : ℕ) (calls : Calls) (r : Rejecting) (c : Option ℕ) → AtOnce mode → IsSoundBody mode base body → Numbered calls → ((value : model.Value) → free.codec.may_write value ≡ true) → is_up body.link.phase ≡ true → body.link.awaits ≡ NoAnswer → IsProper (at mode base) (reject_apdu r) → carrier_in (at mode base) body context ≡ c → HeardWith free mode base body.link (heard_state (at mode base) body calls context (Some r)) (sent_on (record body { calls = calls }) r c)
+with-carrier : (free : Free) (mode : Mode) (base : Base) (body : Body) (context : ℕ) (calls : Calls) (r : Rejecting) (c : Option ℕ) → AtOnce mode → IsSoundBody mode base body → AreNumberedCalls calls → ((value : model.Value) → free.codec.may_write value ≡ true) → is_up body.link.phase ≡ true → body.link.awaits ≡ NoAnswer → IsProper (at mode base) (reject_apdu r) → carrier_in (at mode base) body context ≡ c → HeardWith free mode base body.link (heard_state (at mode base) body calls context (Some r)) (sent_on (record body { calls = calls }) r c)
 with-carrier free mode base body context calls r None o sound numbered writes up e proper at_c =
     record {
       then_act = Some Drops;
@@ -120,7 +120,7 @@ with-carrier free mode base body context calls r (Some k) o sound numbered write
       means = our-data (at mode base) body item m.there proper tt;
     }
 
-heard-with : (free : Free) (mode : Mode) (base : Base) (body : Body) (context : ℕ) (calls : Calls) (shown : List Indication) (r : Option Rejecting) → AtOnce mode → IsSoundBody mode base body → Numbered calls → ((value : model.Value) → free.codec.may_write value ≡ true) → is_up body.link.phase ≡ true → body.link.awaits ≡ NoAnswer → IsProperReject (at mode base) r → HeardWith free mode base body.link (heard_state (at mode base) body calls context r) (on_heard (at mode base) body context (record { calls = calls; shown = shown; reject = r }))
+heard-with : (free : Free) (mode : Mode) (base : Base) (body : Body) (context : ℕ) (calls : Calls) (shown : List Indication) (r : Option Rejecting) → AtOnce mode → IsSoundBody mode base body → AreNumberedCalls calls → ((value : model.Value) → free.codec.may_write value ≡ true) → is_up body.link.phase ≡ true → body.link.awaits ≡ NoAnswer → IsProperReject (at mode base) r → HeardWith free mode base body.link (heard_state (at mode base) body calls context r) (on_heard (at mode base) body context (record { calls = calls; shown = shown; reject = r }))
 heard-with free mode base body context calls shown None o sound numbered writes up e proper =
     record { then_act = None; may = tt; after = no-queue-after mode (at mode base) body calls o sound.queues; sound = with-calls mode base body calls sound numbered; same_link = refl; means = tt }
 heard-with free Reliable base body context calls shown (Some r) o sound numbered writes up e proper = absurd o

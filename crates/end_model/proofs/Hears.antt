@@ -37,7 +37,7 @@ use Rattle.end_model.specs.Seen.{Free, number_seen, opens_seen_on, calls_seen, a
 use Rattle.end_model.specs.Seen.{setup_seen, is_outcome, allows_outcome, problem_due, link_due}
 use Rattle.end_model.specs.Seen.{on_open}
 use Rattle.end_model.specs.Rows.{at}
-use Rattle.end_model.specs.OpenInvocations.{IsNumber, IsNamed, IsProblem, IsProper, AreNumbered, Numbered}
+use Rattle.end_model.specs.OpenInvocations.{IsNumber, IsNamed, IsProblem, IsProper, AreNumbered, AreNumberedCalls}
 use Rattle.end_model.specs.OpenInvocations.{fits_argument, operation_of_code}
 use Rattle.end_model.specs.OpenInvocations.{IsReadBack}
 use Rattle.end_model.specs.Heard.{IsExpected}
@@ -60,7 +60,7 @@ IsProperReject base (Some r) = IsProper base (reject_apdu r)
 pub record Hears (free : Free) (mode : Mode) (base : Base) (calls : Calls) (context : ℕ) (apdu : Apdu) (h : Heard) : Type 0 where
   pub calls_are : calls_seen h.calls ≡ heard (setup_seen free mode base) (calls_seen calls) context (apdu_seen (at mode base) apdu)
   pub rejects_are : rejects_seen (at mode base) context h.reject ≡ rejects_of (setup_seen free mode base) (calls_seen calls) context (apdu_seen (at mode base) apdu)
-  pub numbered : Numbered h.calls
+  pub numbered : AreNumberedCalls h.calls
   pub proper : IsProperReject (at mode base) h.reject
 
 -- ---- what is open
@@ -147,39 +147,39 @@ link-seen free mode base calls place (Some (pos n)) h i =
     (link-found (setup_seen free mode base) place n (opens_seen_on true [] calls.opens) ∙ seen-so (λ p. is_linked_to (operation_at base.tables p) place) n calls.made calls.opens h) in
     record { allowed = l.is_allowed; due = l.is_due }
 
--- ---- an invocation is judged
+-- ---- an invocation is accepted or rejected
 
-data Judgement (problem : Option ℕ) (accepted : Bool) (due : model.Problem) : Type 0 where
-  accepts : problem ≡ None → accepted ≡ true → Judgement problem accepted due
-  rejects : (m : ℕ) → problem ≡ Some m → accepted ≡ false → due ≡ of_invocation m → Judgement problem accepted due
+data AcceptsOrRejects (problem : Option ℕ) (accepted : Bool) (due : model.Problem) : Type 0 where
+  accepts : problem ≡ None → accepted ≡ true → AcceptsOrRejects problem accepted due
+  rejects : (m : ℕ) → problem ≡ Some m → accepted ≡ false → due ≡ of_invocation m → AcceptsOrRejects problem accepted due
 
-judge : (a b s : Bool) (l : Option ℕ) (open_ room allowed full : Bool) (due : ℕ) → open_ ≡ a → full ≡ b → room ≡ (s || not b) → allowed ≡ is_none l → ((m : ℕ) → l ≡ Some m → due ≡ m) → Judgement (first_problem (problem_if a 0) (first_problem (problem_if (b && not s) 3) (first_problem l None))) (not open_ && room && allowed) (if open_ then of_invocation 0 else (if full && not s then of_invocation 3 else of_invocation due))
-judge true b s l open_ room allowed full due e f g k d = rw e (rejects 0 refl refl refl)
-judge false true false l open_ room allowed full due e f g k d = rw (e, f, g) (rejects 3 refl refl refl)
-judge false true true None open_ room allowed full due e f g k d = rw (e, f, g, k) (accepts refl refl)
-judge false true true (Some m) open_ room allowed full due e f g k d = rw (e, f, g, k, d m refl) (rejects m refl refl refl)
-judge false false true None open_ room allowed full due e f g k d = rw (e, f, g, k) (accepts refl refl)
-judge false false true (Some m) open_ room allowed full due e f g k d = rw (e, f, g, k, d m refl) (rejects m refl refl refl)
-judge false false false None open_ room allowed full due e f g k d = rw (e, f, g, k) (accepts refl refl)
-judge false false false (Some m) open_ room allowed full due e f g k d = rw (e, f, g, k, d m refl) (rejects m refl refl refl)
+accepts-or-rejects : (a b s : Bool) (l : Option ℕ) (open_ room allowed full : Bool) (due : ℕ) → open_ ≡ a → full ≡ b → room ≡ (s || not b) → allowed ≡ is_none l → ((m : ℕ) → l ≡ Some m → due ≡ m) → AcceptsOrRejects (first_problem (problem_if a 0) (first_problem (problem_if (b && not s) 3) (first_problem l None))) (not open_ && room && allowed) (if open_ then of_invocation 0 else (if full && not s then of_invocation 3 else of_invocation due))
+accepts-or-rejects true b s l open_ room allowed full due e f g k d = rw e (rejects 0 refl refl refl)
+accepts-or-rejects false true false l open_ room allowed full due e f g k d = rw (e, f, g) (rejects 3 refl refl refl)
+accepts-or-rejects false true true None open_ room allowed full due e f g k d = rw (e, f, g, k) (accepts refl refl)
+accepts-or-rejects false true true (Some m) open_ room allowed full due e f g k d = rw (e, f, g, k, d m refl) (rejects m refl refl refl)
+accepts-or-rejects false false true None open_ room allowed full due e f g k d = rw (e, f, g, k) (accepts refl refl)
+accepts-or-rejects false false true (Some m) open_ room allowed full due e f g k d = rw (e, f, g, k, d m refl) (rejects m refl refl refl)
+accepts-or-rejects false false false None open_ room allowed full due e f g k d = rw (e, f, g, k) (accepts refl refl)
+accepts-or-rejects false false false (Some m) open_ room allowed full due e f g k d = rw (e, f, g, k, d m refl) (rejects m refl refl refl)
 
-record Judged (free : Free) (mode : Mode) (base : Base) (calls : Calls) (context place : ℕ) (n : ℕ) (linked : Option ℤ) (argument : Carried) (octets : List ℕ) : Type 0 where
-  judgement : Judgement (invoke_problem (at mode base) calls (pos n) linked (Some place) argument)
+record IsAcceptedOrRejected (free : Free) (mode : Mode) (base : Base) (calls : Calls) (context place : ℕ) (n : ℕ) (linked : Option ℤ) (argument : Carried) (octets : List ℕ) : Type 0 where
+  is_either : AcceptsOrRejects (invoke_problem (at mode base) calls (pos n) linked (Some place) argument)
       (is_accepted (setup_seen free mode base) (calls_seen calls) (model_invoke n place (option_map number_seen linked) octets))
       (problem_due base (calls_seen calls) (model_invoke n place (option_map number_seen linked) octets))
 
-judged : (free : Free) (mode : Mode) (base : Base) (calls : Calls) (context place : ℕ) (n : ℕ) (linked : Option ℤ) (argument : Carried) (octets : List ℕ) → AreNumbered calls.made calls.opens → IsNamed linked → argument_problem (at mode base) (operation_at base.tables place) argument ≡ None → Judged free mode base calls context place n linked argument octets
-judged free mode base calls context place n linked argument octets h i fits =
+is-accepted-or-rejected : (free : Free) (mode : Mode) (base : Base) (calls : Calls) (context place : ℕ) (n : ℕ) (linked : Option ℤ) (argument : Carried) (octets : List ℕ) → AreNumbered calls.made calls.opens → IsNamed linked → argument_problem (at mode base) (operation_at base.tables place) argument ≡ None → IsAcceptedOrRejected free mode base calls context place n linked argument octets
+is-accepted-or-rejected free mode base calls context place n linked argument octets h i fits =
     let l = link-seen free mode base calls place linked h i in
     let len : length (calls_seen calls).peer_open ≡ length (opens_of false calls.opens) = length-seen false [] calls.opens ∙ omega arith in
     let b : Bool = nat_le most_open (length (opens_of false calls.opens)) in
     let s : Bool = is_silent_at base (Some place) in
-    let j = judge (is_some (opened_with false (pos n) calls.opens)) b s (link_problem (at mode base) calls place linked) (is_open n (calls_seen calls).peer_open) (has_room (setup_seen free mode base) place (calls_seen calls).peer_open) (is_link_allowed (setup_seen free mode base) (calls_seen calls).own_open place (option_map number_seen linked)) (nat_le most_open (length (calls_seen calls).peer_open)) (link_due base (calls_seen calls).own_open (option_map number_seen linked))
+    let j = accepts-or-rejects (is_some (opened_with false (pos n) calls.opens)) b s (link_problem (at mode base) calls place linked) (is_open n (calls_seen calls).peer_open) (has_room (setup_seen free mode base) place (calls_seen calls).peer_open) (is_link_allowed (setup_seen free mode base) (calls_seen calls).own_open place (option_map number_seen linked)) (nat_le most_open (length (calls_seen calls).peer_open)) (link_due base (calls_seen calls).own_open (option_map number_seen linked))
     (open-seen false n calls.made calls.opens h)
     (ap (λ m. nat_le most_open m) len)
     (ap (λ m. s || nat_lt m most_open) len ∙ ap (λ x. s || x) (other-way (length (opens_of false calls.opens))))
     l.allowed l.due in
-    record { judgement = subst (λ x. Judgement (first_problem (problem_if (is_some (opened_with false (pos n) calls.opens)) 0) (first_problem (problem_if (b && not s) 3) (first_problem (link_problem (at mode base) calls place linked) x))) (is_accepted (setup_seen free mode base) (calls_seen calls) (model_invoke n place (option_map number_seen linked) octets)) (problem_due base (calls_seen calls) (model_invoke n place (option_map number_seen linked) octets))) (sym fits) j }
+    record { is_either = subst (λ x. AcceptsOrRejects (first_problem (problem_if (is_some (opened_with false (pos n) calls.opens)) 0) (first_problem (problem_if (b && not s) 3) (first_problem (link_problem (at mode base) calls place linked) x))) (is_accepted (setup_seen free mode base) (calls_seen calls) (model_invoke n place (option_map number_seen linked) octets)) (problem_due base (calls_seen calls) (model_invoke n place (option_map number_seen linked) octets))) (sym fits) j }
   where
     other-way : (m : ℕ) → nat_lt m most_open ≡ not (nat_le most_open m)
     other-way m = grind (arith, nat_tests)
@@ -188,7 +188,7 @@ judged free mode base calls context place n linked argument octets h i fits =
 record InvokeAt (free : Free) (mode : Mode) (base : Base) (calls : Calls) (context : ℕ) (p : Option ℕ) (n : ℕ) (linked : Option ℤ) (octets : List ℕ) (h : Heard) : Type 0 where
   calls_are : calls_seen h.calls ≡ heard (setup_seen free mode base) (calls_seen calls) context (model_invoke n (unwrap_or p 0) (option_map number_seen linked) octets)
   rejects_are : rejects_seen (at mode base) context h.reject ≡ rejects_of (setup_seen free mode base) (calls_seen calls) context (model_invoke n (unwrap_or p 0) (option_map number_seen linked) octets)
-  numbered : Numbered h.calls
+  numbered : AreNumberedCalls h.calls
   proper : IsProperReject (at mode base) h.reject
 
 not-so : false ≡ true → ⊥
@@ -203,10 +203,10 @@ abbrev heard_at : Base → Calls → ℕ → ℤ → Option ℤ → Carried → 
 heard_at base calls context id linked argument p =
     unless_problem (invoke_problem base calls id linked p argument) (rejected calls (Some id) problems.Invoke) (invoked base calls context id linked p argument)
 
-invoke-at : (free : Free) (mode : Mode) (base : Base) (calls : Calls) (context place : ℕ) (n : ℕ) (linked : Option ℤ) (argument : Carried) (octets : List ℕ) → AreNumbered calls.made calls.opens → IsNumber (pos n) → Judged free mode base calls context place n linked argument octets → InvokeAt free mode base calls context (Some place) n linked octets (heard_at (at mode base) calls context (pos n) linked argument (Some place))
-invoke-at free mode base calls context place n linked argument octets h i j = go j.judgement
+invoke-at : (free : Free) (mode : Mode) (base : Base) (calls : Calls) (context place : ℕ) (n : ℕ) (linked : Option ℤ) (argument : Carried) (octets : List ℕ) → AreNumbered calls.made calls.opens → IsNumber (pos n) → IsAcceptedOrRejected free mode base calls context place n linked argument octets → InvokeAt free mode base calls context (Some place) n linked octets (heard_at (at mode base) calls context (pos n) linked argument (Some place))
+invoke-at free mode base calls context place n linked argument octets h i j = go j.is_either
   where
-    go : Judgement (invoke_problem (at mode base) calls (pos n) linked (Some place) argument) (is_accepted (setup_seen free mode base) (calls_seen calls) (model_invoke n place (option_map number_seen linked) octets)) (problem_due base (calls_seen calls) (model_invoke n place (option_map number_seen linked) octets)) → InvokeAt free mode base calls context (Some place) n linked octets (heard_at (at mode base) calls context (pos n) linked argument (Some place))
+    go : AcceptsOrRejects (invoke_problem (at mode base) calls (pos n) linked (Some place) argument) (is_accepted (setup_seen free mode base) (calls_seen calls) (model_invoke n place (option_map number_seen linked) octets)) (problem_due base (calls_seen calls) (model_invoke n place (option_map number_seen linked) octets)) → InvokeAt free mode base calls context (Some place) n linked octets (heard_at (at mode base) calls context (pos n) linked argument (Some place))
     go (accepts p a) =
         let fresh : is_some (opened_with false (pos n) calls.opens) ≡ false = first-none (is_some (opened_with false (pos n) calls.opens)) _ p in
         record {
@@ -246,7 +246,7 @@ invoke-hears free mode base calls context (negsuc n) linked code argument h i = 
 invoke-hears free mode base calls context (pos n) linked code argument h i =
     let k = is-known (at mode base) code argument i.2 in
     let octets : List ℕ = base.spellings.apdu Der (apdus.Invoke (pos n) linked code argument) in
-    let one = invoke-at free mode base calls context k.place n linked (carried_in argument) octets h i.0 (judged free mode base calls context k.place n linked (carried_in argument) octets h i.1 k.fits) in
+    let one = invoke-at free mode base calls context k.place n linked (carried_in argument) octets h i.0 (is-accepted-or-rejected free mode base calls context k.place n linked (carried_in argument) octets h i.1 k.fits) in
     let at_code = subst (λ p. InvokeAt free mode base calls context p n linked octets (heard_at (at mode base) calls context (pos n) linked (carried_in argument) p)) (sym k.is_it) one in
     record { calls_are = at_code.calls_are; rejects_are = at_code.rejects_are; numbered = at_code.numbered; proper = at_code.proper }
 

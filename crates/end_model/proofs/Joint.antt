@@ -31,7 +31,7 @@ use Rattle.end_model.specs.Seen.{Free, set_seen, saved_seen, seen}
 use Rattle.end_model.specs.Rows.{at}
 use Rattle.end_model.specs.Words.{Means, AreMeant}
 use Rattle.end_model.specs.Acting.{ActsAs}
-use Rattle.end_model.specs.Steps.{AreOnWay, EndOf, BothEnds, TookIt, PassedIt, BreaksSo}
+use Rattle.end_model.specs.Steps.{AreOnWay, EndOf, RunWithBoth, TookIt, PassedIt, BreaksSo}
 use Rattle.end_model.specs.DirectEnds.{direct_common}
 use Rattle.end_model.specs.BothEnds.{Common, base_at, setup_of}
 use Rattle.end_model.specs.Sharing.{side_of, shared_all_sent, before}
@@ -165,7 +165,7 @@ module _ (free : Free) (tables : Tables) (spellings : Spellings) (a b : Config) 
 
   -- both ends beside the model, and what they share
   pub record Joint (world : World) (role : Role) (body : Body) (coming : List Message) (peer : Body) (to_peer : List Message) (fs gs : List (List SetItem)) (shared : Shared) : Type 0 where
-    pub ends : BothEnds free common proposed world role body coming peer to_peer
+    pub ends : RunWithBoth free common proposed world role body coming peer to_peer
     pub same : Same shared (shared_at setup world)
     pub own_sets : SetsOnWay coming fs (flight_to setup role world)
     pub peer_sets : SetsOnWay to_peer gs (flight_to setup (other role) world)

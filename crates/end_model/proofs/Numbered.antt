@@ -7,7 +7,7 @@ use Rattle.end_rules.specs.State.{OpenCall, Calls, is_whose, is_key, opened_with
 use Rattle.end_rules.specs.Base.{Base}
 use Rattle.end_rules.specs.Hearing.{is_silent_at, opening}
 use Rattle.end_model.specs.Seen.{number_seen}
-use Rattle.end_model.specs.OpenInvocations.{IsNumber, IsNumbered, AreNumbered, Numbered}
+use Rattle.end_model.specs.OpenInvocations.{IsNumber, IsNumbered, AreNumbered, AreNumberedCalls}
 use Rattle.end_model.proofs.Held.{eq-sym}
 use Rattle.end_model.proofs.OpenInvocations.{same-number, key-seen}
 
@@ -132,9 +132,9 @@ numbered-closed made own i (o ∷ os) h = go (numbered-closed made own i os h.2)
         opened-closed own o.own i o.id os h.1 in
         rw e (numbered-root made own i o h.0, none, later)
 
-pub numbered-opening : (base : Base) (o : OpenCall) (calls : Calls) → AreNumbered calls.made calls.opens → IsNumbered calls.made o → is_some (opened_with o.own o.id calls.opens) ≡ false → Numbered (opening base o calls)
+pub numbered-opening : (base : Base) (o : OpenCall) (calls : Calls) → AreNumbered calls.made calls.opens → IsNumbered calls.made o → is_some (opened_with o.own o.id calls.opens) ≡ false → AreNumberedCalls (opening base o calls)
 numbered-opening base o calls h i fresh = go (is_silent_at base (Some o.operation))
   where
-    go : (b : Bool) → Numbered (if b then calls else record calls { opens = calls.opens ++ o ∷ [] })
+    go : (b : Bool) → AreNumberedCalls (if b then calls else record calls { opens = calls.opens ++ o ∷ [] })
     go true = h
     go false = numbered-snoc calls.made calls.opens o h i fresh

@@ -26,7 +26,7 @@ use Rattle.agreement.specs.Worlds.Step.{Acts}
 use Rattle.agreement.specs.Laws.{handed_by}
 use Rattle.end_model.specs.Seen.{Free, role_seen, apdu_seen, seen, setup_seen}
 use Rattle.end_model.specs.Rows.{at}
-use Rattle.end_model.specs.OpenInvocations.{Numbered, IsProper}
+use Rattle.end_model.specs.OpenInvocations.{AreNumberedCalls, IsProper}
 use Rattle.end_model.specs.Words.{AreMeant, AreOurs}
 
 -- What the end does is the act: it may be done, what it leaves is the model's state, and what is sent is meant.
@@ -67,7 +67,7 @@ SetsIn Direct base body = Unit {0}
 SetsIn Reliable base body = Unit {0}
 
 pub record IsSoundBody (mode : Mode) (base : Base) (body : Body) : Type 0 where
-  pub numbered : Numbered body.calls
+  pub numbered : AreNumberedCalls body.calls
   pub calm : CalmIn mode body.link.awaits
   pub sets : SetsIn mode base body
   pub queues : QueuesIn mode body.sending.queue

@@ -86,7 +86,7 @@ pub data Reached (common : Common) : Two → Type 0 where
       → Reached common (stepped role body left aborts two)
   breaks : (two : Two) → Reached common two → Reached common (both_broke common two)
 
--- ---- the model of a pair of bodies
+-- ---- the model of two bodies
 
 abbrev pub setup_of : Free → Common → ModelSetup
 setup_of free common = setup_seen free common.mode (base_at Initiator common)

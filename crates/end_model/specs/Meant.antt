@@ -91,7 +91,7 @@ MeansWhat mode message act =
     (free : Free) (base : Base) (body : Body) →
     message_meant (message body) ∷ [] ≡ map Some (sent_by (setup_seen free mode base) (seen (at mode base) body) (act body))
 
-pub record Sent : Type 0 where
+pub record SentIsMeant : Type 0 where
   pub mark : MeansWhat Direct (λ body. Session (OfMarks (Mark (next_number body.saved)))) (λ body. Marks)
   pub mark_in_activity : MeansWhat Reliable (λ body. Session (OfMarks (Mark (suc (highest (pieces_of body.sending.current)))))) (λ body. Marks)
   pub give : (mode : Mode) (tokens : Option ℕ) → MeansWhat mode (λ body. Session (OfMarks (Give tokens))) (λ body. GivesTurn)

@@ -32,8 +32,8 @@ abbrev pub AreNumbered : ℕ → List OpenCall → Type 0
 AreNumbered made [] = Unit {0}
 AreNumbered made (o ∷ os) = IsNumbered made o × (is_some (opened_with o.own o.id os) ≡ false) × AreNumbered made os
 
-abbrev pub Numbered : Calls → Type 0
-Numbered calls = AreNumbered calls.made calls.opens
+abbrev pub AreNumberedCalls : Calls → Type 0
+AreNumberedCalls calls = AreNumbered calls.made calls.opens
 
 -- ---- APDUs
 

@@ -33,7 +33,7 @@ pub record EndOf (free : Free) (common : Common) (proposed : List Proposal) (wor
   pub flight : AreOnWay proposed (base_at Initiator common) coming (flight_to (setup_of free common) role world)
 
 -- a run, the end of this role, and the other
-pub record BothEnds (free : Free) (common : Common) (proposed : List Proposal) (world : World) (role : Role) (body : Body) (coming : List Message) (peer : Body) (to_peer : List Message) : Type 0 where
+pub record RunWithBoth (free : Free) (common : Common) (proposed : List Proposal) (world : World) (role : Role) (body : Body) (coming : List Message) (peer : Body) (to_peer : List Message) : Type 0 where
   pub run : IsRun (setup_of free common) world
   pub own : EndOf free common proposed world role body coming
   pub others : EndOf free common proposed world (other role) peer to_peer
@@ -42,8 +42,8 @@ pub record BothEnds (free : Free) (common : Common) (proposed : List Proposal) (
 abbrev pub ActsKept : Type 0
 ActsKept =
     (free : Free) (common : Common) (proposed : List Proposal) (world : World) (role : Role) (body later : Body) (coming : List Message) (peer : Body) (to_peer sent : List Message) (act : Act) →
-    BothEnds free common proposed world role body coming peer to_peer → ActsAs free common.mode (base_at role common) proposed body later sent act →
-    BothEnds free common proposed (By role (Acts act) ∷ world) role later coming peer (to_peer ++ sent)
+    RunWithBoth free common proposed world role body coming peer to_peer → ActsAs free common.mode (base_at role common) proposed body later sent act →
+    RunWithBoth free common proposed (By role (Acts act) ∷ world) role later coming peer (to_peer ++ sent)
 
 -- The word that comes next has no fault, and is taken, where the end isn't over and doesn't pass it over: what the word means
 -- may be taken in every run, and with that the word is taken as the message.
@@ -51,12 +51,12 @@ pub record TookIt (free : Free) (common : Common) (proposed : List Proposal) (wo
   pub message : ModelMessage
   pub means : Means proposed (base_at Initiator common) word message
   pub no_fault : word_fault (base_at role common) body word ≡ None
-  pub ends : BothEnds free common proposed (By role (Takes message choice) ∷ world) role (after_word (base_at role common) body word) left peer (to_peer ++ answers_to_word (base_at role common) body word)
+  pub ends : RunWithBoth free common proposed (By role (Takes message choice) ∷ world) role (after_word (base_at role common) body word) left peer (to_peer ++ answers_to_word (base_at role common) body word)
 
 abbrev pub TakesKept : Type 0
 TakesKept =
     (free : Free) (common : Common) (proposed : List Proposal) (world : World) (role : Role) (body : Body) (word : Word) (left : List Message) (peer : Body) (to_peer : List Message) (choice : Choice) →
-    BothEnds free common proposed world role body (Session word ∷ left) peer to_peer →
+    RunWithBoth free common proposed world role body (Session word ∷ left) peer to_peer →
     ((seen (base_at role common) body).phase ≡ Over → ⊥) →
     ((message : ModelMessage) → Means proposed (base_at Initiator common) word message → is_purged role (seen (base_at role common) body).awaits message ≡ false) →
     ((message : ModelMessage) → Means proposed (base_at Initiator common) word message → IsChoice (setup_of free common) (seen (base_at role common) body) message choice) →
@@ -67,12 +67,12 @@ TakesKept =
 -- what is passed over: all by an end that is over, or what is purged
 pub record PassedIt (free : Free) (common : Common) (proposed : List Proposal) (world : World) (role : Role) (body : Body) (left : List Message) (peer : Body) (to_peer : List Message) : Type 0 where
   pub message : ModelMessage
-  pub ends : BothEnds free common proposed (By role (Passes message) ∷ world) role body left peer to_peer
+  pub ends : RunWithBoth free common proposed (By role (Passes message) ∷ world) role body left peer to_peer
 
 abbrev pub PassesKept : Type 0
 PassesKept =
     (free : Free) (common : Common) (proposed : List Proposal) (world : World) (role : Role) (body : Body) (word : Word) (left : List Message) (peer : Body) (to_peer : List Message) →
-    BothEnds free common proposed world role body (Session word ∷ left) peer to_peer →
+    RunWithBoth free common proposed world role body (Session word ∷ left) peer to_peer →
     ((message : ModelMessage) → Means proposed (base_at Initiator common) word message →
     ((seen (base_at role common) body).phase ≡ Over) ⊎ (is_purged role (seen (base_at role common) body).awaits message ≡ true)) →
     PassedIt free common proposed world role body left peer to_peer
@@ -85,19 +85,19 @@ BreaksSo common body =
 abbrev pub BreaksKept : Type 0
 BreaksKept =
     (free : Free) (common : Common) (proposed : List Proposal) (world : World) (role : Role) (body : Body) (coming : List Message) (peer : Body) (to_peer : List Message) →
-    BothEnds free common proposed world role body coming peer to_peer → BreaksSo common body → BreaksSo common peer →
-    BothEnds free common proposed (Break ∷ world) role (after_broke (base_at role common) body) [] (after_broke (base_at (other role) common) peer) []
+    RunWithBoth free common proposed world role body coming peer to_peer → BreaksSo common body → BreaksSo common peer →
+    RunWithBoth free common proposed (Break ∷ world) role (after_broke (base_at role common) body) [] (after_broke (base_at (other role) common) peer) []
 
 -- what the model doesn't see: a change of the body that it doesn't see, which sends transport units at most
 abbrev pub UnseenKept : Type 0
 UnseenKept =
     (free : Free) (common : Common) (proposed : List Proposal) (world : World) (role : Role) (body later : Body) (coming : List Message) (peer : Body) (to_peer sent : List Message) →
-    BothEnds free common proposed world role body coming peer to_peer → seen (base_at role common) later ≡ seen (base_at role common) body →
+    RunWithBoth free common proposed world role body coming peer to_peer → seen (base_at role common) later ≡ seen (base_at role common) body →
     AreMeant proposed (base_at role common) sent [] →
-    BothEnds free common proposed world role later coming peer (to_peer ++ sent)
+    RunWithBoth free common proposed world role later coming peer (to_peer ++ sent)
 
 -- and a transport unit that comes is none of the model's
 abbrev pub UnitsKept : Type 0
 UnitsKept =
     (free : Free) (common : Common) (proposed : List Proposal) (world : World) (role : Role) (body : Body) (unit : TransportUnit) (left : List Message) (peer : Body) (to_peer : List Message) →
-    BothEnds free common proposed world role body (Transport unit ∷ left) peer to_peer → BothEnds free common proposed world role body left peer to_peer
+    RunWithBoth free common proposed world role body (Transport unit ∷ left) peer to_peer → RunWithBoth free common proposed world role body left peer to_peer

@@ -4,7 +4,7 @@ ghost use Rattle.end_model.specs.Rows.{AssociationTaken, MarksSent, MarksTaken, 
 ghost use Rattle.end_model.specs.Rows.{ActivitiesTaken, TransfersSent, TransfersTaken};
 ghost use Rattle.end_model.specs.Rows.{AlterationsSent, Purged, PurgedOthers, GivingsTaken};
 ghost use Rattle.end_model.specs.Rows.{RestartsTaken, Connections, Resumptions, Broke};
-ghost use Rattle.end_model.specs.Meant.{Answered, RestartsAnswered, Sent};
+ghost use Rattle.end_model.specs.Meant.{Answered, RestartsAnswered, SentIsMeant};
 
 /// Marks, givings, pleas and restarts, as they are sent.
 pub fn marks_sent()
@@ -96,5 +96,5 @@ pub fn restarts_answered()
 
 /// What is sent of marks, givings, restarts, activities and a release.
 pub fn sent()
-    ensures rows { Sent }
+    ensures rows { SentIsMeant }
 {}

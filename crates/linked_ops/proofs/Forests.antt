@@ -193,7 +193,7 @@ module _ (rows : List Row) (nodes : Slab Node) (numbers : Numbers) (made : ℕ) 
                 ∙ sym (numbers_gone rows apart.places apart.numbers apart.keys n row.0 row.2 k ∙ ap (λ (z : Key). cond (same_key z k) None (number_of k rows)) its_key);
           })
 
-  -- ---- what is told
+  -- ---- what the calls answer
 
   some_number : (o : Option Row) → is_some (option_map (λ (r : Row). r.0) o) ≡ is_some o
   some_number None = refl

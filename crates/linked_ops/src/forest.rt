@@ -22,7 +22,7 @@ use std::marker::Model;
 pub type Keys = ListOf<Key>;
 
 /// Keys, each with the key above it.
-pub type Entries = ListOf<(Key, Option<Key>)>;
+pub type KeyEntries = ListOf<(Key, Option<Key>)>;
 
 /// The open invocations of both ends, in order of opening: nodes in a slab, linked by places, which
 /// a key finds by the number of its opening. A call costs at most the logarithm of what is open,
@@ -147,7 +147,7 @@ impl Forest {
     }
 
     /// All keys in order of opening, each with the key above it.
-    pub fn entries(&self) -> Result<Entries, NoMemory>
+    pub fn entries(&self) -> Result<KeyEntries, NoMemory>
         ensures { IfOk result (λ list. list ≡ self.now) }
     {
         let list = entries(self.alloc, &self.openings)?;

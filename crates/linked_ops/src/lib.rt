@@ -12,5 +12,5 @@ mod openings;
 mod trees;
 
 pub use children::Children;
-pub use forest::{Entries, Forest, Keys};
+pub use forest::{Forest, KeyEntries, Keys};
 pub use key::{ForestRefusal, Key};

@@ -30,7 +30,7 @@ use Rattle.module_faults.specs.Least.{fault, if_so}
 use Rattle.module_faults.specs.Names.{or_none}
 use Rattle.module_faults.specs.Facts.{DefaultKind, truth, numbers, items, other, unknown, Facts, deeper, has_item, takes, default_faults, text_tag, parts_nesting, plain_facts, type_facts}
 use Rattle.asn1_types.specs.Numbered.{kind_numbered, class_numbered}
-use Rattle.module_compiler.specs.Numbering.{Numbered, item_of, under, base_in, base, truth_number, item_number, number_in, default_number, with_default, part_of}
+use Rattle.module_compiler.specs.Numbering.{NumberedRows, item_of, under, base_in, base, truth_number, item_number, number_in, default_number, with_default, part_of}
 use Rattle.module_compiler.proofs.Faultless.{alias_slack}
 use Rattle.module_compiler.proofs.Tags.{or_first, or_second, AreAmong}
 
@@ -312,7 +312,7 @@ pub record IsMade (all : List TypeRow) (name : Located) (optional : Bool) (dflt 
   pub suits : IfSome p.default (SuitsBase facts.base)
   pub row : HasRow all p.inner.0 facts
 
-pub part_made : (name : Located) (optional : Bool) (dflt : Option DfltText) (of : TypeId) (s : Numbered) (facts : Facts) → HasRow s.rows of.0 facts → facts.nesting ≤ 32 → default_faults facts.base dflt ≡ []
+pub part_made : (name : Located) (optional : Bool) (dflt : Option DfltText) (of : TypeId) (s : NumberedRows) (facts : Facts) → HasRow s.rows of.0 facts → facts.nesting ≤ 32 → default_faults facts.base dflt ≡ []
     → (p : Part) × ((part_of name optional dflt of s ≡ Some (p, s)) × IsMade s.rows name optional dflt facts p)
 unfolding part_of
 part_made name optional dflt of s facts h deep e =

@@ -3,7 +3,7 @@ use Rattle.std.proofs.Common.{◌≡◌, ℕ, zero, suc, ◌+◌, ◌<◌, List,
 use Rattle.std.specs.Prelude.{slice_get}
 use Rattle.notation_tokens.specs.declared.token.Located.{Located}
 use Rattle.operation_notation.specs.declared.module.Assignment.{Assignment}
-use Rattle.operation_notation.specs.declared.module.Body.{Body}
+use Rattle.operation_notation.specs.declared.module.Assigned.{Assigned}
 use Rattle.module_faults.specs.Names.{or_none}
 use Rattle.module_compiler.specs.ModuleTables.{number_by, numbers_of}
 
@@ -19,7 +19,7 @@ drop_one (y ∷ ys) (suc i) x lt e =
     let same : suc (i + 1) ≡ suc i + 1 = omega arith in
     drop_one ys i x (omega arith) e ∙ ap (λ (k : ℕ). x ∷ drop k (y ∷ ys)) same
 
-pub numbers_step : (is : Body → Bool) (assignments : List Assignment) (names : List Located) (i : ℕ) (x : Located) (so_far next : List ℕ) (n : ℕ) → i < length names → x ≡ get_or names i x → number_by is assignments x.text ≡ Some n → next ≡ so_far ++ n ∷ []
+pub numbers_step : (is : Assigned → Bool) (assignments : List Assignment) (names : List Located) (i : ℕ) (x : Located) (so_far next : List ℕ) (n : ℕ) → i < length names → x ≡ get_or names i x → number_by is assignments x.text ≡ Some n → next ≡ so_far ++ n ∷ []
     → numbers_of is assignments next (drop (i + 1) names) ≡ numbers_of is assignments so_far (drop i names)
 unfolding numbers_of
 numbers_step is assignments names i x so_far next n lt e num grown =

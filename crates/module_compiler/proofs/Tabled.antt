@@ -10,8 +10,8 @@ use Rattle.notation_tokens.specs.declared.token.Located.{Located}
 use Rattle.operation_notation.specs.Tree.{TypeTree}
 use Rattle.operation_notation.specs.WellFormed.{IsWellUse, IsWellCode, IsWellBody, IsWellAssignment, IsWellFormed}
 use Rattle.operation_notation.specs.declared.module.Assignment.{Assignment}
-use Rattle.operation_notation.specs.declared.module.Body.{Body}
-use Rattle.operation_notation.specs.declared.module.Body.TheVariants as bodies
+use Rattle.operation_notation.specs.declared.module.Assigned.{Assigned}
+use Rattle.operation_notation.specs.declared.module.Assigned.TheVariants as bodies
 use Rattle.operation_notation.specs.declared.module.CodeText.{CodeText}
 use Rattle.operation_notation.specs.declared.module.ErrText.{ErrText}
 use Rattle.operation_notation.specs.declared.module.ModuleText.{ModuleText}
@@ -40,7 +40,7 @@ use Rattle.module_compiler.specs.declared.module_tables.Sort.TheVariants as sort
 use Rattle.module_compiler.specs.Refusals.{HasNoFault}
 use Rattle.module_compiler.specs.Tables.{AreTablesOf}
 use Rattle.module_compiler.specs.Scope.{Ground, numbered, own_numbers}
-use Rattle.module_compiler.specs.Numbering.{Numbered, after, give, type_row, use_of}
+use Rattle.module_compiler.specs.Numbering.{NumberedRows, after, give, type_row, use_of}
 use Rattle.module_compiler.specs.ModuleTables.{sort_test, number_if, number_by, code_by, code_of, numbers_of, operation_of, error_of, with_operation, with_error, body_of, assignment_of, walk_all, start, whole, whole_of}
 use Rattle.module_compiler.proofs.Faultless.{IsFine, AreFine}
 use Rattle.module_compiler.proofs.Codes.{Coded, no_more, passed, coded, coded_few, own_rows}
@@ -50,12 +50,12 @@ use Rattle.module_compiler.proofs.Walked.{Good, Ended, fine_walked, behind_fine}
 
 -- ---- numbers of operations and errors
 
-own_first : (b : Body) (i j : ℕ) (x y z : List ℕ) → (n : ℕ) × (slice_get (numbered i j b x y z) zero ≡ Some n)
+own_first : (b : Assigned) (i j : ℕ) (x y z : List ℕ) → (n : ℕ) × (slice_get (numbered i j b x y z) zero ≡ Some n)
 own_first (bodies.Typed of) i j x y z = (0, refl)
 own_first (bodies.Operation o) i j x y z = (i, refl)
 own_first (bodies.Error e) i j x y z = (j, refl)
 
-own_next : (b : Body) (i j p : ℕ) (x y z : List ℕ) → ((n : ℕ) × (slice_get x p ≡ Some n)) → ((n : ℕ) × (slice_get y p ≡ Some n)) → ((n : ℕ) × (slice_get z p ≡ Some n)) → (n : ℕ) × (slice_get (numbered i j b x y z) (suc p) ≡ Some n)
+own_next : (b : Assigned) (i j p : ℕ) (x y z : List ℕ) → ((n : ℕ) × (slice_get x p ≡ Some n)) → ((n : ℕ) × (slice_get y p ≡ Some n)) → ((n : ℕ) × (slice_get z p ≡ Some n)) → (n : ℕ) × (slice_get (numbered i j b x y z) (suc p) ≡ Some n)
 own_next (bodies.Typed of) i j p x y z f g h = h
 own_next (bodies.Operation o) i j p x y z f g h = f
 own_next (bodies.Error e) i j p x y z f g h = g
@@ -67,8 +67,8 @@ own_at (x ∷ xs) i j (suc p) a e =
     own_next x.body i j p (own_numbers (i + 1) j xs) (own_numbers i (j + 1) xs) (own_numbers i j xs) (own_at xs (i + 1) j p a e) (own_at xs i (j + 1) p a e) (own_at xs i j p a e)
 
 -- a name that is wrong in no way has a number
-module _ (all : List Assignment) (is : Body → Bool) (wrong : Option Body → Option TableKind) (nobody : (name : Located) → kind_at (wrong None) name ≡ [] → ⊥)
-    (right : (b : Body) (name : Located) → kind_at (wrong (Some b)) name ≡ [] → is b ≡ true) where
+module _ (all : List Assignment) (is : Assigned → Bool) (wrong : Option Assigned → Option TableKind) (nobody : (name : Located) → kind_at (wrong None) name ≡ [] → ⊥)
+    (right : (b : Assigned) (name : Located) → kind_at (wrong (Some b)) name ≡ [] → is b ≡ true) where
   number_made : (name : Located) → kind_at (wrong (assigned all name.text)) name ≡ [] → (n : ℕ) × (number_by is all name.text ≡ Some n)
   unfolding number_by
   number_made name e = by_place (find all name.text) refl e
@@ -95,12 +95,12 @@ module _ (all : List Assignment) (is : Body → Bool) (wrong : Option Body → O
       let r = numbers_made (so_far ++ n.0 ∷ []) names (nothing_behind here (names_faults wrong all names) e) in
       (r.0, ap (λ (o : Option ℕ). or_none o (λ m. numbers_of is all (so_far ++ m ∷ []) names)) n.1 ∙ r.1)
 
-error_right : (b : Body) (name : Located) → kind_at (no_error (Some b)) name ≡ [] → sort_test sorts.Error b ≡ true
+error_right : (b : Assigned) (name : Located) → kind_at (no_error (Some b)) name ≡ [] → sort_test sorts.Error b ≡ true
 error_right (bodies.Typed of) name e = absurd cc
 error_right (bodies.Operation o) name e = absurd cc
 error_right (bodies.Error o) name e = refl
 
-operation_right : (b : Body) (name : Located) → kind_at (no_operation (Some b)) name ≡ [] → sort_test sorts.Operation b ≡ true
+operation_right : (b : Assigned) (name : Located) → kind_at (no_operation (Some b)) name ≡ [] → sort_test sorts.Operation b ≡ true
 operation_right (bodies.Typed of) name e = absurd cc
 operation_right (bodies.Operation o) name e = refl
 operation_right (bodies.Error o) name e = absurd cc
@@ -150,7 +150,7 @@ pub record FineError (all : List Assignment) (env : List ℕ → Facts) (name : 
   pub code : no_code name e.code ≡ []
   pub well : IfSome e.code IsWellCode
 
-abbrev pub FineBody : List Assignment → (List ℕ → Facts) → Located → Body → Type 0
+abbrev pub FineBody : List Assignment → (List ℕ → Facts) → Located → Assigned → Type 0
 FineBody all env name (bodies.Typed of) = IsFine all env 256 of
 FineBody all env name (bodies.Operation o) = FineOperation all env name o
 FineBody all env name (bodies.Error e) = FineError all env name e
@@ -177,13 +177,13 @@ module _ (all : List Assignment) (recursive : ℕ → Bool) (implicit : Bool) (f
   abbrev ground : Ground
   ground = record { assignments = all; implicit = implicit }
 
-  abbrev Fair : Numbered → Type 0
+  abbrev Fair : NumberedRows → Type 0
   Fair s = Good all recursive implicit fine s
 
-  abbrev EndsFairly : (A : Type 0) → Numbered → Option (A × Numbered) → Type 0
+  abbrev EndsFairly : (A : Type 0) → NumberedRows → Option (A × NumberedRows) → Type 0
   EndsFairly A s r = Ended all recursive implicit fine A s r
 
-  use_made : (u : Option UseText) → FineUse all env u → (s : Numbered) → Fair s → EndsFairly Use s (use_of ground u s)
+  use_made : (u : Option UseText) → FineUse all env u → (s : NumberedRows) → Fair s → EndsFairly Use s (use_of ground u s)
   unfolding use_of type_row
   use_made None h s good = record { value = record { inner = None; optional = false }; now = s; is = refl; more = λ n row e. e; good = good }
   use_made (Some u) h s good =
@@ -191,7 +191,7 @@ module _ (all : List Assignment) (recursive : ℕ → Bool) (implicit : Bool) (f
       record {
         value = record { inner = Some w.id; optional = u.optional };
         now = w.now;
-        is = ap (λ (p : Option (TypeId × Numbered)). after p (λ id. give (record { inner = Some id; optional = u.optional }))) w.is;
+        is = ap (λ (p : Option (TypeId × NumberedRows)). after p (λ id. give (record { inner = Some id; optional = u.optional }))) w.is;
         more = w.more;
         good = w.good;
       }
@@ -206,11 +206,11 @@ module _ (all : List Assignment) (recursive : ℕ → Bool) (implicit : Bool) (f
     error_codes : Coded true xs (map (λ e. e.code) others)
 
   -- one assignment
-  record Step (a : Assignment) (made : Made) (s : Numbered) (r : Option (Made × Numbered)) : Type 0 where
+  record Step (a : Assignment) (made : Made) (s : NumberedRows) (r : Option (Made × NumberedRows)) : Type 0 where
     ended : EndsFairly Made s r
     grown : (xs : List Assignment) (final : Made) → Grown xs ended.value final → Grown (a ∷ xs) made final
 
-  operation_made : (made : Made) (name : Located) (o : OpText) (a : Assignment) → a.body ≡ bodies.Operation o → FineOperation all env name o → (s : Numbered) → Fair s
+  operation_made : (made : Made) (name : Located) (o : OpText) (a : Assignment) → a.body ≡ bodies.Operation o → FineOperation all env name o → (s : NumberedRows) → Fair s
       → Step a made s (after (operation_of ground name o s) (λ row. give (with_operation made row)))
   unfolding operation_of
   operation_made made name o one same h s good =
@@ -239,7 +239,7 @@ module _ (all : List Assignment) (recursive : ℕ → Bool) (implicit : Bool) (f
         };
       }
 
-  error_made : (made : Made) (name : Located) (o : ErrText) (a : Assignment) → a.body ≡ bodies.Error o → FineError all env name o → (s : Numbered) → Fair s → Step a made s (after (error_of ground name o s) (λ row. give (with_error made row)))
+  error_made : (made : Made) (name : Located) (o : ErrText) (a : Assignment) → a.body ≡ bodies.Error o → FineError all env name o → (s : NumberedRows) → Fair s → Step a made s (after (error_of ground name o s) (λ row. give (with_error made row)))
   unfolding error_of
   error_made made name o one same h s good =
       let p = use_made o.parameter h.parameter s good in
@@ -264,12 +264,12 @@ module _ (all : List Assignment) (recursive : ℕ → Bool) (implicit : Bool) (f
         };
       }
 
-  typed_made : (place : ℕ) (made : Made) (name : Located) (of : TypeTree) (a : Assignment) → a.body ≡ bodies.Typed of → type_at all place ≡ Some of → (s : Numbered) → Fair s → Step a made s (body_of ground place made name (bodies.Typed of) s)
+  typed_made : (place : ℕ) (made : Made) (name : Located) (of : TypeTree) (a : Assignment) → a.body ≡ bodies.Typed of → type_at all place ≡ Some of → (s : NumberedRows) → Fair s → Step a made s (body_of ground place made name (bodies.Typed of) s)
   unfolding type_row
   typed_made place made name of one same at s good =
       let w = behind_fine all recursive implicit fine place of at s good in
       record {
-        ended = record { value = made; now = w.now; is = ap (λ (p : Option (TypeId × Numbered)). after p (λ id. give made)) w.is; more = w.more; good = w.good };
+        ended = record { value = made; now = w.now; is = ap (λ (p : Option (TypeId × NumberedRows)). after p (λ id. give made)) w.is; more = w.more; good = w.good };
         grown = λ xs final g. record {
           own = g.own;
           others = g.others;
@@ -281,26 +281,26 @@ module _ (all : List Assignment) (recursive : ℕ → Bool) (implicit : Bool) (f
       }
 
   -- a type that is assigned stands at its place
-  abbrev IsHere : ℕ → Body → Type 0
+  abbrev IsHere : ℕ → Assigned → Type 0
   IsHere place (bodies.Typed of) = type_at all place ≡ Some of
   IsHere place (bodies.Operation o) = Unit {0}
   IsHere place (bodies.Error e) = Unit {0}
 
-  body_made : (place : ℕ) (made : Made) (name : Located) (b : Body) (a : Assignment) → a.body ≡ b → IsHere place b → FineBody all env name b → (s : Numbered) → Fair s → Step a made s (body_of ground place made name b s)
+  body_made : (place : ℕ) (made : Made) (name : Located) (b : Assigned) (a : Assignment) → a.body ≡ b → IsHere place b → FineBody all env name b → (s : NumberedRows) → Fair s → Step a made s (body_of ground place made name b s)
   body_made place made name (bodies.Typed of) a same at h s good = typed_made place made name of a same at s good
   body_made place made name (bodies.Operation o) a same at h s good = operation_made made name o a same h s good
   body_made place made name (bodies.Error e) a same at h s good = error_made made name e a same h s good
 
-  body_here : (place : ℕ) (a : Assignment) → slice_get all place ≡ Some a → (b : Body) → a.body ≡ b → IsHere place b
+  body_here : (place : ℕ) (a : Assignment) → slice_get all place ≡ Some a → (b : Assigned) → a.body ≡ b → IsHere place b
   body_here place a e (bodies.Typed of) same = ap (λ (o : Option Assignment). or_none o (λ x. typed x.body)) e ∙ ap typed same
   body_here place a e (bodies.Operation o) same = tt
   body_here place a e (bodies.Error o) same = tt
 
-  assignment_made : (place : ℕ) (made : Made) (a : Assignment) → slice_get all place ≡ Some a → FineBody all env a.name a.body → (s : Numbered) → Fair s → Step a made s (assignment_of ground place made a s)
+  assignment_made : (place : ℕ) (made : Made) (a : Assignment) → slice_get all place ≡ Some a → FineBody all env a.name a.body → (s : NumberedRows) → Fair s → Step a made s (assignment_of ground place made a s)
   unfolding assignment_of
   assignment_made place made a e h s good = body_made place made a.name a.body a refl (body_here place a e a.body refl) h s good
 
-  record Made_of (xs : List Assignment) (made : Made) (s : Numbered) (r : Option (Made × Numbered)) : Type 0 where
+  record Made_of (xs : List Assignment) (made : Made) (s : NumberedRows) (r : Option (Made × NumberedRows)) : Type 0 where
     ended : EndsFairly Made s r
     grown : Grown xs made ended.value
 
@@ -308,7 +308,7 @@ module _ (all : List Assignment) (recursive : ℕ → Bool) (implicit : Bool) (f
   append_none [] = refl
   append_none {X = X} (x ∷ xs) = ap (λ (l : List X). x ∷ l) (append_none xs)
 
-  all_made : (place : ℕ) (made : Made) (xs : List Assignment) → ((i : ℕ) (a : Assignment) → slice_get xs i ≡ Some a → slice_get all (place + i) ≡ Some a) → AllByRecursion (λ a. FineBody all env a.name a.body) xs → (s : Numbered) → Fair s
+  all_made : (place : ℕ) (made : Made) (xs : List Assignment) → ((i : ℕ) (a : Assignment) → slice_get xs i ≡ Some a → slice_get all (place + i) ≡ Some a) → AllByRecursion (λ a. FineBody all env a.name a.body) xs → (s : NumberedRows) → Fair s
       → Made_of xs made s (walk_all ground place made xs s)
   unfolding walk_all
   all_made place made [] at h s good = record {
@@ -326,7 +326,7 @@ module _ (all : List Assignment) (recursive : ℕ → Bool) (implicit : Bool) (f
         ended = record {
           value = v.ended.value;
           now = v.ended.now;
-          is = ap (λ (p : Option (Made × Numbered)). after p (λ now. walk_all ground (place + 1) now xs)) w.ended.is ∙ v.ended.is;
+          is = ap (λ (p : Option (Made × NumberedRows)). after p (λ now. walk_all ground (place + 1) now xs)) w.ended.is ∙ v.ended.is;
           more = λ n row e. v.ended.more n row (w.ended.more n row e);
           good = v.ended.good;
         };
@@ -368,7 +368,7 @@ module _ (all : List Assignment) (recursive : ℕ → Bool) where
   fine_use None f h le well = tt
   fine_use (Some u) f h le well = record { faults = f; shows = h; well = well; nests = le }
 
-  fine_body : (name : Located) (b : Body) → body_faults all name b ≡ [] → body_shows by_name name b ≡ [] → IsWellBody name b → FineBody all by_name name b
+  fine_body : (name : Located) (b : Assigned) → body_faults all name b ≡ [] → body_shows by_name name b ≡ [] → IsWellBody name b → FineBody all by_name name b
   fine_body name (bodies.Typed of) f h well = record {
     faults = f;
     shows = nothing_first (type_shows by_name 256 of) (too_deep name (type_facts by_name 256 of).nesting) h;
@@ -413,7 +413,7 @@ module _ (all : List Assignment) (recursive : ℕ → Bool) where
         fine_bodies xs (nothing_behind here (bodies_faults all xs) f) (nothing_behind shown (bodies_show by_name xs) h) well.1,
       )
 
-  typed_fine : (name : Located) (b : Body) (of : TypeTree) → typed b ≡ Some of → FineBody all by_name name b → IsFine all by_name 256 of
+  typed_fine : (name : Located) (b : Assigned) (of : TypeTree) → typed b ≡ Some of → FineBody all by_name name b → IsFine all by_name 256 of
   typed_fine name (bodies.Typed t) of e h = let same : t ≡ of = cc in subst (λ (x : TypeTree). IsFine all by_name 256 x) same h
   typed_fine name (bodies.Operation o) of e h = absurd cc
   typed_fine name (bodies.Error o) of e h = absurd cc

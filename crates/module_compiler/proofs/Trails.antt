@@ -9,8 +9,8 @@ use Rattle.std.proofs.lemmas.Map.Keys.{IsDistinct-cons}
 use Rattle.std.proofs.lemmas.Map.Steps.{length-le_from_distinct_below}
 use Rattle.operation_notation.specs.Tree.{TypeTree}
 use Rattle.operation_notation.specs.declared.module.Assignment.{Assignment}
-use Rattle.operation_notation.specs.declared.module.Body.{Body}
-use Rattle.operation_notation.specs.declared.module.Body.TheVariants as bodies
+use Rattle.operation_notation.specs.declared.module.Assigned.{Assigned}
+use Rattle.operation_notation.specs.declared.module.Assigned.TheVariants as bodies
 use Rattle.module_faults.specs.declared.kind.TableKind.TheVariants as kinds
 use Rattle.module_faults.specs.Least.{at_name}
 use Rattle.module_faults.specs.Names.{or_none, find, typed, type_at, type_place}
@@ -99,7 +99,7 @@ typed_below all q of e = go (slice_get all q) refl e
     go (Some a) s h = slice_get_within all q a s
 
 -- what a type names is what its assignment names
-uses_body : (all : List Assignment) (b : Body) (of : TypeTree) → typed b ≡ Some of → body_uses all b ≡ type_uses all 256 of
+uses_body : (all : List Assignment) (b : Assigned) (of : TypeTree) → typed b ≡ Some of → body_uses all b ≡ type_uses all 256 of
 uses_body all (bodies.Typed t) of e = let same : t ≡ of = cc in ap (type_uses all 256) same
 uses_body all (bodies.Operation o) of e = absurd cc
 uses_body all (bodies.Error o) of e = absurd cc

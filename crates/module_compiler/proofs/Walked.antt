@@ -25,7 +25,7 @@ use Rattle.module_faults.specs.Locals.{tag_faults, size_faults, in_parts, part_f
 use Rattle.module_faults.specs.Facts.{truth, items, other, Facts, simple, range_base, deeper, with_tags, clash, tags_behind, default_faults, parts_nesting, plain_facts, tagged as tagged_facts, type_facts, parts_show, plain_shows, type_shows, env_of}
 use Rattle.module_compiler.specs.Scope.{Ground, behind}
 use Rattle.asn1_types.specs.Numbered.{kind_numbered}
-use Rattle.module_compiler.specs.Numbering.{Numbered, Walk, after, add, add_if, range_row, most, size_of, item_of, is_explicit, tag_row, tagged, part_of, parts_of, note, known, walk_if_new, row_of, row_behind, named_row, plain_row, walk}
+use Rattle.module_compiler.specs.Numbering.{NumberedRows, Walk, after, add, add_if, range_row, most, size_of, item_of, is_explicit, tag_row, tagged, part_of, parts_of, note, known, walk_if_new, row_of, row_behind, named_row, plain_row, walk}
 use Rattle.module_compiler.proofs.Faultless.{IsFine, AreFine, slack, alias_slack, no_slack, slack_small, alias_slack_small, name_known, StandsBehind, stands, behind_is, name_stands}
 use Rattle.module_compiler.proofs.Trails.{place_typed}
 use Rattle.module_compiler.proofs.Parts.{no_fault_if, AreMade}
@@ -60,47 +60,47 @@ module _ (all : List Assignment) (recursive : ℕ → Bool) (implicit : Bool) (f
   ground = record { assignments = all; implicit = implicit }
 
   -- the rows are sound, and each type that has a row by now has one as its facts say
-  pub record Good (s : Numbered) : Type 0 where
+  pub record Good (s : NumberedRows) : Type 0 where
     pub sound : AreSoundRows s.rows
     pub so : (q : ℕ) (id : TypeId) (of : TypeTree) → slice_get s.given q ≡ Some (Some id) → type_at all q ≡ Some of → HasRow s.rows id.0 (type_facts env 256 of)
 
-  good_more : (old new : Numbered) → Extends old.rows new.rows → new.given ≡ old.given → AreSoundRows new.rows → Good old → Good new
+  good_more : (old new : NumberedRows) → Extends old.rows new.rows → new.given ≡ old.given → AreSoundRows new.rows → Good old → Good new
   good_more old new more same sound g = record {
     sound = sound;
     so = λ q id of e t. has_more old.rows new.rows id.0 (type_facts env 256 of) g.sound more (g.so q id of (sym (ap (λ (l : List (Option TypeId)). slice_get l q) same) ∙ e) t);
   }
 
   -- walking ended with a row as the facts say, and each type that has a row has such a one
-  pub record Walked (facts : Facts) (s : Numbered) (r : Option (TypeId × Numbered)) : Type 0 where
+  pub record Walked (facts : Facts) (s : NumberedRows) (r : Option (TypeId × NumberedRows)) : Type 0 where
     pub id : TypeId
-    pub now : Numbered
+    pub now : NumberedRows
     pub is : r ≡ Some (id, now)
     pub more : Extends s.rows now.rows
     pub good : Good now
     pub has : HasRow now.rows id.0 facts
 
   -- walking ended with something, and each type that has a row has one as its facts say
-  pub record Ended (A : Type 0) (s : Numbered) (r : Option (A × Numbered)) : Type 0 where
+  pub record Ended (A : Type 0) (s : NumberedRows) (r : Option (A × NumberedRows)) : Type 0 where
     pub value : A
-    pub now : Numbered
+    pub now : NumberedRows
     pub is : r ≡ Some (value, now)
     pub more : Extends s.rows now.rows
     pub good : Good now
 
-  as_facts : (f g : Facts) (s : Numbered) (r : Option (TypeId × Numbered)) → f ≡ g → Walked f s r → Walked g s r
+  as_facts : (f g : Facts) (s : NumberedRows) (r : Option (TypeId × NumberedRows)) → f ≡ g → Walked f s r → Walked g s r
   as_facts f g s r e w = record { id = w.id; now = w.now; is = w.is; more = w.more; good = w.good; has = subst (λ (x : Facts). HasRow w.now.rows w.id.0 x) e w.has }
 
-  as_result : (f : Facts) (s : Numbered) (r t : Option (TypeId × Numbered)) → t ≡ r → Walked f s r → Walked f s t
+  as_result : (f : Facts) (s : NumberedRows) (r t : Option (TypeId × NumberedRows)) → t ≡ r → Walked f s r → Walked f s t
   as_result f s r t e w = record { id = w.id; now = w.now; is = e ∙ w.is; more = w.more; good = w.good; has = w.has }
 
   pub all_more : (a b c : List TypeRow) → Extends a b → Extends b c → Extends a c
   all_more a b c f g n row e = g n row (f n row e)
 
   -- one more row
-  added : (row : TypeRow) (facts : Facts) (s : Numbered) → Good s → Suits s.rows row facts → HasRow (s.rows ++ row ∷ []) (length s.rows) facts → Walked facts s (add row s)
+  added : (row : TypeRow) (facts : Facts) (s : NumberedRows) → Good s → Suits s.rows row facts → HasRow (s.rows ++ row ∷ []) (length s.rows) facts → Walked facts s (add row s)
   unfolding add
   added row facts s good suits has =
-      let now : Numbered = record { rows = s.rows ++ row ∷ []; given = s.given } in
+      let now : NumberedRows = record { rows = s.rows ++ row ∷ []; given = s.given } in
       record {
         id = record { 0 = length s.rows };
         now = now;
@@ -110,18 +110,18 @@ module _ (all : List Assignment) (recursive : ℕ → Bool) (implicit : Bool) (f
         has = has;
       }
 
-  added_plain : (row : TypeRow) (facts : Facts) (s : Numbered) → Good s → Suits s.rows row facts → Untagged row → 1 ≤ facts.nesting → Fits row facts.base → Walked facts s (add row s)
+  added_plain : (row : TypeRow) (facts : Facts) (s : NumberedRows) → Good s → Suits s.rows row facts → Untagged row → 1 ≤ facts.nesting → Fits row facts.base → Walked facts s (add row s)
   added_plain row facts s good suits untagged deep fits = added row facts s good suits (plain_has s.rows row facts good.sound suits untagged deep fits)
 
   -- a row over one that was walked
-  then_add : (inner facts : Facts) (row : TypeId → TypeRow) (s : Numbered) (r : Option (TypeId × Numbered)) → ((id : TypeId) → Untagged (row id)) → 1 ≤ facts.nesting → ((id : TypeId) → Fits (row id) facts.base)
+  then_add : (inner facts : Facts) (row : TypeId → TypeRow) (s : NumberedRows) (r : Option (TypeId × NumberedRows)) → ((id : TypeId) → Untagged (row id)) → 1 ≤ facts.nesting → ((id : TypeId) → Fits (row id) facts.base)
       → ((all : List TypeRow) (id : TypeId) → Nests all id.0 inner → Suits all (row id) facts) → Walked inner s r → Walked facts s (after r (λ id. add (row id)))
   then_add inner facts row s r untagged deep fits suits w =
       let v = added_plain (row w.id) facts w.now w.good (suits w.now.rows w.id w.has.nests) (untagged w.id) deep (fits w.id) in
       record {
         id = v.id;
         now = v.now;
-        is = ap (λ (p : Option (TypeId × Numbered)). after p (λ id. add (row id))) w.is ∙ v.is;
+        is = ap (λ (p : Option (TypeId × NumberedRows)). after p (λ id. add (row id))) w.is ∙ v.is;
         more = all_more s.rows w.now.rows v.now.rows w.more v.more;
         good = v.good;
         has = v.has;
@@ -129,10 +129,10 @@ module _ (all : List Assignment) (recursive : ℕ → Bool) (implicit : Bool) (f
 
   -- ---- tags
 
-  tag_walked : (line column : ℕ) (tag : Option TagText) (facts : Facts) (s : Numbered) (r : Option (TypeId × Numbered)) → tag_faults line column tag ≡ [] → IfSome tag IsTag → (tagged_facts tag facts).nesting ≤ 32 → Walked facts s r
+  tag_walked : (line column : ℕ) (tag : Option TagText) (facts : Facts) (s : NumberedRows) (r : Option (TypeId × NumberedRows)) → tag_faults line column tag ≡ [] → IfSome tag IsTag → (tagged_facts tag facts).nesting ≤ 32 → Walked facts s r
       → Walked (tagged_facts tag facts) s (after r (tagged ground tag))
   unfolding tagged
-  tag_walked line column None facts s r f well deep w = record { id = w.id; now = w.now; is = ap (λ (p : Option (TypeId × Numbered)). after p (tagged ground None)) w.is; more = w.more; good = w.good; has = w.has }
+  tag_walked line column None facts s r f well deep w = record { id = w.id; now = w.now; is = ap (λ (p : Option (TypeId × NumberedRows)). after p (tagged ground None)) w.is; more = w.more; good = w.good; has = w.has }
   tag_walked line column (Some tag) facts s r f well deep w =
       let class = class_made tag.class well.class in
       let good_tag : is_bad_tag tag ≡ false = no_fault_if (is_bad_tag tag) (fault line column kinds.BadRange) f in
@@ -145,7 +145,7 @@ module _ (all : List Assignment) (recursive : ℕ → Bool) (implicit : Bool) (f
         id = v.id;
         now = v.now;
         is =
-            ap (λ (p : Option (TypeId × Numbered)). after p (tagged ground (Some tag))) w.is
+            ap (λ (p : Option (TypeId × NumberedRows)). after p (tagged ground (Some tag))) w.is
             ∙ ap (λ (c : Option Class). add_if c (tag_row explicit tag w.id) w.now) class.1.0
             ∙ v.is;
         more = all_more s.rows w.now.rows v.now.rows w.more v.more;
@@ -156,18 +156,18 @@ module _ (all : List Assignment) (recursive : ℕ → Bool) (implicit : Bool) (f
   -- ---- parts
 
   -- walking ended with parts that are as their texts say, behind those so far
-  pub record PartsWalked (facts : TypeTree → Facts) (texts : PartTrees) (before : List Part) (s : Numbered) (r : Option (List Part × Numbered)) : Type 0 where
+  pub record PartsWalked (facts : TypeTree → Facts) (texts : PartTrees) (before : List Part) (s : NumberedRows) (r : Option (List Part × NumberedRows)) : Type 0 where
     pub own : List Part
-    pub now : Numbered
+    pub now : NumberedRows
     pub is : r ≡ Some (before ++ own, now)
     pub more : Extends s.rows now.rows
     pub good : Good now
     pub made : AreMade facts now.rows texts own
 
   module _ (inner : TypeTree → Walk TypeId) (facts : TypeTree → Facts) (faults shows : TypeTree → List Found) (deep : ℕ) (few : deep ≤ 32)
-      (each : (of : TypeTree) → faults of ≡ [] → shows of ≡ [] → IsWellType of → (facts of).nesting ≤ deep → (s : Numbered) → Good s → Walked (facts of) s (inner of s)) where
+      (each : (of : TypeTree) → faults of ≡ [] → shows of ≡ [] → IsWellType of → (facts of).nesting ≤ deep → (s : NumberedRows) → Good s → Walked (facts of) s (inner of s)) where
     parts_walked : (may runs : Bool) (before : _) (n : ℕ) (parts : List Part) (ps : PartTrees) → in_parts faults ps ≡ [] → parts_show facts shows runs before ps ≡ [] → AreWellParts may ps → parts_nesting facts n ps ≤ deep
-        → (s : Numbered) → Good s → PartsWalked facts ps parts s (parts_of inner parts ps s)
+        → (s : NumberedRows) → Good s → PartsWalked facts ps parts s (parts_of inner parts ps s)
     unfolding parts_of
     parts_walked may runs before n parts no_parts f h well le s good = record { own = []; now = s; is = ap (λ (l : List Part). Some (l, s)) (sym (append-nil parts)); more = λ k row e. e; good = good; made = tt }
     parts_walked may runs before n parts (part name of optional dflt more) f h well le s good =
@@ -185,8 +185,8 @@ module _ (all : List Assignment) (recursive : ℕ → Bool) (implicit : Bool) (f
           own = p.0 ∷ v.own;
           now = v.now;
           is =
-              ap (λ (q : Option (TypeId × Numbered)). after (after q (part_of name optional dflt)) (λ (x : Part). parts_of inner (parts ++ x ∷ []) more)) w.is
-              ∙ ap (λ (q : Option (Part × Numbered)). after q (λ (x : Part). parts_of inner (parts ++ x ∷ []) more)) p.1.0
+              ap (λ (q : Option (TypeId × NumberedRows)). after (after q (part_of name optional dflt)) (λ (x : Part). parts_of inner (parts ++ x ∷ []) more)) w.is
+              ∙ ap (λ (q : Option (Part × NumberedRows)). after q (λ (x : Part). parts_of inner (parts ++ x ∷ []) more)) p.1.0
               ∙ v.is
               ∙ ap (λ (l : List Part). Some (l, v.now)) (append_assoc parts (p.0 ∷ []) v.own);
           more = all_more s.rows w.now.rows v.now.rows w.more v.more;
@@ -197,7 +197,7 @@ module _ (all : List Assignment) (recursive : ℕ → Bool) (implicit : Bool) (f
           );
         }
 
-  parts_add : (facts : Facts) (inner : TypeTree → Facts) (texts : PartTrees) (row : List Part → TypeRow) (s : Numbered) (r : Option (List Part × Numbered)) → ((parts : List Part) → Untagged (row parts)) → 1 ≤ facts.nesting
+  parts_add : (facts : Facts) (inner : TypeTree → Facts) (texts : PartTrees) (row : List Part → TypeRow) (s : NumberedRows) (r : Option (List Part × NumberedRows)) → ((parts : List Part) → Untagged (row parts)) → 1 ≤ facts.nesting
       → ((parts : List Part) → Fits (row parts) facts.base) → ((all : List TypeRow) (parts : List Part) → AreSoundRows all → AreMade inner all texts parts → Suits all (row parts) facts) → PartsWalked inner texts [] s r
       → Walked facts s (after r (λ parts. add (row parts)))
   parts_add facts inner texts row s r untagged deep fits suits w =
@@ -205,7 +205,7 @@ module _ (all : List Assignment) (recursive : ℕ → Bool) (implicit : Bool) (f
       record {
         id = v.id;
         now = v.now;
-        is = ap (λ (p : Option (List Part × Numbered)). after p (λ parts. add (row parts))) w.is ∙ v.is;
+        is = ap (λ (p : Option (List Part × NumberedRows)). after p (λ parts. add (row parts))) w.is ∙ v.is;
         more = all_more s.rows w.now.rows v.now.rows w.more v.more;
         good = v.good;
         has = v.has;
@@ -220,7 +220,7 @@ module _ (all : List Assignment) (recursive : ℕ → Bool) (implicit : Bool) (f
   set_slot (y ∷ xs) (suc i) v zero x e = inr e
   set_slot {X = X} (y ∷ xs) (suc i) v (suc k) x e = elim (set_slot xs i v k x e) as (λ (z : ((k ≡ i) × (v ≡ x)) ⊎ (slice_get xs k ≡ Some x)). ((suc k ≡ suc i) × (v ≡ x)) ⊎ (slice_get xs k ≡ Some x)) [ inl p ↦ inl (ap suc p.0, p.1) | inr q ↦ inr q ]
 
-  noted : (place : ℕ) (id : TypeId) (of : TypeTree) (s : Numbered) → type_at all place ≡ Some of → HasRow s.rows id.0 (type_facts env 256 of) → Good s → Good (record { rows = s.rows; given = slice_set s.given place (Some id) })
+  noted : (place : ℕ) (id : TypeId) (of : TypeTree) (s : NumberedRows) → type_at all place ≡ Some of → HasRow s.rows id.0 (type_facts env 256 of) → Good s → Good (record { rows = s.rows; given = slice_set s.given place (Some id) })
   noted place id of s at has good = record { sound = good.sound; so = λ q one t e here. by_slot q one t here (set_slot s.given place (Some id) q (Some one) e) }
     where
       by_slot : (q : ℕ) (one : TypeId) (t : TypeTree) → type_at all q ≡ Some t → ((q ≡ place) × (Some id ≡ Some one)) ⊎ (slice_get s.given q ≡ Some (Some one)) → HasRow s.rows one.0 (type_facts env 256 t)
@@ -231,9 +231,9 @@ module _ (all : List Assignment) (recursive : ℕ → Bool) (implicit : Bool) (f
           subst (λ (x : TypeId). HasRow s.rows x.0 (type_facts env 256 t)) same (subst (λ (x : TypeTree). HasRow s.rows id.0 (type_facts env 256 x)) types has)
       by_slot q one t here (inr e) = good.so q one t e here
 
-  module _ (turns : ℕ) (ih : (levels : ℕ) (of : TypeTree) → IsFine all env levels of → 2 * (type_facts env levels of).nesting + alias_slack of ≤ turns → (s : Numbered) → Good s → Walked (type_facts env levels of) s (walk ground turns of s)) where
+  module _ (turns : ℕ) (ih : (levels : ℕ) (of : TypeTree) → IsFine all env levels of → 2 * (type_facts env levels of).nesting + alias_slack of ≤ turns → (s : NumberedRows) → Good s → Walked (type_facts env levels of) s (walk ground turns of s)) where
     -- the type at a place that is no alias
-    place_walked : (place : ℕ) (of : TypeTree) → type_at all place ≡ Some of → 2 * (type_facts env 256 of).nesting + alias_slack of ≤ turns → (s : Numbered) → Good s → Walked (type_facts env 256 of) s (row_of ground (walk ground turns) place s)
+    place_walked : (place : ℕ) (of : TypeTree) → type_at all place ≡ Some of → 2 * (type_facts env 256 of).nesting + alias_slack of ≤ turns → (s : NumberedRows) → Good s → Walked (type_facts env 256 of) s (row_of ground (walk ground turns) place s)
     unfolding row_of
     place_walked place of at room s good =
         as_result (type_facts env 256 of) s (walk_if_new (walk ground turns) place (Some of) (known (slice_get s.given place)) s) (row_of ground (walk ground turns) place s)
@@ -246,7 +246,7 @@ module _ (all : List Assignment) (recursive : ℕ → Bool) (implicit : Bool) (f
             record {
               id = w.id;
               now = record { rows = w.now.rows; given = slice_set w.now.given place (Some w.id) };
-              is = ap (λ (p : Option (TypeId × Numbered)). after p (note place)) w.is;
+              is = ap (λ (p : Option (TypeId × NumberedRows)). after p (note place)) w.is;
               more = w.more;
               good = noted place w.id of w.now at w.has w.good;
               has = w.has;
@@ -258,7 +258,7 @@ module _ (all : List Assignment) (recursive : ℕ → Bool) (implicit : Bool) (f
         by_given (Some (Some id)) e = record { id = id; now = s; is = refl; more = λ n row h. h; good = good; has = good.so place id of e at }
 
     -- what stands behind a place
-    pub behind_walked : (p : ℕ) (facts : Facts) → StandsBehind all env (length all) p facts → 2 * facts.nesting ≤ turns → (s : Numbered) → Good s → Walked facts s (row_behind ground (walk ground turns) (behind all p) s)
+    pub behind_walked : (p : ℕ) (facts : Facts) → StandsBehind all env (length all) p facts → 2 * facts.nesting ≤ turns → (s : NumberedRows) → Good s → Walked facts s (row_behind ground (walk ground turns) (behind all p) s)
     behind_walked p facts b room s good =
         let none : alias_slack b.of ≡ 0 = no_slack b.of b.plain in
         let same : (type_facts env 256 b.of).nesting ≡ facts.nesting = ap (λ (f : Facts). f.nesting) b.same in
@@ -267,7 +267,7 @@ module _ (all : List Assignment) (recursive : ℕ → Bool) (implicit : Bool) (f
         (ap (λ (o : Option ℕ). row_behind ground (walk ground turns) o s) (behind_is all recursive fine p facts b))
         (place_walked b.place b.of b.at (omega arith) s good))
 
-    name_walked : (name : Located) (q : ℕ) → find all name.text ≡ Some q → StandsBehind all env (length all) q (env name.text) → 2 * (env name.text).nesting ≤ turns → (s : Numbered) → Good s
+    name_walked : (name : Located) (q : ℕ) → find all name.text ≡ Some q → StandsBehind all env (length all) q (env name.text) → 2 * (env name.text).nesting ≤ turns → (s : NumberedRows) → Good s
         → Walked (env name.text) s (named_row ground (walk ground turns) name.text s)
     unfolding named_row
     name_walked name q found b room s good =
@@ -286,13 +286,13 @@ module _ (all : List Assignment) (recursive : ℕ → Bool) (implicit : Bool) (f
       abbrev shows : TypeTree → List Found
       shows = type_shows env levels
 
-      inner_walked : (deep : ℕ) → 2 * deep + 1 ≤ turns → deep ≤ 32 → (of : TypeTree) → faults of ≡ [] → shows of ≡ [] → IsWellType of → (facts of).nesting ≤ deep → (s : Numbered) → Good s → Walked (facts of) s (walk ground turns of s)
+      inner_walked : (deep : ℕ) → 2 * deep + 1 ≤ turns → deep ≤ 32 → (of : TypeTree) → faults of ≡ [] → shows of ≡ [] → IsWellType of → (facts of).nesting ≤ deep → (s : NumberedRows) → Good s → Walked (facts of) s (walk ground turns of s)
       inner_walked deep room few of f h well le s good =
           let slack : alias_slack of ≤ 1 = alias_slack_small of in
           ih levels of (record { faults = f; shows = h; well = well; nests = omega arith }) (omega arith) s good
 
       item_walked : (item : TypeTree) (over : Facts) (row : TypeId → TypeRow) → over.nesting ≡ deeper (facts item).nesting → over.base ≡ other → ((id : TypeId) → Untagged (row id)) → ((all : List TypeRow) (id : TypeId) → Nests all id.0 (facts item) → Suits all (row id) over) → faults item ≡ [] → shows item ≡ []
-          → IsWellType item → over.nesting ≤ 32 → 2 * over.nesting ≤ suc turns → (s : Numbered) → Good s → Walked over s (after (walk ground turns item s) (λ of. add (row of)))
+          → IsWellType item → over.nesting ≤ 32 → 2 * over.nesting ≤ suc turns → (s : NumberedRows) → Good s → Walked over s (after (walk ground turns item s) (λ of. add (row of)))
       item_walked item over row nests is untagged suits f h well few room s good =
           let pos : 1 ≤ deeper (facts item).nesting = deeper_pos (facts item).nesting in
           let small : deeper (facts item).nesting ≤ 32 = omega arith in
@@ -301,7 +301,7 @@ module _ (all : List Assignment) (recursive : ℕ → Bool) (implicit : Bool) (f
           (inner_walked (facts item).nesting (omega arith) (omega arith) item f h well (omega arith) s good)
 
       row_walked : (may runs : Bool) (ps : PartTrees) (over : Facts) (row : List Part → TypeRow) → over.nesting ≡ deeper (parts_nesting facts 0 ps) → over.base ≡ other → ((parts : List Part) → Untagged (row parts))
-          → ((all : List TypeRow) (parts : List Part) → AreSoundRows all → AreMade facts all ps parts → Suits all (row parts) over) → in_parts faults ps ≡ [] → parts_show facts shows runs [] ps ≡ [] → AreWellParts may ps → over.nesting ≤ 32 → 2 * over.nesting ≤ suc turns → (s : Numbered) → Good s
+          → ((all : List TypeRow) (parts : List Part) → AreSoundRows all → AreMade facts all ps parts → Suits all (row parts) over) → in_parts faults ps ≡ [] → parts_show facts shows runs [] ps ≡ [] → AreWellParts may ps → over.nesting ≤ 32 → 2 * over.nesting ≤ suc turns → (s : NumberedRows) → Good s
           → Walked over s (after (parts_of (walk ground turns) [] ps s) (λ parts. add (row parts)))
       row_walked may runs ps over row nests is untagged suits f h well few room s good =
           let deep : ℕ = parts_nesting facts 0 ps in
@@ -312,7 +312,7 @@ module _ (all : List Assignment) (recursive : ℕ → Bool) (implicit : Bool) (f
           (parts_walked (walk ground turns) facts faults shows deep (omega arith) (inner_walked deep (omega arith) (omega arith)) may runs [] 0 [] ps f h well (omega arith) s good)
 
       plain_walked : (plain : PlainTree) → plain_faults all faults plain ≡ [] → plain_shows facts shows plain ≡ [] → IsWellPlain plain → (plain_facts env facts plain).nesting ≤ 32 → 2 * (plain_facts env facts plain).nesting + slack plain ≤ suc turns
-          → (s : Numbered) → Good s → Walked (plain_facts env facts plain) s (plain_row ground (walk ground turns) plain s)
+          → (s : NumberedRows) → Good s → Walked (plain_facts env facts plain) s (plain_row ground (walk ground turns) plain s)
       unfolding plain_row
       plain_walked boolean f h well few room s good = added_plain rows.Boolean (plain_facts env facts boolean) s good (suited.suits_boolean s.rows truth) (λ g. refl) (omega arith) refl
       plain_walked null f h well few room s good = added_plain rows.Null (plain_facts env facts null) s good (suited.suits_null s.rows other) (λ g. refl) (omega arith) tt
@@ -393,11 +393,11 @@ module _ (all : List Assignment) (recursive : ℕ → Bool) (implicit : Bool) (f
   unfolding type_facts
   step_facts levels line column tag plain = refl
 
-  step_walk : (turns line column : ℕ) (tag : Option TagText) (plain : PlainTree) (s : Numbered) → walk ground (suc turns) (type_tree line column tag plain) s ≡ after (plain_row ground (walk ground turns) plain s) (tagged ground tag)
+  step_walk : (turns line column : ℕ) (tag : Option TagText) (plain : PlainTree) (s : NumberedRows) → walk ground (suc turns) (type_tree line column tag plain) s ≡ after (plain_row ground (walk ground turns) plain s) (tagged ground tag)
   unfolding walk
   step_walk turns line column tag plain s = refl
 
-  pub type_walked : (turns levels : ℕ) (of : TypeTree) → IsFine all env levels of → 2 * (type_facts env levels of).nesting + alias_slack of ≤ turns → (s : Numbered) → Good s → Walked (type_facts env levels of) s (walk ground turns of s)
+  pub type_walked : (turns levels : ℕ) (of : TypeTree) → IsFine all env levels of → 2 * (type_facts env levels of).nesting + alias_slack of ≤ turns → (s : NumberedRows) → Good s → Walked (type_facts env levels of) s (walk ground turns of s)
   type_walked zero levels of h room s good = let p = measure_pos env levels of in absurd (omega arith)
   type_walked (suc turns) zero of h room s good = absurd (no_levels of h.nests)
   type_walked (suc turns) (suc levels) (type_tree line column tag plain) h room s good =
@@ -411,10 +411,10 @@ module _ (all : List Assignment) (recursive : ℕ → Bool) (implicit : Bool) (f
       (tag_walked line column tag inner s (plain_row ground (walk ground turns) plain s) o.tagging o.tag_well o.nests (plain_walked turns (type_walked turns) levels plain o.faults o.shows o.well n.0 n.1 s good)))
 
   -- 65 are enough
-  pub fine_walked : (of : TypeTree) → IsFine all env 256 of → (s : Numbered) → Good s → Walked (type_facts env 256 of) s (walk ground 65 of s)
+  pub fine_walked : (of : TypeTree) → IsFine all env 256 of → (s : NumberedRows) → Good s → Walked (type_facts env 256 of) s (walk ground 65 of s)
   fine_walked of h s good = let nests : (type_facts env 256 of).nesting ≤ 32 = h.nests in let small : alias_slack of ≤ 1 = alias_slack_small of in type_walked 65 256 of h (omega arith) s good
 
-  pub behind_fine : (p : ℕ) (of : TypeTree) → type_at all p ≡ Some of → (s : Numbered) → Good s → Walked (type_facts env 256 of) s (row_behind ground (walk ground 65) (behind all p) s)
+  pub behind_fine : (p : ℕ) (of : TypeTree) → type_at all p ≡ Some of → (s : NumberedRows) → Good s → Walked (type_facts env 256 of) s (row_behind ground (walk ground 65) (behind all p) s)
   behind_fine p of at s good =
       let nests : (type_facts env 256 of).nesting ≤ 32 = (fine.fine p of at).nests in
       behind_walked 65 (type_walked 65) p (type_facts env 256 of) (stands all recursive fine p of at) (omega arith) s good

@@ -1,7 +1,7 @@
 -- A module to begin with: one operation, which adds to a number and gives the sum.
 use Rattle.std.specs.Prelude.{ℕ, pos, true, false, [], ◌∷◌, None, Some, codes}
 use Rattle.operation_notation.specs.Tree.{type_tree, integer}
-use Rattle.operation_notation.specs.declared.module.Body.TheVariants as bodies
+use Rattle.operation_notation.specs.declared.module.Assigned.TheVariants as bodies
 use Rattle.operation_notation.specs.declared.module.ModuleText.{ModuleText}
 use Rattle.operation_notation.specs.declared.module.OpText.{OpText}
 use Rattle.operation_notation.specs.declared.module.UseText.{UseText}

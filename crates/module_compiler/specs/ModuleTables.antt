@@ -2,8 +2,8 @@
 use Rattle.std.specs.Prelude.{◌≡◌, ℕ, ◌+◌, ℤ, Bool, true, false, slice_get, Result, Ok, Err, List, [], ◌∷◌, ◌++◌, length, Option, Some, None, replicate}
 use Rattle.notation_tokens.specs.declared.token.Located.{Located}
 use Rattle.operation_notation.specs.declared.module.Assignment.{Assignment}
-use Rattle.operation_notation.specs.declared.module.Body.{Body}
-use Rattle.operation_notation.specs.declared.module.Body.TheVariants as bodies
+use Rattle.operation_notation.specs.declared.module.Assigned.{Assigned}
+use Rattle.operation_notation.specs.declared.module.Assigned.TheVariants as bodies
 use Rattle.operation_notation.specs.declared.module.CodeText.{CodeText}
 use Rattle.operation_notation.specs.declared.module.OpText.{OpText}
 use Rattle.operation_notation.specs.declared.module.ErrText.{ErrText}
@@ -19,10 +19,10 @@ use Rattle.module_compiler.specs.declared.module_tables.Sort.{Sort}
 use Rattle.module_compiler.specs.declared.module_tables.Sort.TheVariants as sorts
 use Rattle.module_faults.specs.Names.{or_none, find}
 use Rattle.module_compiler.specs.Scope.{Ground, behind, own_numbers}
-use Rattle.module_compiler.specs.Numbering.{Numbered, Walk, ◌>>=◌, give, none, row_behind, type_row, use_of}
+use Rattle.module_compiler.specs.Numbering.{NumberedRows, Walk, ◌>>=◌, give, none, row_behind, type_row, use_of}
 
 -- whether a body is an operation's, or an error's
-abbrev pub sort_test : Sort → Body → Bool
+abbrev pub sort_test : Sort → Assigned → Bool
 sort_test sorts.Operation (bodies.Operation operation) = true
 sort_test sorts.Error (bodies.Error error) = true
 sort_test sort body = false
@@ -32,7 +32,7 @@ number_if true number = number
 number_if false number = None
 
 -- the number of the operation, or of the error, of a name
-unfoldable pub number_by : (Body → Bool) → List Assignment → List ℕ → Option ℕ
+unfoldable pub number_by : (Assigned → Bool) → List Assignment → List ℕ → Option ℕ
 number_by is assignments name = or_none (find assignments name) (λ place. or_none (slice_get assignments place) (λ a. number_if (is a.body) (slice_get (own_numbers 0 0 assignments) place)))
 
 abbrev pub code_by : Option ℤ → Option (List ℕ) → Option Code
@@ -44,7 +44,7 @@ abbrev pub code_of : Option CodeText → Option Code
 code_of code = or_none code (λ c. code_by c.local c.global)
 
 -- names as numbers, behind those so far
-unfoldable pub numbers_of : (Body → Bool) → List Assignment → List ℕ → List Located → Option (List ℕ)
+unfoldable pub numbers_of : (Assigned → Bool) → List Assignment → List ℕ → List Located → Option (List ℕ)
 numbers_of is assignments so_far [] = Some so_far
 numbers_of is assignments so_far (name ∷ names) = or_none (number_by is assignments name.text) (λ n. numbers_of is assignments (so_far ++ n ∷ []) names)
 
@@ -74,7 +74,7 @@ abbrev pub with_error : Made → ErrorRow → Made
 with_error made e = record { operations = made.operations; errors = made.errors ++ e ∷ [] }
 
 -- one assignment, at its place
-abbrev pub body_of : Ground → ℕ → Made → Located → Body → Walk Made
+abbrev pub body_of : Ground → ℕ → Made → Located → Assigned → Walk Made
 body_of scope place made name (bodies.Typed of) = row_behind scope (type_row scope) (behind scope.assignments place) >>= λ id. give made
 body_of scope place made name (bodies.Operation o) = operation_of scope name o >>= λ row. give (with_operation made row)
 body_of scope place made name (bodies.Error e) = error_of scope name e >>= λ row. give (with_error made row)
@@ -90,10 +90,10 @@ walk_all scope place made (a ∷ more) = assignment_of scope place made a >>= λ
 abbrev pub ground_of : ModuleText → Ground
 ground_of m = record { assignments = m.assignments; implicit = m.implicit }
 
-abbrev pub start : List Assignment → Numbered
+abbrev pub start : List Assignment → NumberedRows
 start assignments = record { rows = []; given = replicate (length assignments) None }
 
-abbrev pub whole : Option (Made × Numbered) → Option Whole
+abbrev pub whole : Option (Made × NumberedRows) → Option Whole
 whole None = None
 whole (Some p) = Some (record { types = p.1.rows; operations = p.0.operations; errors = p.0.errors })
 
@@ -102,6 +102,6 @@ unfoldable pub whole_of : Ground → Option Whole
 whole_of scope = whole (walk_all scope 0 (record { operations = []; errors = [] }) scope.assignments (start scope.assignments))
 
 -- what was made, and the rows that are left, are what walking gives
-abbrev pub GivesMade : Result (Unit {0}) Halt → Made → Numbered → Option (Made × Numbered) → Type 0
+abbrev pub GivesMade : Result (Unit {0}) Halt → Made → NumberedRows → Option (Made × NumberedRows) → Type 0
 GivesMade (Ok u) made s found = found ≡ Some (made, s)
 GivesMade (Err e) made s found = Unit {0}

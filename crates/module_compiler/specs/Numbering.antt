@@ -26,20 +26,20 @@ use Rattle.module_faults.specs.Names.{or_none, find, type_at}
 use Rattle.module_compiler.specs.Scope.{Ground, behind}
 
 -- the rows so far, and for each assignment the row of its type, once it has one
-pub record Numbered : Type 0 where
+pub record NumberedRows : Type 0 where
   pub rows : List TypeRow
   pub given : List (Option TypeId)
 
 -- what walking gives, and the rows that there are then; or nothing, where a type has no row
 abbrev pub Walk : Type 0 → Type 0
-Walk A = Numbered → Option (A × Numbered)
+Walk A = NumberedRows → Option (A × NumberedRows)
 
-abbrev pub after : {A B : Type 0} → Option (A × Numbered) → (A → Walk B) → Option (B × Numbered)
+abbrev pub after : {A B : Type 0} → Option (A × NumberedRows) → (A → Walk B) → Option (B × NumberedRows)
 after None f = None
 after (Some p) f = f p.0 p.1
 
 infixl 10 ◌>>=◌
-abbrev pub ◌>>=◌ : {A B : Type 0} → (Numbered → Option (A × Numbered)) → (A → Numbered → Option (B × Numbered)) → Numbered → Option (B × Numbered)
+abbrev pub ◌>>=◌ : {A B : Type 0} → (NumberedRows → Option (A × NumberedRows)) → (A → NumberedRows → Option (B × NumberedRows)) → NumberedRows → Option (B × NumberedRows)
 (r >>= f) s = after (r s) f
 
 abbrev pub give : {A : Type 0} → A → Walk A
@@ -49,7 +49,7 @@ abbrev pub none : {A : Type 0} → Walk A
 none s = None
 
 -- What a function returned, and the rows that it left, are what walking gives. Where it stops nothing is said of either.
-abbrev pub Gives : {A : Type 0} → Result A Halt → Numbered → Option (A × Numbered) → Type 0
+abbrev pub Gives : {A : Type 0} → Result A Halt → NumberedRows → Option (A × NumberedRows) → Type 0
 Gives (Ok a) s found = found ≡ Some (a, s)
 Gives (Err e) s found = Unit {0}
 
@@ -98,7 +98,7 @@ stated implicit None = not implicit
 stated implicit (Some explicit) = explicit
 
 -- over an untagged CHOICE a tag is explicit, whatever is written (X.680 31.2.7)
-abbrev pub is_explicit : Ground → TagText → TypeId → Numbered → Bool
+abbrev pub is_explicit : Ground → TagText → TypeId → NumberedRows → Bool
 is_explicit scope tag inner s = is_choice (slice_get s.rows inner.0) || stated scope.implicit tag.explicit
 
 abbrev pub tag_row : Bool → TagText → TypeId → Class → TypeRow
@@ -146,7 +146,7 @@ default_number table of (Some dflt) = option_map Some (or_none (base table of.0)
 
 -- ---- types, over what walks a type in them
 
-abbrev pub with_default : List ℕ → Bool → TypeId → Numbered → Option (Option ℤ) → Option (Part × Numbered)
+abbrev pub with_default : List ℕ → Bool → TypeId → NumberedRows → Option (Option ℤ) → Option (Part × NumberedRows)
 with_default name optional of s None = None
 with_default name optional of s (Some default) = Some (record { name = name; inner = of; optional = optional; default = default }, s)
 

@@ -2,8 +2,8 @@
 use Rattle.std.specs.Prelude.{ℕ, zero, suc, ◌+◌, Bool, true, false, List, [], ◌∷◌, length, Option, Some, None}
 use Rattle.operation_notation.specs.Tree.{TypeTree, type_tree, named}
 use Rattle.operation_notation.specs.declared.module.Assignment.{Assignment}
-use Rattle.operation_notation.specs.declared.module.Body.{Body}
-use Rattle.operation_notation.specs.declared.module.Body.TheVariants as bodies
+use Rattle.operation_notation.specs.declared.module.Assigned.{Assigned}
+use Rattle.operation_notation.specs.declared.module.Assigned.TheVariants as bodies
 use Rattle.module_faults.specs.Names.{or_none, find, type_at}
 
 -- what a module's types are read by: its assignments, and whether a tag is implicit unless it says otherwise
@@ -42,7 +42,7 @@ behind assignments place = behind_by assignments (length assignments) place
 -- ---- operations and errors, numbered each for themselves in the order of the text
 
 -- an operation's or error's own number, and then the others'
-abbrev pub numbered : ℕ → ℕ → Body → List ℕ → List ℕ → List ℕ → List ℕ
+abbrev pub numbered : ℕ → ℕ → Assigned → List ℕ → List ℕ → List ℕ → List ℕ
 numbered operations errors (bodies.Typed of) behind_operation behind_error behind_type = 0 ∷ behind_type
 numbered operations errors (bodies.Operation operation) behind_operation behind_error behind_type = operations ∷ behind_operation
 numbered operations errors (bodies.Error error) behind_operation behind_error behind_type = errors ∷ behind_error

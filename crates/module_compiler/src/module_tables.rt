@@ -12,7 +12,7 @@ use crate::numbering::Numbering;
 use crate::scope::Scope;
 use asn1_types::TypeTable;
 use notation_tokens::Located;
-use operation_notation::{Assignment, Body, CodeText, ErrText, OpText};
+use operation_notation::{Assigned, Assignment, CodeText, ErrText, OpText};
 use osi_base::{Copied, Indices};
 use std::alloc::Global;
 use stub_tables::{Code, ErrorRow, ErrorRows, Operation, Operations};
@@ -40,12 +40,12 @@ pub(crate) enum Sort {
 }
 
 /// Whether a body is of this sort.
-fn is_of(sort: Sort, body: &Body) -> bool
+fn is_of(sort: Sort, body: &Assigned) -> bool
     ensures { result ≡ sort_test sort body.now }
 {
     match (sort, body) {
-        (Sort::Operation, Body::Operation(_)) => true,
-        (Sort::Error, Body::Error(_)) => true,
+        (Sort::Operation, Assigned::Operation(_)) => true,
+        (Sort::Error, Assigned::Error(_)) => true,
         _ => false,
     }
 }
@@ -60,15 +60,15 @@ fn numbers(alloc: Global, assignments: &[Assignment]) -> Result<Vec<u32>, Halt>
     let mut rest = assignments;
     while let [assignment, more @ ..] = rest {
         match &assignment.body {
-            Body::Typed(_) => of.push(0)?,
-            Body::Operation(_) => {
+            Assigned::Typed(_) => of.push(0)?,
+            Assigned::Operation(_) => {
                 of.push(operations)?;
                 if operations == u32::MAX {
                     return Err(Halt::NoMemory);
                 }
                 operations += 1;
             }
-            Body::Error(_) => {
+            Assigned::Error(_) => {
                 of.push(errors)?;
                 if errors == u32::MAX {
                     return Err(Halt::NoMemory);
@@ -206,14 +206,14 @@ fn assign(
         (assignment_of scope.now place made.old assignment.now numbering.old) }
 {
     match &assignment.body {
-        Body::Typed(_) => {
+        Assigned::Typed(_) => {
             numbering.row_behind(alloc, scope, place)?;
         }
-        Body::Operation(text) => {
+        Assigned::Operation(text) => {
             let row = operation_row(alloc, scope, numbers, numbering, &assignment.name, text)?;
             made.operations.push(row)?;
         }
-        Body::Error(text) => {
+        Assigned::Error(text) => {
             let row = error_row(alloc, scope, numbering, &assignment.name, text)?;
             made.errors.push(row)?;
         }

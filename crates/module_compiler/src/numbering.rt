@@ -5,7 +5,7 @@ ghost use Rattle.std.specs.Option.{option_copied};
 ghost use Rattle.module_faults.specs.Names.{find, type_at, or_none};
 ghost use Rattle.module_compiler.specs.Scope.{behind};
 ghost use Rattle.operation_notation.specs.TreeView.{plain_of, parts_of as trees};
-ghost use Rattle.module_compiler.specs.Numbering.{Numbered, Gives, add, note, known, is_choice, base, base_in, range_row, size_of, item_of, item_number, number_in, default_number, part_of, tagged, parts_of, row_of, row_behind, named_row, plain_row, walk, type_row, use_of};
+ghost use Rattle.module_compiler.specs.Numbering.{NumberedRows, Gives, add, note, known, is_choice, base, base_in, range_row, size_of, item_of, item_number, number_in, default_number, part_of, tagged, parts_of, row_of, row_behind, named_row, plain_row, walk, type_row, use_of};
 
 use crate::fault::Halt;
 use crate::scope::Scope;
@@ -33,9 +33,9 @@ pub(crate) struct Numbering {
 
 impl Model for Numbering {
     ghost use Rattle.operation_notation.specs.TreeView.{plain_of, parts_of as trees};
-    ghost use Rattle.module_compiler.specs.Numbering.{Numbered};
+    ghost use Rattle.module_compiler.specs.Numbering.{NumberedRows};
 
-    ghost Value = { Numbered };
+    ghost Value = { NumberedRows };
 
     ghost view = { λ n. record { rows = n.types; given = n.given.items } };
 }

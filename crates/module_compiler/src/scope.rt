@@ -10,7 +10,7 @@ ghost use Rattle.module_compiler.specs.Kept.{AreFollowed, AreBehind, IsFollowed,
 
 use indexmap::IndexMap;
 use module_faults::{name_places, type_at};
-use operation_notation::{Assignment, Body, ModuleText, PlainText, TypeText};
+use operation_notation::{Assigned, Assignment, ModuleText, PlainText, TypeText};
 use osi_base::{Name, NoMemory};
 use std::alloc::Global;
 use std::marker::Model;
@@ -83,7 +83,7 @@ fn next(assignments: &[Assignment], places: &IndexMap<&str, u32>, place: u32) ->
         (find assignments.now) }
 {
     match &assignments.get(place as usize)?.body {
-        Body::Typed(of) => place_of(places, alias(of)?),
+        Assigned::Typed(of) => place_of(places, alias(of)?),
         _ => None,
     }
 }
@@ -93,7 +93,7 @@ fn is_type(assignments: &[Assignment], place: u32) -> bool
 {
     match assignments.get(place as usize) {
         Some(assignment) => match &assignment.body {
-            Body::Typed(of) => alias(of).is_none(),
+            Assigned::Typed(of) => alias(of).is_none(),
             _ => false,
         },
         None => false,

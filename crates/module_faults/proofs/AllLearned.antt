@@ -5,15 +5,15 @@ use Rattle.std.specs.List.{list_any, list_all}
 use Rattle.std.proofs.lemmas.Bool.{eq-eqb}
 use Rattle.operation_notation.specs.Tree.{TypeTree, type_tree, PlainTree, boolean, null, integer, enumerated, octets, bits, object_id, text, sequence_of, set_of, sequence, set, choice, named, PartTrees, no_parts, part}
 use Rattle.operation_notation.specs.declared.module.Assignment.{Assignment}
-use Rattle.operation_notation.specs.declared.module.Body.{Body}
-use Rattle.operation_notation.specs.declared.module.Body.TheVariants as bodies
+use Rattle.operation_notation.specs.declared.module.Assigned.{Assigned}
+use Rattle.operation_notation.specs.declared.module.Assigned.TheVariants as bodies
 use Rattle.operation_notation.specs.declared.module.UseText.{UseText}
 use Rattle.module_faults.specs.declared.type_facts.Facts.{Facts as FactsGiven}
 use Rattle.module_faults.specs.declared.reach_search.Standing.{Standing}
 use Rattle.module_faults.specs.Names.{or_none, find, typed, type_at, type_place}
 use Rattle.module_faults.specs.Recursion.{listed, parts_uses, plain_uses, type_uses, use_uses, body_uses, bodies_uses, list_at, Uses}
 use Rattle.module_faults.specs.Standings.{says}
-use Rattle.module_faults.specs.ReachSets.{AreTold}
+use Rattle.module_faults.specs.ReachSets.{IsRightSurvey}
 use Rattle.module_faults.specs.Facts.{type_facts}
 use Rattle.module_faults.specs.Known.{facts_of, is_known, known_env, settles, AreKnown, unknowns, AreLearned, ready_by, ready, AreAllLearned, is_type, AreSettled}
 use Rattle.module_faults.proofs.Recursing.{both, all_any, right}
@@ -89,13 +89,13 @@ module _ (all : List Assignment) where
   use_typed None = refl
   use_typed (Some u) = uses_typed 256 u.of
 
-  body_typed : (body : Body) → list_all (is_type all) (body_uses all body) ≡ true
+  body_typed : (body : Assigned) → list_all (is_type all) (body_uses all body) ≡ true
   body_typed (bodies.Typed of) = uses_typed 256 of
   body_typed (bodies.Operation o) = all_join (is_type all) (use_uses all o.argument) (use_uses all o.result) (use_typed o.argument) (use_typed o.result)
   body_typed (bodies.Error p) = use_typed p.parameter
 
   -- all that is named is settled, where all types are
-  pub body_settled : (standings : List Standing) (known : List (Option FactsGiven)) → AreSettled all standings known → (body : Body) → list_all (settles standings known) (body_uses all body) ≡ true
+  pub body_settled : (standings : List Standing) (known : List (Option FactsGiven)) → AreSettled all standings known → (body : Assigned) → list_all (settles standings known) (body_uses all body) ≡ true
   body_settled standings known settled body = all_where (is_type all) (settles standings known) settled.all_are (body_uses all body) (body_typed body)
 
   -- what a type names is what its assignment does
@@ -103,7 +103,7 @@ module _ (all : List Assignment) where
   uses_at [] place of h = absurd cc
   uses_at (a ∷ more) zero of h = by a.body h
     where
-      by : (body : Body) → typed body ≡ Some of → body_uses all body ≡ type_uses all 256 of
+      by : (body : Assigned) → typed body ≡ Some of → body_uses all body ≡ type_uses all 256 of
       by (bodies.Typed own) e = let same : own ≡ of = cc in ap (type_uses all 256) same
       by (bodies.Operation o) e = absurd cc
       by (bodies.Error p) e = absurd cc
@@ -204,7 +204,7 @@ module _ (all : List Assignment) (standings : List Standing) (known : List (Opti
 
   -- ---- where nothing more can be learned all is settled
 
-  module _ (told : AreTold (bodies_uses all all) standings) (done : AreAllLearned all standings known) where
+  module _ (survey : IsRightSurvey (bodies_uses all all) standings) (done : AreAllLearned all standings known) where
     named_unsettled : (place : ℕ) (of : TypeTree) → type_at all place ≡ Some of → settles standings known place ≡ false → Failing (settles standings known) (type_uses all 256 of)
     named_unsettled place of here s = failing (settles standings known) (type_uses all 256 of) (by (list_all (settles standings known) (type_uses all 256 of)) (sym none ∙ done place (type_within all all place of here)))
       where
@@ -215,7 +215,7 @@ module _ (all : List Assignment) (standings : List Standing) (known : List (Opti
         by true e = absurd cc
         by false e = refl
 
-    settled_in : (turns place : ℕ) → told.depth place < turns → is_type all place ≡ true → settles standings known place ≡ true
+    settled_in : (turns place : ℕ) → survey.depth place < turns → is_type all place ≡ true → settles standings known place ≡ true
     settled_in zero place lt t = absurd (omega arith)
     settled_in (suc turns) place lt t = by (settles standings known place) (type_at all place) refl refl t (settled_in turns)
       where
@@ -223,7 +223,7 @@ module _ (all : List Assignment) (standings : List Standing) (known : List (Opti
         apart true e f = cc
         apart false e f = cc
 
-        by : (b : Bool) (o : Option TypeTree) → settles standings known place ≡ b → type_at all place ≡ o → is_some o ≡ true → ((q : ℕ) → told.depth q < turns → is_type all q ≡ true → settles standings known q ≡ true) → b ≡ true
+        by : (b : Bool) (o : Option TypeTree) → settles standings known place ≡ b → type_at all place ≡ o → is_some o ≡ true → ((q : ℕ) → survey.depth q < turns → is_type all q ≡ true → settles standings known q ≡ true) → b ≡ true
         by true o s here t more = refl
         by false None s here t more = absurd cc
         by false (Some of) s here t more =
@@ -231,9 +231,9 @@ module _ (all : List Assignment) (standings : List Standing) (known : List (Opti
             let u : Uses (bodies_uses all all) place f.q = ap (list_any (nat_eq f.q)) (uses_at all all place of here) ∙ f.is_there in
             let p = neither (says standings place) (is_known (slice_get known place)) s in
             let q = neither (says standings f.q) (is_known (slice_get known f.q)) f.fails in
-            let falls : told.depth f.q < told.depth place = told.falls place f.q u p.0 q.0 in
-            let small : told.depth f.q < turns = omega arith in
+            let falls : survey.depth f.q < survey.depth place = survey.falls place f.q u p.0 q.0 in
+            let small : survey.depth f.q < turns = omega arith in
             absurd (apart (settles standings known f.q) (more f.q small (all_any (is_type all) f.q (type_uses all 256 of) (uses_typed all 256 of) f.is_there)) f.fails)
 
     pub all_settled : AreSettled all standings known
-    all_settled = record { all_are = λ place t. settled_in (suc (told.depth place)) place (omega arith) t }
+    all_settled = record { all_are = λ place t. settled_in (suc (survey.depth place)) place (omega arith) t }

@@ -7,7 +7,7 @@ use Rattle.std.proofs.lemmas.Option.{slice_get_within}
 use Rattle.module_faults.specs.declared.reach_search.Standing.{Standing}
 use Rattle.module_faults.specs.Recursion.{list_at, Uses, Reaches, at_once, over}
 use Rattle.module_faults.specs.Standings.{flag, says}
-use Rattle.module_faults.specs.ReachSets.{lacks, is_in, first_out, first_from, IsNext, IsClosed, outs, AreReached, IsReach, IsToldBySet, AreTold}
+use Rattle.module_faults.specs.ReachSets.{lacks, is_in, first_out, first_from, IsNext, IsClosed, outs, AreReached, IsReach, IsSurveyedBySet, IsRightSurvey}
 use Rattle.module_faults.proofs.Loops.{written_back}
 use Rattle.module_faults.proofs.Recursing.{either, right, place_in, flagged_within, ways}
 
@@ -184,21 +184,21 @@ ins_lt (false ∷ xs) (false ∷ ys) e h (suc to) a b = ins_lt xs ys (omega arit
 
 -- ---- what the sets of all places say
 
-module _ (lists : List (List ℕ)) (standings : List Standing) (count : length standings ≡ length lists) (told : (place : ℕ) → place < length lists → IsToldBySet lists standings place) where
+module _ (lists : List (List ℕ)) (standings : List Standing) (count : length standings ≡ length lists) (surveyed : (place : ℕ) → place < length lists → IsSurveyedBySet lists standings place) where
   sound_by : (place : ℕ) → says standings place ≡ true → Reaches lists place place
   sound_by place h =
       let lt : place < length lists = let s : place < length standings = flagged_within standings place h in omega arith in
-      let t = told place lt in
+      let t = surveyed place lt in
       t.is.are.sound place (sym t.agrees ∙ h)
 
   whole_by : (place : ℕ) → Reaches lists place place → says standings place ≡ true
   whole_by place r =
       let lt : place < length lists = reach_in lists place [] place place r in
-      let t = told place lt in
+      let t = surveyed place lt in
       t.agrees ∙ t.is.whole place r lt
 
   depth_by : (place : ℕ) → ((place < length lists) ⊎ (length lists ≤ place)) → ℕ
-  depth_by place (inl lt) = suc (ins (told place lt).reached)
+  depth_by place (inl lt) = suc (ins (surveyed place lt).reached)
   depth_by place (inr le) = 0
 
   falls_by : (from to : ℕ) → Uses lists from to → says standings to ≡ false → (a : (from < length lists) ⊎ (length lists ≤ from)) (b : (to < length lists) ⊎ (length lists ≤ to)) → depth_by to b < depth_by from a
@@ -206,15 +206,15 @@ module _ (lists : List (List ℕ)) (standings : List Standing) (count : length s
   falls_by from to u n (inr le) b = let lt : from < length lists = place_in lists from to u in absurd (omega arith)
   falls_by from to u n (inl lt) (inr le) = omega arith
   falls_by from to u n (inl lt) (inl less) =
-      let f = told from lt in
-      let t = told to less in
+      let f = surveyed from lt in
+      let t = surveyed to less in
       let same : length t.reached ≡ length f.reached = t.is.are.count ∙ sym f.is.are.count in
       let within : (q : ℕ) → is_in t.reached q ≡ true → q < length lists = λ q k. let s : q < length t.reached = in_within t.reached q k in let c : length t.reached ≡ length lists = t.is.are.count in omega arith in
       let less : ins t.reached < ins f.reached = ins_lt t.reached f.reached same (λ q k. f.is.whole q (over from to q u (t.is.are.sound q k)) (within q k)) to (sym t.agrees ∙ n) (f.is.whole to (at_once from to u) less) in
       omega arith
 
-  pub told_of_sets : AreTold lists standings
-  told_of_sets = record {
+  pub survey_of_sets : IsRightSurvey lists standings
+  survey_of_sets = record {
     sound = sound_by;
     whole = whole_by;
     depth = λ place. depth_by place (cases_lt place (length lists));
@@ -234,11 +234,11 @@ said_last [] s (suc place) e = absurd (omega arith)
 said_last (x ∷ ss) s zero e = absurd (omega arith)
 said_last (x ∷ ss) s (suc place) e = said_last ss s place (omega arith)
 
-pub one_told : (lists : List (List ℕ)) (standings : List Standing) (s : Standing) (reached : List Bool) (place : ℕ) → place ≡ length standings → IsReach lists place reached → s.is_recursive ≡ is_in reached place
-    → ((q : ℕ) → q < place → IsToldBySet lists standings q) → (q : ℕ) → q < place + 1 → IsToldBySet lists (standings ++ s ∷ []) q
-one_told lists standings s reached place e is said before q lt =
-    elim (cases_lt q place) as (λ z. IsToldBySet lists (standings ++ s ∷ []) q) [
+pub one_surveyed : (lists : List (List ℕ)) (standings : List Standing) (s : Standing) (reached : List Bool) (place : ℕ) → place ≡ length standings → IsReach lists place reached → s.is_recursive ≡ is_in reached place
+    → ((q : ℕ) → q < place → IsSurveyedBySet lists standings q) → (q : ℕ) → q < place + 1 → IsSurveyedBySet lists (standings ++ s ∷ []) q
+one_surveyed lists standings s reached place e is said before q lt =
+    elim (cases_lt q place) as (λ z. IsSurveyedBySet lists (standings ++ s ∷ []) q) [
       | inl less ↦ let t = before q less in let within : q < length standings = omega arith in record { reached = t.reached; is = t.is; agrees = said_before standings (s ∷ []) q within ∙ t.agrees }
       | inr le ↦ let same : place ≡ q = omega arith in
-          subst (λ (z : ℕ). IsToldBySet lists (standings ++ s ∷ []) z) same (record { reached = reached; is = is; agrees = said_last standings s place e ∙ said })
+          subst (λ (z : ℕ). IsSurveyedBySet lists (standings ++ s ∷ []) z) same (record { reached = reached; is = is; agrees = said_last standings s place e ∙ said })
     ]

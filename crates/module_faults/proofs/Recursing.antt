@@ -8,7 +8,7 @@ use Rattle.operation_notation.specs.declared.module.Assignment.{Assignment}
 use Rattle.module_faults.specs.declared.reach_search.Standing.{Standing}
 use Rattle.module_faults.specs.Recursion.{bodies_uses, list_by, list_at, Uses, Reaches, at_once, over, SaysRecursion}
 use Rattle.module_faults.specs.Standings.{flag, says, falls_to, all_fall, is_lower, leads_to, goes_on, is_earlier, is_place, comes_from, is_shown_by, is_shown_at, is_shown, AreShown}
-use Rattle.module_faults.specs.ReachSets.{AreTold}
+use Rattle.module_faults.specs.ReachSets.{IsRightSurvey}
 
 -- ---- tests
 
@@ -214,16 +214,16 @@ module _ (lists : List (List ℕ)) (standings : List Standing) (shown : AreShown
       close p root a (inl same) = subst (λ (z : ℕ). Reaches lists p z) (sym same) a
       close p root a (inr b) = ways lists p root p a b
 
--- what is checked is told
-pub shown_told : (lists : List (List ℕ)) (standings : List Standing) → AreShown lists standings → AreTold lists standings
-shown_told lists standings shown = record {
+-- a survey that passes the check is right
+pub shown_survey : (lists : List (List ℕ)) (standings : List Standing) → AreShown lists standings → IsRightSurvey lists standings
+shown_survey lists standings shown = record {
   sound = sound lists standings shown;
   whole = whole lists standings shown;
   depth = number lists standings shown;
   falls = λ from to u n m. (fall lists standings shown from to u).lt n;
 }
 
-pub says_recursion : (all : List Assignment) (lists : List (List ℕ)) (standings : List Standing) → lists ≡ bodies_uses all all → AreTold lists standings → SaysRecursion all (says standings)
-says_recursion all lists standings e told =
-    let right : AreTold (bodies_uses all all) standings = subst (λ (z : List (List ℕ)). AreTold z standings) e told in
+pub says_recursion : (all : List Assignment) (lists : List (List ℕ)) (standings : List Standing) → lists ≡ bodies_uses all all → IsRightSurvey lists standings → SaysRecursion all (says standings)
+says_recursion all lists standings e survey =
+    let right : IsRightSurvey (bodies_uses all all) standings = subst (λ (z : List (List ℕ)). IsRightSurvey z standings) e survey in
     record { sound = right.sound; whole = right.whole }

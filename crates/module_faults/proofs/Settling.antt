@@ -5,8 +5,8 @@ use Rattle.std.specs.List.{list_all}
 use Rattle.notation_tokens.specs.declared.token.Located.{Located}
 use Rattle.operation_notation.specs.Tree.{TypeTree, type_tree, PlainTree, boolean, null, integer, enumerated, octets, bits, object_id, text, sequence_of, set_of, sequence, set, choice, named, PartTrees, no_parts, part}
 use Rattle.operation_notation.specs.declared.module.Assignment.{Assignment}
-use Rattle.operation_notation.specs.declared.module.Body.{Body}
-use Rattle.operation_notation.specs.declared.module.Body.TheVariants as bodies
+use Rattle.operation_notation.specs.declared.module.Assigned.{Assigned}
+use Rattle.operation_notation.specs.declared.module.Assigned.TheVariants as bodies
 use Rattle.operation_notation.specs.declared.module.UseText.{UseText}
 use Rattle.module_faults.specs.declared.kind.TableKind.TheVariants as kinds
 use Rattle.module_faults.specs.declared.type_facts.Facts.{Facts as FactsGiven}
@@ -109,7 +109,7 @@ module _ (all : List Assignment) (t : ℕ → Bool) (e f : List ℕ → Facts) (
   use_same None h = (refl, refl)
   use_same (Some u) h = (shows_same 256 u.of h, ap (λ (x : Facts). x.nesting) (facts_same 256 u.of h))
 
-  pub body_same : (name : Located) (body : Body) → list_all t (body_uses all body) ≡ true → body_shows e name body ≡ body_shows f name body
+  pub body_same : (name : Located) (body : Assigned) → list_all t (body_uses all body) ≡ true → body_shows e name body ≡ body_shows f name body
   body_same name (bodies.Typed of) h =
       ap (λ (x : List Found). x ++ too_deep name (type_facts e 256 of).nesting) (shows_same 256 of h)
       ∙ ap (λ (x : Facts). type_shows f 256 of ++ too_deep name x.nesting) (facts_same 256 of h)
@@ -156,7 +156,7 @@ module _ (all : List Assignment) (standings : List Standing) (known : List (Opti
       apart false e f = cc
 
   -- what is assigned, where all that it names is settled
-  pub judged : (name : Located) (body : Body) → AreKnown all standings known (length all) → list_all (settles standings known) (body_uses all body) ≡ true → body_shows (known_env all standings known) name body ≡ body_shows (env_of all (says standings)) name body
+  pub judged : (name : Located) (body : Assigned) → AreKnown all standings known (length all) → list_all (settles standings known) (body_uses all body) ≡ true → body_shows (known_env all standings known) name body ≡ body_shows (env_of all (says standings)) name body
   judged name body a h =
       let one : suc (length all) ≡ length all + 1 = omega arith in
       body_same all (settles standings known) (known_env all standings known) (name_facts all (says standings) (suc (length all))) (agrees (length all) (length all) a (omega arith)) name body h

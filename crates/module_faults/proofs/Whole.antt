@@ -8,7 +8,7 @@ use Rattle.module_faults.specs.Met.{no_codes}
 use Rattle.module_faults.specs.Locals.{bodies_faults, double_names, double_codes}
 use Rattle.module_faults.specs.Recursion.{bodies_uses}
 use Rattle.module_faults.specs.Standings.{says}
-use Rattle.module_faults.specs.ReachSets.{AreTold}
+use Rattle.module_faults.specs.ReachSets.{IsRightSurvey}
 use Rattle.module_faults.specs.Facts.{env_of}
 use Rattle.module_faults.specs.Faults.{bodies_show, first_recursive, IsLeastFault}
 use Rattle.module_faults.proofs.LeastLaws.{least_two}
@@ -25,7 +25,7 @@ pub record Passes (all : List Assignment) (standings : List Standing) (a b c d e
   pub recursive : f ≡ least_from e (first_recursive (says standings) 0 all)
   pub shown : g ≡ least_from f (bodies_show (env_of all (says standings)) all)
 
-pub of_all : (all : List Assignment) (lists : List (List ℕ)) (standings : List Standing) (a b c d e f g : Option Found) → Passes all standings a b c d e f g → lists ≡ bodies_uses all all → AreTold lists standings → IsLeastFault all g
+pub of_all : (all : List Assignment) (lists : List (List ℕ)) (standings : List Standing) (a b c d e f g : Option Found) → Passes all standings a b c d e f g → lists ≡ bodies_uses all all → IsRightSurvey lists standings → IsLeastFault all g
 of_all all lists standings a b c d e f g p same shown =
     let shows : List Found = bodies_show (env_of all (says standings)) all in
     let recursion : List Found = first_recursive (says standings) 0 all in
@@ -54,7 +54,7 @@ pub record Mixed (all names : List Assignment) (standings : List Standing) (a b 
   pub recursive : f ≡ least_from e (first_recursive (says standings) 0 all)
   pub shown : g ≡ least_from f (bodies_show (env_of names (says standings)) names)
 
-pub of_names : (all names : List Assignment) (lists : List (List ℕ)) (standings : List Standing) (a b c d e f g : Option Found) → names ≡ all → Mixed all names standings a b c d e f g → lists ≡ bodies_uses names names → AreTold lists standings → IsLeastFault all g
+pub of_names : (all names : List Assignment) (lists : List (List ℕ)) (standings : List Standing) (a b c d e f g : Option Found) → names ≡ all → Mixed all names standings a b c d e f g → lists ≡ bodies_uses names names → IsRightSurvey lists standings → IsLeastFault all g
 of_names all names lists standings a b c d e f g same m used shown =
     of_all all lists standings a b c d e f g (record {
       none = m.none;

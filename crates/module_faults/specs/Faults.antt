@@ -4,8 +4,8 @@ use Rattle.osi_base.specs.Limits.{most_type_levels}
 use Rattle.notation_tokens.specs.declared.token.Located.{Located}
 use Rattle.operation_notation.specs.Tree.{TypeTree}
 use Rattle.operation_notation.specs.declared.module.Assignment.{Assignment}
-use Rattle.operation_notation.specs.declared.module.Body.{Body}
-use Rattle.operation_notation.specs.declared.module.Body.TheVariants as bodies
+use Rattle.operation_notation.specs.declared.module.Assigned.{Assigned}
+use Rattle.operation_notation.specs.declared.module.Assigned.TheVariants as bodies
 use Rattle.operation_notation.specs.declared.module.UseText.{UseText}
 use Rattle.module_faults.specs.declared.kind.TableKind.TheVariants as kinds
 use Rattle.module_faults.specs.declared.least.Found.{Found}
@@ -28,7 +28,7 @@ use_nesting env (Some u) = (type_facts env most_type_levels u.of).nesting
 abbrev pub too_deep : Located → ℕ → List Found
 too_deep name nesting = if_so (is_too_deep nesting) (at_name name kinds.TooNested)
 
-abbrev pub body_shows : (List ℕ → Facts) → Located → Body → List Found
+abbrev pub body_shows : (List ℕ → Facts) → Located → Assigned → List Found
 body_shows env name (bodies.Typed of) = type_shows env most_type_levels of ++ too_deep name (type_facts env most_type_levels of).nesting
 body_shows env name (bodies.Operation operation) =
     (use_shows env operation.argument ++ use_shows env operation.result)

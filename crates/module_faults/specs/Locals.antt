@@ -4,8 +4,8 @@ use Rattle.osi_base.specs.Limits.{most_alternatives, most_type_levels}
 use Rattle.notation_tokens.specs.declared.token.Located.{Located}
 use Rattle.operation_notation.specs.Tree.{TypeTree, type_tree, PlainTree, integer, enumerated, octets, sequence_of, set_of, sequence, set, choice, named, PartTrees, no_parts, part}
 use Rattle.operation_notation.specs.declared.module.Assignment.{Assignment}
-use Rattle.operation_notation.specs.declared.module.Body.{Body}
-use Rattle.operation_notation.specs.declared.module.Body.TheVariants as bodies
+use Rattle.operation_notation.specs.declared.module.Assigned.{Assigned}
+use Rattle.operation_notation.specs.declared.module.Assigned.TheVariants as bodies
 use Rattle.operation_notation.specs.declared.module.CodeText.{CodeText}
 use Rattle.operation_notation.specs.declared.module.ItemText.{ItemText}
 use Rattle.operation_notation.specs.declared.module.OpText.{OpText}
@@ -90,20 +90,20 @@ kind_at None name = []
 kind_at (Some kind) name = at_name name kind ∷ []
 
 -- what is wrong with a name in ERRORS that is assigned so
-abbrev pub no_error : Option Body → Option TableKind
+abbrev pub no_error : Option Assigned → Option TableKind
 no_error None = Some kinds.UnknownName
 no_error (Some (bodies.Typed of)) = Some kinds.NotError
 no_error (Some (bodies.Operation operation)) = Some kinds.NotError
 no_error (Some (bodies.Error error)) = None
 
 -- what is wrong with a name in LINKED
-abbrev pub no_operation : Option Body → Option TableKind
+abbrev pub no_operation : Option Assigned → Option TableKind
 no_operation None = Some kinds.UnknownName
 no_operation (Some (bodies.Typed of)) = Some kinds.NotOperation
 no_operation (Some (bodies.Operation operation)) = None
 no_operation (Some (bodies.Error error)) = Some kinds.NotOperation
 
-abbrev pub names_faults : (Option Body → Option TableKind) → List Assignment → List Located → List Found
+abbrev pub names_faults : (Option Assigned → Option TableKind) → List Assignment → List Located → List Found
 names_faults wrong all [] = []
 names_faults wrong all (name ∷ more) = kind_at (wrong (assigned all name.text)) name ++ names_faults wrong all more
 
@@ -130,7 +130,7 @@ operation_faults all name operation =
     ++ (names_faults no_error all operation.errors
     ++ (names_faults no_operation all operation.linked ++ no_code name operation.code))))
 
-abbrev pub body_faults : List Assignment → Located → Body → List Found
+abbrev pub body_faults : List Assignment → Located → Assigned → List Found
 body_faults all name (bodies.Typed of) = type_faults all most_type_levels of
 body_faults all name (bodies.Operation operation) = operation_faults all name operation
 body_faults all name (bodies.Error error) = use_faults all error.parameter ++ no_code name error.code
@@ -151,7 +151,7 @@ double_names all place [] = []
 double_names all place (a ∷ more) = if_so (not (is_at place (find all a.name.text))) (at_name a.name kinds.DoubleName) ++ double_names all (place + 1) more
 
 -- the code of an operation, or of an error
-abbrev pub own_code : Bool → Body → Option CodeText
+abbrev pub own_code : Bool → Assigned → Option CodeText
 own_code false (bodies.Operation operation) = operation.code
 own_code true (bodies.Error error) = error.code
 own_code errors body = None

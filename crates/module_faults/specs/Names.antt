@@ -8,8 +8,8 @@ use Rattle.indexmap.specs.IndexMap.{get_by}
 use denote.Ref.{Bor}
 use Rattle.operation_notation.specs.Tree.{TypeTree}
 use Rattle.operation_notation.specs.declared.module.Assignment.{Assignment}
-use Rattle.operation_notation.specs.declared.module.Body.{Body}
-use Rattle.operation_notation.specs.declared.module.Body.TheVariants as bodies
+use Rattle.operation_notation.specs.declared.module.Assigned.{Assigned}
+use Rattle.operation_notation.specs.declared.module.Assigned.TheVariants as bodies
 
 abbrev pub or_none : {A B : Type 0} → Option A → (A → Option B) → Option B
 or_none None f = None
@@ -20,10 +20,10 @@ unfoldable pub find : List Assignment → List ℕ → Option ℕ
 find all name = position_from (λ (a : Assignment). bytes_eq name a.name.text) 0 all
 
 -- what a name is assigned first
-abbrev pub assigned : List Assignment → List ℕ → Option Body
+abbrev pub assigned : List Assignment → List ℕ → Option Assigned
 assigned all name = or_none (find all name) (λ place. or_none (slice_get all place) (λ a. Some a.body))
 
-abbrev pub typed : Body → Option TypeTree
+abbrev pub typed : Assigned → Option TypeTree
 typed (bodies.Typed of) = Some of
 typed (bodies.Operation operation) = None
 typed (bodies.Error error) = None

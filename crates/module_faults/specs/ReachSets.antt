@@ -1,4 +1,4 @@
--- The sets of what assignments reach, as lists of tests of places; and what is told of which reach themselves.
+-- The sets of what assignments reach, as lists of tests of places; and what a survey says of which reach themselves.
 use Rattle.std.specs.Prelude.{◌≡◌, ℕ, zero, suc, ◌<◌, nat_eq, Bool, true, false, not, ◌||◌, List, [], ◌∷◌, length, Option, None, Some, slice_get, if◌then◌else◌}
 use Rattle.module_faults.specs.declared.reach_search.Standing.{Standing}
 use Rattle.module_faults.specs.Recursion.{list_at, Uses, Reaches}
@@ -51,13 +51,13 @@ pub record IsReach (lists : List (List ℕ)) (place : ℕ) (reached : List Bool)
   pub whole : (to : ℕ) → Reaches lists place to → to < length lists → is_in reached to ≡ true
 
 -- what is said of a place is what the set of what it reaches says
-pub record IsToldBySet (lists : List (List ℕ)) (standings : List Standing) (place : ℕ) : Type 0 where
+pub record IsSurveyedBySet (lists : List (List ℕ)) (standings : List Standing) (place : ℕ) : Type 0 where
   pub reached : List Bool
   pub is : IsReach lists place reached
   pub agrees : says standings place ≡ is_in reached place
 
--- What is said of which assignments reach themselves is so; and a number of each falls along names, among those that don't.
-pub record AreTold (lists : List (List ℕ)) (standings : List Standing) : Type 0 where
+-- The survey of which assignments reach themselves is right; and a number of each falls along names, among those that don't.
+pub record IsRightSurvey (lists : List (List ℕ)) (standings : List Standing) : Type 0 where
   pub sound : (place : ℕ) → says standings place ≡ true → Reaches lists place place
   pub whole : (place : ℕ) → Reaches lists place place → says standings place ≡ true
   pub depth : ℕ → ℕ

@@ -4,8 +4,8 @@ use Rattle.std.specs.List.{list_any}
 use Rattle.osi_base.specs.Limits.{most_type_levels}
 use Rattle.operation_notation.specs.Tree.{TypeTree, type_tree, PlainTree, sequence_of, set_of, sequence, set, choice, named, PartTrees, no_parts, part}
 use Rattle.operation_notation.specs.declared.module.Assignment.{Assignment}
-use Rattle.operation_notation.specs.declared.module.Body.{Body}
-use Rattle.operation_notation.specs.declared.module.Body.TheVariants as bodies
+use Rattle.operation_notation.specs.declared.module.Assigned.{Assigned}
+use Rattle.operation_notation.specs.declared.module.Assigned.TheVariants as bodies
 use Rattle.operation_notation.specs.declared.module.UseText.{UseText}
 use Rattle.module_faults.specs.Names.{type_place}
 
@@ -41,7 +41,7 @@ use_uses all None = []
 use_uses all (Some u) = type_uses all most_type_levels u.of
 
 -- those in what is assigned; LINKED and ERRORS don't count
-abbrev pub body_uses : List Assignment → Body → List ℕ
+abbrev pub body_uses : List Assignment → Assigned → List ℕ
 body_uses all (bodies.Typed of) = type_uses all most_type_levels of
 body_uses all (bodies.Operation operation) = use_uses all operation.argument ++ use_uses all operation.result
 body_uses all (bodies.Error error) = use_uses all error.parameter

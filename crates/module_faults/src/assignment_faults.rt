@@ -13,7 +13,7 @@ use crate::locals::{MOST_LEVELS, of_type, of_use};
 use crate::names::Names;
 use crate::seen_names::SeenCodes;
 use notation_tokens::Located;
-use operation_notation::{Assignment, Body, CodeText, OpText, UseText};
+use operation_notation::{Assigned, Assignment, CodeText, OpText, UseText};
 use osi_base::NoMemory;
 use std::alloc::Global;
 
@@ -28,23 +28,23 @@ fn kind_at(kind: Option<TableKind>, name: &Located, least: &mut Least)
 }
 
 /// What is wrong with a name in ERRORS that is assigned so.
-fn no_error(body: Option<&Body>) -> Option<TableKind>
+fn no_error(body: Option<&Assigned>) -> Option<TableKind>
     ensures { result ≡ no_error (option_copied body.entry) }
 {
     match body {
         None => Some(TableKind::UnknownName),
-        Some(Body::Error(_)) => None,
+        Some(Assigned::Error(_)) => None,
         Some(_) => Some(TableKind::NotError),
     }
 }
 
 /// What is wrong with a name in LINKED that is assigned so.
-fn no_operation(body: Option<&Body>) -> Option<TableKind>
+fn no_operation(body: Option<&Assigned>) -> Option<TableKind>
     ensures { result ≡ no_operation (option_copied body.entry) }
 {
     match body {
         None => Some(TableKind::UnknownName),
-        Some(Body::Operation(_)) => None,
+        Some(Assigned::Operation(_)) => None,
         Some(_) => Some(TableKind::NotOperation),
     }
 }
@@ -120,16 +120,16 @@ fn of_body(
     alloc: Global,
     names: &Names<'_>,
     name: &Located,
-    body: &Body,
+    body: &Assigned,
     least: &mut Least,
 ) -> Result<(), NoMemory>
     ensures { OnOk result (least.new.found ≡ least_from least.old.found
         (body_faults names.now name.now body.now)) }
 {
     match body {
-        Body::Typed(of) => of_type(alloc, names, MOST_LEVELS, of, least),
-        Body::Operation(text) => of_operation(alloc, names, name, text, least),
-        Body::Error(text) => {
+        Assigned::Typed(of) => of_type(alloc, names, MOST_LEVELS, of, least),
+        Assigned::Operation(text) => of_operation(alloc, names, name, text, least),
+        Assigned::Error(text) => {
             of_use(alloc, names, &text.parameter, least)?;
             no_code(name, &text.code, least);
             Ok(())
@@ -183,12 +183,12 @@ pub(crate) fn double_names(names: &Names<'_>, least: &mut Least) -> Result<(), N
 }
 
 /// The code of an operation, or of an error.
-fn own_code(errors: bool, body: &Body) -> Option<&CodeText>
+fn own_code(errors: bool, body: &Assigned) -> Option<&CodeText>
     ensures { option_copied result ≡ own_code errors body.now }
 {
     match (errors, body) {
-        (false, Body::Operation(operation)) => operation.code.as_ref(),
-        (true, Body::Error(error)) => error.code.as_ref(),
+        (false, Assigned::Operation(operation)) => operation.code.as_ref(),
+        (true, Assigned::Error(error)) => error.code.as_ref(),
         _ => None,
     }
 }

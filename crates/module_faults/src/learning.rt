@@ -4,7 +4,7 @@ ghost use Rattle.std.specs.Prelude.{◌≡◌, ℕ, ◌<◌, IfNone, IfOk, IfSom
 ghost use Rattle.std.specs.List.{list_all};
 ghost use Rattle.std.specs.Option.{option_copied};
 ghost use Rattle.module_faults.specs.Recursion.{bodies_uses};
-ghost use Rattle.module_faults.specs.ReachSets.{AreTold};
+ghost use Rattle.module_faults.specs.ReachSets.{IsRightSurvey};
 ghost use Rattle.module_faults.specs.Known.{settles, unknowns, ready, AreKnown, AreLearned, AreAllLearned, AreSettled};
 
 use crate::least::Least;
@@ -175,7 +175,7 @@ pub(crate) fn learn_all<'m>(
     standings: &[Standing],
     order: &[u32],
 ) -> Result<Vec<Option<Facts<'m>>>, NoMemory>
-    requires { AreTold (bodies_uses names.now names.now) standings.now }
+    requires { IsRightSurvey (bodies_uses names.now names.now) standings.now }
     ensures known { IfOk result (λ known. AreKnown names.now standings.now known.items
         (length names.now)) }
     ensures settled { IfOk result (λ known. AreSettled names.now standings.now known.items) }

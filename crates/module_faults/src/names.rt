@@ -7,7 +7,7 @@ ghost use Rattle.indexmap.specs.IndexMap.{get_by};
 ghost use Rattle.module_faults.specs.Names.{find, type_at, type_place, assigned, IsAdded, AreFound};
 
 use indexmap::IndexMap;
-use operation_notation::{Assignment, Body, TypeText};
+use operation_notation::{Assigned, Assignment, TypeText};
 use osi_base::{Name, NoMemory};
 use std::alloc::Global;
 use std::marker::Model;
@@ -83,7 +83,7 @@ pub fn type_at(assignments: &[Assignment], place: u32) -> Option<&TypeText>
     ensures { option_copied result ≡ type_at assignments.now place }
 {
     match &assignments.get(place as usize)?.body {
-        Body::Typed(of) => Some(of),
+        Assigned::Typed(of) => Some(of),
         _ => None,
     }
 }
@@ -115,7 +115,7 @@ impl<'m> Names<'m> {
     }
 
     /// What a name is assigned first.
-    pub fn assigned(&self, name: &Name) -> Option<&'m Body>
+    pub fn assigned(&self, name: &Name) -> Option<&'m Assigned>
         ensures { option_copied result ≡ assigned self.now name.now }
     {
         let place = self.find(name)?;

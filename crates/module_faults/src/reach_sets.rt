@@ -2,7 +2,7 @@
 //! search, and is right by itself: it is what remains where the search settles one wrongly.
 
 ghost use Rattle.std.specs.Prelude.{◌≡◌, ◌<◌, ℕ, None, length, slice_get, slice_set, true, IfNone, IfOk, IfSome};
-ghost use Rattle.module_faults.specs.ReachSets.{lacks, is_in, first_out, first_from, IsNext, IsClosed, IsReach, AreTold};
+ghost use Rattle.module_faults.specs.ReachSets.{lacks, is_in, first_out, first_from, IsNext, IsClosed, IsReach, IsRightSurvey};
 
 use crate::reach_search::{Standing, Survey, surveyed};
 use crate::recursion::are_shown;
@@ -108,7 +108,7 @@ fn recursion_only(is_recursive: bool) -> Standing
 
 /// Which assignments reach themselves, by the sets of what each reaches.
 fn standings_by_sets(alloc: Global, uses: &UseLists) -> Result<Vec<Standing>, NoMemory>
-    ensures { IfOk result (λ standings. AreTold uses.now standings.items) }
+    ensures { IfOk result (λ standings. IsRightSurvey uses.now standings.items) }
 {
     let mut standings = Vec::new(alloc);
     for place in 0..uses.len() {
@@ -121,7 +121,7 @@ fn standings_by_sets(alloc: Global, uses: &UseLists) -> Result<Vec<Standing>, No
 /// Which assignments reach themselves: by the search, and if not all that it says were so, by the
 /// sets.
 pub(crate) fn recursion_survey(alloc: Global, uses: &UseLists) -> Result<Survey, NoMemory>
-    ensures { IfOk result (λ survey. AreTold uses.now survey.standings.items) }
+    ensures { IfOk result (λ survey. IsRightSurvey uses.now survey.standings.items) }
 {
     let survey = surveyed(alloc, uses)?;
     if are_shown(uses, &survey.standings) {

@@ -5,7 +5,7 @@ ghost use Rattle.std.specs.Prelude.{◌≡◌, ◌+◌, ◌≤◌, ◌^◌, ℕ,
 ghost use Rattle.module_faults.specs.Least.{least_from};
 ghost use Rattle.module_faults.specs.Recursion.{bodies_uses};
 ghost use Rattle.module_faults.specs.Standings.{says};
-ghost use Rattle.module_faults.specs.ReachSets.{AreTold};
+ghost use Rattle.module_faults.specs.ReachSets.{IsRightSurvey};
 ghost use Rattle.module_faults.specs.Facts.{env_of};
 ghost use Rattle.module_faults.specs.Faults.{use_shows, use_nesting, too_deep, body_shows, bodies_show, first_recursive};
 ghost use Rattle.module_faults.specs.Known.{env_by, AreKnown, AreSettled};
@@ -19,7 +19,7 @@ use crate::reach_search::Standing;
 use crate::recursion::says;
 use crate::type_facts::Facing;
 use notation_tokens::Located;
-use operation_notation::{Assignment, Body, UseText};
+use operation_notation::{Assigned, Assignment, UseText};
 use osi_base::NoMemory;
 use std::alloc::Global;
 
@@ -47,22 +47,22 @@ impl<'s, 'm> Facing<'s, 'm> {
 
     /// The faults that the types of what is assigned show, by what is known of those that they
     /// name.
-    fn of_body(&self, name: &Located, body: &'m Body, least: &mut Least) -> Result<(), NoMemory>
+    fn of_body(&self, name: &Located, body: &'m Assigned, least: &mut Least) -> Result<(), NoMemory>
         ensures { OnOk result (least.new.found ≡ least_from least.old.found (body_shows
             (env_by self.now) name.now
             body.now)) }
     {
         match body {
-            Body::Typed(of) => {
+            Assigned::Typed(of) => {
                 let facts = self.of_type(MOST_LEVELS, of, least)?;
                 too_deep(name, facts.nesting, least);
             }
-            Body::Operation(text) => {
+            Assigned::Operation(text) => {
                 let argument = self.of_use(&text.argument, least)?;
                 let outcome = self.of_use(&text.result, least)?;
                 too_deep(name, argument.max(outcome), least);
             }
-            Body::Error(text) => {
+            Assigned::Error(text) => {
                 let nesting = self.of_use(&text.parameter, least)?;
                 too_deep(name, nesting, least);
             }
@@ -125,7 +125,7 @@ pub(crate) fn shown_faults(
     order: &[u32],
     least: &mut Least,
 ) -> Result<(), NoMemory>
-    requires { AreTold (bodies_uses names.now names.now) standings.now }
+    requires { IsRightSurvey (bodies_uses names.now names.now) standings.now }
     ensures { OnOk result (least.new.found ≡ least_from least.old.found (bodies_show
         (env_of names.now (says standings.now)) names.now)) }
 {

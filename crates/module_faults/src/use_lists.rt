@@ -8,7 +8,7 @@ ghost use Rattle.module_faults.specs.Recursion.{listed, parts_uses, plain_uses, 
 
 use crate::locals::MOST_LEVELS;
 use crate::names::Names;
-use operation_notation::{Body, PartText, PlainText, TypeText, UseText};
+use operation_notation::{Assigned, PartText, PlainText, TypeText, UseText};
 use osi_base::{Name, NoMemory};
 use std::alloc::Global;
 use std::marker::Model;
@@ -137,17 +137,21 @@ pub(crate) fn type_uses(
 }
 
 /// The places of the types that are named in what is assigned.
-pub(crate) fn body_uses(alloc: Global, names: &Names<'_>, body: &Body) -> Result<Vec<u32>, NoMemory>
+pub(crate) fn body_uses(
+    alloc: Global,
+    names: &Names<'_>,
+    body: &Assigned,
+) -> Result<Vec<u32>, NoMemory>
     ensures { IfOk result (λ used. used.items ≡ body_uses names.now body.now) }
 {
     let mut used = Vec::new(alloc);
     match body {
-        Body::Typed(of) => of_type(names, MOST_LEVELS, of, &mut used)?,
-        Body::Operation(text) => {
+        Assigned::Typed(of) => of_type(names, MOST_LEVELS, of, &mut used)?,
+        Assigned::Operation(text) => {
             of_use(names, &text.argument, &mut used)?;
             of_use(names, &text.result, &mut used)?;
         }
-        Body::Error(text) => of_use(names, &text.parameter, &mut used)?,
+        Assigned::Error(text) => of_use(names, &text.parameter, &mut used)?,
     }
     Ok(used)
 }

@@ -9,7 +9,7 @@ use Rattle.operation_notation.specs.declared.module.UseText.{UseText}
 use Rattle.operation_notation.specs.declared.module.OpText.{OpText}
 use Rattle.operation_notation.specs.declared.module.ErrText.{ErrText}
 use Rattle.operation_notation.specs.declared.bodies.Signature.{Signature}
-use Rattle.operation_notation.specs.declared.module.Body.{Body}
+use Rattle.operation_notation.specs.declared.module.Assigned.{Assigned}
 use Rattle.operation_notation.specs.declared.module.Assignment.{Assignment}
 use Rattle.operation_notation.specs.declared.module.ModuleText.{ModuleText}
 
@@ -31,10 +31,10 @@ Error = grammar.Error narrow
 abbrev pub Typed : List Lexeme → Assignment → Type 0
 Typed = grammar.Typed narrow
 
-abbrev pub OperationBody : List Lexeme → Body → Type 0
+abbrev pub OperationBody : List Lexeme → Assigned → Type 0
 OperationBody = grammar.OperationBody narrow
 
-abbrev pub ErrorBody : List Lexeme → Body → Type 0
+abbrev pub ErrorBody : List Lexeme → Assigned → Type 0
 ErrorBody = grammar.ErrorBody narrow
 
 abbrev pub Valued : List Lexeme → Assignment → Type 0

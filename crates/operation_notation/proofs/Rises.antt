@@ -22,7 +22,7 @@ use Rattle.operation_notation.specs.declared.module.ItemText.{ItemText}
 use Rattle.operation_notation.specs.declared.module.PartText.{PartText}
 use Rattle.operation_notation.specs.declared.module.Assignment.{Assignment}
 use Rattle.operation_notation.specs.declared.module.ModuleText.{ModuleText}
-use Rattle.operation_notation.specs.declared.module.Body.TheVariants as bodies
+use Rattle.operation_notation.specs.declared.module.Assigned.TheVariants as bodies
 use Rattle.operation_notation.specs.declared.assignments.Heading.{Heading}
 use Rattle.operation_notation.specs.declared.bodies.Signature.{Signature}
 use Rattle.std.specs.Prelude.{option_map}

@@ -11,7 +11,7 @@ use Rattle.operation_notation.specs.ReadingModules.{use_at, maybe_use_at, signat
 use Rattle.operation_notation.specs.GrammarTypes.{Extent, narrow, marked, wide, is_empty, mark_of}
 use Rattle.operation_notation.specs.GrammarModules.{name_of}
 use Rattle.operation_notation.specs.Tree.{TypeTree, type_tree, text}
-use Rattle.operation_notation.specs.declared.module.Body.TheVariants as bodies
+use Rattle.operation_notation.specs.declared.module.Assigned.TheVariants as bodies
 use Rattle.notation_tokens.specs.declared.token.Located.{Located}
 use Rattle.notation_tokens.specs.declared.token.Place.{Place}
 use Rattle.notation_tokens.specs.declared.faults.NotationKind.{NotationKind}

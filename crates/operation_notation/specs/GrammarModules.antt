@@ -12,8 +12,8 @@ use Rattle.operation_notation.specs.declared.module.OpText.{OpText}
 use Rattle.operation_notation.specs.declared.module.ErrText.{ErrText}
 use Rattle.operation_notation.specs.declared.bodies.Signature.{Signature}
 use Rattle.operation_notation.specs.declared.assignments.Heading.{Heading}
-use Rattle.operation_notation.specs.declared.module.Body.{Body}
-use Rattle.operation_notation.specs.declared.module.Body.TheVariants as bodies
+use Rattle.operation_notation.specs.declared.module.Assigned.{Assigned}
+use Rattle.operation_notation.specs.declared.module.Assigned.TheVariants as bodies
 use Rattle.operation_notation.specs.declared.module.Assignment.{Assignment}
 use Rattle.operation_notation.specs.declared.module.ModuleText.{ModuleText}
 
@@ -120,7 +120,7 @@ abbrev pub Opens : List ℕ → List Lexeme → Place → Type 0
 Opens word = Behind word (Behind (codes "::=") (The (codes "{")))
 
 -- "OPERATION" "::=" "{" OpBody "}"
-abbrev pub OperationBody : Extent → List Lexeme → Body → Type 0
+abbrev pub OperationBody : Extent → List Lexeme → Assigned → Type 0
 OperationBody ext = do
   _ ← Opens (codes "OPERATION")
   operation ← Operation ext
@@ -128,7 +128,7 @@ OperationBody ext = do
   Nothing (bodies.Operation operation)
 
 -- "ERROR" "::=" "{" ErrBody "}"
-abbrev pub ErrorBody : Extent → List Lexeme → Body → Type 0
+abbrev pub ErrorBody : Extent → List Lexeme → Assigned → Type 0
 ErrorBody ext = do
   _ ← Opens (codes "ERROR")
   error ← Error ext

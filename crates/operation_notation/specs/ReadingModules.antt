@@ -16,8 +16,8 @@ use Rattle.operation_notation.specs.declared.module.OpText.{OpText}
 use Rattle.operation_notation.specs.declared.module.ErrText.{ErrText}
 use Rattle.operation_notation.specs.declared.bodies.Signature.{Signature}
 use Rattle.operation_notation.specs.declared.assignments.Heading.{Heading}
-use Rattle.operation_notation.specs.declared.module.Body.{Body}
-use Rattle.operation_notation.specs.declared.module.Body.TheVariants as bodies
+use Rattle.operation_notation.specs.declared.module.Assigned.{Assigned}
+use Rattle.operation_notation.specs.declared.module.Assigned.TheVariants as bodies
 use Rattle.operation_notation.specs.declared.module.Assignment.{Assignment}
 use Rattle.operation_notation.specs.declared.module.ModuleText.{ModuleText}
 
@@ -149,21 +149,21 @@ typed_at ext = do
 unfoldable pub opens_at : List ℕ → List Lexeme → Read Place
 opens_at word = behind word (behind (codes "::=") (word_at (codes "{")))
 
-unfoldable pub operation_body_at : Extent → List Lexeme → Read Body
+unfoldable pub operation_body_at : Extent → List Lexeme → Read Assigned
 operation_body_at ext = do
   _ ← opens_at (codes "OPERATION")
   operation ← operation_at ext
   _ ← word_at (codes "}")
   give (bodies.Operation operation)
 
-unfoldable pub error_body_at : Extent → List Lexeme → Read Body
+unfoldable pub error_body_at : Extent → List Lexeme → Read Assigned
 error_body_at ext = do
   _ ← opens_at (codes "ERROR")
   error ← error_at ext
   _ ← word_at (codes "}")
   give (bodies.Error error)
 
-unfoldable pub body_at : Extent → List Lexeme → Read Body
+unfoldable pub body_at : Extent → List Lexeme → Read Assigned
 body_at ext ts = if begins (codes "OPERATION") ts then operation_body_at ext ts else error_body_at ext ts
 
 unfoldable pub valued_at : Extent → List Lexeme → Read Assignment

@@ -18,8 +18,8 @@ use Rattle.operation_notation.specs.declared.module.UseText.{UseText}
 use Rattle.operation_notation.specs.declared.module.CodeText.{CodeText}
 use Rattle.operation_notation.specs.declared.module.OpText.{OpText}
 use Rattle.operation_notation.specs.declared.module.ErrText.{ErrText}
-use Rattle.operation_notation.specs.declared.module.Body.{Body}
-use Rattle.operation_notation.specs.declared.module.Body.TheVariants as bodies
+use Rattle.operation_notation.specs.declared.module.Assigned.{Assigned}
+use Rattle.operation_notation.specs.declared.module.Assigned.TheVariants as bodies
 use Rattle.operation_notation.specs.declared.module.Assignment.{Assignment}
 use Rattle.operation_notation.specs.declared.module.ModuleText.{ModuleText}
 
@@ -100,7 +100,7 @@ pub record IsWellError (e : ErrText) : Type 0 where
   pub code : IfSome e.code IsWellCode
 
 -- a type has a Name, an operation and an error have a name
-abbrev pub IsWellBody : Located → Body → Type 0
+abbrev pub IsWellBody : Located → Assigned → Type 0
 IsWellBody name (bodies.Typed of) = IsTypeName name × IsWellType of
 IsWellBody name (bodies.Operation operation) = IsValueName name × IsWellOperation operation
 IsWellBody name (bodies.Error error) = IsValueName name × IsWellError error
@@ -161,7 +161,7 @@ abbrev pub code_places : Option CodeText → List Place
 code_places None = []
 code_places (Some c) = record { line = c.line; column = c.column } ∷ []
 
-abbrev pub body_places : Body → List Place
+abbrev pub body_places : Assigned → List Place
 body_places (bodies.Typed of) = type_places of
 body_places (bodies.Operation o) = (((use_places o.argument ++ use_places o.result) ++ name_places o.errors) ++ name_places o.linked) ++ code_places o.code
 body_places (bodies.Error e) = use_places e.parameter ++ code_places e.code

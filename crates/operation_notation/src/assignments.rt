@@ -7,7 +7,7 @@ ghost use Rattle.operation_notation.specs.ReadingModules.{typed_at, opens_at, op
 
 use crate::cursor::Cursor;
 use crate::fault::Refusal;
-use crate::module::{Assignment, Assignments, Body, ModuleText};
+use crate::module::{Assigned, Assignment, Assignments, ModuleText};
 use notation_tokens::{Located, Place};
 use osi_base::{ListOf, Oid};
 use std::alloc::Global;
@@ -32,7 +32,7 @@ impl<'t> Cursor<'t> {
         let of = self.outer_type(alloc)?;
         Ok(Assignment {
             name,
-            body: Body::Typed(of),
+            body: Assigned::Typed(of),
         })
     }
 
@@ -49,31 +49,31 @@ impl<'t> Cursor<'t> {
 
     /// What follows the name of an operation.
     #[tactic(auto, unfolding(crate::specs::ReadingModules::operation_body_at))]
-    fn operation_body(&mut self, alloc: Global) -> Result<Body, Refusal>
+    fn operation_body(&mut self, alloc: Global) -> Result<Assigned, Refusal>
         ensures gives { Gives result self.new (operation_body_at narrow self.old) }
         ensures takes { Shortens result self.old self.new }
     {
         self.opens(b"OPERATION")?;
         let operation = self.operation(alloc)?;
         self.expect(b"}")?;
-        Ok(Body::Operation(operation))
+        Ok(Assigned::Operation(operation))
     }
 
     /// What follows the name of an error.
     #[tactic(auto, unfolding(crate::specs::ReadingModules::error_body_at))]
-    fn error_body(&mut self, alloc: Global) -> Result<Body, Refusal>
+    fn error_body(&mut self, alloc: Global) -> Result<Assigned, Refusal>
         ensures gives { Gives result self.new (error_body_at narrow self.old) }
         ensures takes { Shortens result self.old self.new }
     {
         self.opens(b"ERROR")?;
         let error = self.error(alloc)?;
         self.expect(b"}")?;
-        Ok(Body::Error(error))
+        Ok(Assigned::Error(error))
     }
 
     /// What follows the name of an operation or error.
     #[tactic(auto, unfolding(crate::specs::ReadingModules::body_at))]
-    fn body(&mut self, alloc: Global) -> Result<Body, Refusal>
+    fn body(&mut self, alloc: Global) -> Result<Assigned, Refusal>
         ensures gives { Gives result self.new (body_at narrow self.old) }
         ensures takes { Shortens result self.old self.new }
     {

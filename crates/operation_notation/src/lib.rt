@@ -15,7 +15,7 @@ mod types;
 
 pub use laws::{module_or_fault, one_fault, one_reading};
 pub use module::{
-    Assignment, Assignments, Body, CodeText, DfltText, DfltValue, ErrText, ItemText, ItemTexts,
+    Assigned, Assignment, Assignments, CodeText, DfltText, DfltValue, ErrText, ItemText, ItemTexts,
     Locateds, ModuleText, OpText, PartText, PartTexts, PlainText, RangeText, TagText, TypeText,
     UseText,
 };

@@ -27,7 +27,7 @@ pub struct Assignment {
     /// The name that is assigned.
     pub name: Located,
     /// What it is assigned.
-    pub body: Body,
+    pub body: Assigned,
 }
 
 /// Assignments in text order.
@@ -35,7 +35,7 @@ pub type Assignments = ListOf<Assignment>;
 
 /// What a name is assigned.
 #[derive(Debug, Drop)]
-pub enum Body {
+pub enum Assigned {
     /// A type.
     Typed(TypeText),
     /// An operation (X.880 8.2).

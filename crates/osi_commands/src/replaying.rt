@@ -2,7 +2,7 @@
 
 ghost use Rattle.std.specs.Prelude.{◌≡◌, IfOk};
 ghost use Rattle.packed_codec.specs.Laws.{HasNoAny};
-ghost use Rattle.replays.specs.schedule_text.Schedules.{said};
+ghost use Rattle.replays.specs.schedule_text.Schedules.{configs_and_events};
 ghost use Rattle.replays.specs.Runs.{IsSetUp};
 ghost use Rattle.osi_commands.specs.Replaying.{written_of, Replayed, ReplayedBy};
 
@@ -40,9 +40,9 @@ fn replay(
     schedule: Schedule,
     brief: bool,
 ) -> Result<Octets, NoMemory>
-    requires set_up { IsSetUp (said schedule) }
+    requires set_up { IsSetUp (configs_and_events schedule) }
     requires typed { HasNoAny tables.now.types }
-    ensures { IfOk result (λ text. Replayed brief tables.now (said schedule) text) }
+    ensures { IfOk result (λ text. Replayed brief tables.now (configs_and_events schedule) text) }
 {
     one_transcript();
     let transcript = run_schedule(alloc, tables, schedule)?;

@@ -1,33 +1,33 @@
--- What two ends deal is what they reach, and what was sent is met in its place or on its way.
+-- What two ends reach with their exchanges is what they reach, and what was sent is met in its place or on its way.
 use Rattle.std.proofs.Common.{◌≡◌, refl, ◌∙◌, sym, ap, List, [], ◌∷◌, ◌++◌}
 use Rattle.std.proofs.lemmas.List.{append-nil, append_assoc}
 use Rattle.end_model.specs.end_rules.Messages.{Message}
 use Rattle.agreement.specs.Sets.{Role}
 use Rattle.agreement.specs.Sets.Role.{Initiator, Responder}
 use Rattle.end_model.specs.BothEnds.{Common, Two, coming_to}
-use Rattle.reliable_model.specs.Ledgers.{Ledger, ReachedWithLedger, begins as goes_begin, calls as goes_call, acts as goes_act, takes as goes_take}
-use Rattle.reliable_model.specs.Ledgers.{passes as goes_pass, fails as goes_fail, breaks as goes_break}
+use Rattle.reliable_model.specs.Ledgers.{Ledger, ReachedWithLedger, begins as reached_begin, calls as reached_call, acts as reached_act, takes as reached_take}
+use Rattle.reliable_model.specs.Ledgers.{passes as reached_pass, fails as reached_fail, breaks as reached_break}
 use Rattle.outcome_laws.specs.Exchanges.{Exchanges, exchange_of, ReachedWithExchanges, begins, calls, acts, takes, passes, fails, breaks, ExchangesAreReached, HasExchanges, AllHaveExchanges}
 use Rattle.outcome_laws.specs.Exchanges.{EachMetOrComing}
 
 pub exchanges-reached : ExchangesAreReached
-exchanges-reached common two ledger exchanges begins = goes_begin
-exchanges-reached common two ledger exchanges (calls x l d role call answer reached h) = goes_call x l role call answer (exchanges-reached common x l d reached) h
-exchanges-reached common two ledger exchanges (acts x l d role own reached h) = goes_act x l role own (exchanges-reached common x l d reached) h
-exchanges-reached common two ledger exchanges (takes x l d role message left body answers shown reached comes h) = goes_take x l role message left body answers shown (exchanges-reached common x l d reached) comes h
-exchanges-reached common two ledger exchanges (passes x l d role message left reached comes h) = goes_pass x l role message left (exchanges-reached common x l d reached) comes h
-exchanges-reached common two ledger exchanges (fails x l d role message left fault body aborts shown reached comes h) = goes_fail x l role message left fault body aborts shown (exchanges-reached common x l d reached) comes h
-exchanges-reached common two ledger exchanges (breaks x l d reached) = goes_break x l (exchanges-reached common x l d reached)
+exchanges-reached common two ledger exchanges begins = reached_begin
+exchanges-reached common two ledger exchanges (calls x l d role call answer reached h) = reached_call x l role call answer (exchanges-reached common x l d reached) h
+exchanges-reached common two ledger exchanges (acts x l d role own reached h) = reached_act x l role own (exchanges-reached common x l d reached) h
+exchanges-reached common two ledger exchanges (takes x l d role message left body answers shown reached comes h) = reached_take x l role message left body answers shown (exchanges-reached common x l d reached) comes h
+exchanges-reached common two ledger exchanges (passes x l d role message left reached comes h) = reached_pass x l role message left (exchanges-reached common x l d reached) comes h
+exchanges-reached common two ledger exchanges (fails x l d role message left fault body aborts shown reached comes h) = reached_fail x l role message left fault body aborts shown (exchanges-reached common x l d reached) comes h
+exchanges-reached common two ledger exchanges (breaks x l d reached) = reached_break x l (exchanges-reached common x l d reached)
 
 -- whatever two ends reach has exchanges
 all-exchange : (common : Common) (two : Two) (ledger : Ledger) → ReachedWithLedger common two ledger → HasExchanges common two ledger
-all-exchange common two ledger goes_begin = record { exchanges = _; reached_exchanges = begins }
-all-exchange common two ledger (goes_call x l role call answer reached h) = let d = all-exchange common x l reached in record { exchanges = _; reached_exchanges = calls x l d.exchanges role call answer d.reached_exchanges h }
-all-exchange common two ledger (goes_act x l role own reached h) = let d = all-exchange common x l reached in record { exchanges = _; reached_exchanges = acts x l d.exchanges role own d.reached_exchanges h }
-all-exchange common two ledger (goes_take x l role message left body answers shown reached comes h) = let d = all-exchange common x l reached in record { exchanges = _; reached_exchanges = takes x l d.exchanges role message left body answers shown d.reached_exchanges comes h }
-all-exchange common two ledger (goes_pass x l role message left reached comes h) = let d = all-exchange common x l reached in record { exchanges = _; reached_exchanges = passes x l d.exchanges role message left d.reached_exchanges comes h }
-all-exchange common two ledger (goes_fail x l role message left fault body aborts shown reached comes h) = let d = all-exchange common x l reached in record { exchanges = _; reached_exchanges = fails x l d.exchanges role message left fault body aborts shown d.reached_exchanges comes h }
-all-exchange common two ledger (goes_break x l reached) = let d = all-exchange common x l reached in record { exchanges = _; reached_exchanges = breaks x l d.exchanges d.reached_exchanges }
+all-exchange common two ledger reached_begin = record { exchanges = _; reached_exchanges = begins }
+all-exchange common two ledger (reached_call x l role call answer reached h) = let d = all-exchange common x l reached in record { exchanges = _; reached_exchanges = calls x l d.exchanges role call answer d.reached_exchanges h }
+all-exchange common two ledger (reached_act x l role own reached h) = let d = all-exchange common x l reached in record { exchanges = _; reached_exchanges = acts x l d.exchanges role own d.reached_exchanges h }
+all-exchange common two ledger (reached_take x l role message left body answers shown reached comes h) = let d = all-exchange common x l reached in record { exchanges = _; reached_exchanges = takes x l d.exchanges role message left body answers shown d.reached_exchanges comes h }
+all-exchange common two ledger (reached_pass x l role message left reached comes h) = let d = all-exchange common x l reached in record { exchanges = _; reached_exchanges = passes x l d.exchanges role message left d.reached_exchanges comes h }
+all-exchange common two ledger (reached_fail x l role message left fault body aborts shown reached comes h) = let d = all-exchange common x l reached in record { exchanges = _; reached_exchanges = fails x l d.exchanges role message left fault body aborts shown d.reached_exchanges comes h }
+all-exchange common two ledger (reached_break x l reached) = let d = all-exchange common x l reached in record { exchanges = _; reached_exchanges = breaks x l d.exchanges d.reached_exchanges }
 
 pub each-exchange : AllHaveExchanges
 each-exchange common two ledger reached = all-exchange common two ledger reached

@@ -410,20 +410,20 @@ pub record Source (wrote : List Apdu) (body : Body) (encoded : List Encoding) : 
   pub sends : Sourced wrote body.sending
   pub encodes : EncodedIn wrote encoded
 
-pub source : (common : Common) (two : Two) (ledger : Ledger) (exchanges : Exchanges) → ReachedWithExchanges common two ledger exchanges → (role : Role) → Source (exchange_of role exchanges).wrote (body_at role two) (transfer_log_of role ledger.transfer_log).encoded
+pub source : (common : Common) (two : Two) (ledger : Ledger) (exchanges : Exchanges) → ReachedWithExchanges common two ledger exchanges → (role : Role) → Source (exchange_of role exchanges).wrote (body_at role two) (transfer_log_of role ledger.transfer_logs).encoded
 source common two ledger exchanges begins Initiator = record { sends = record { waiting = tt; going = tt }; encodes = tt }
 source common two ledger exchanges begins Responder = record { sends = record { waiting = tt; going = tt }; encodes = tt }
 source common two ledger exchanges (calls x l d Initiator call answer reached h) Initiator =
     let s = source common x l d reached Initiator in
-    record { sends = called-so common.mode (base_at Initiator common) x.a call answer d.a.wrote s.sends; encodes = encoded-more (apdus_of (base_at Initiator common) x.a call answer) d.a.wrote (transfer_log_of Initiator l.transfer_log).encoded s.encodes }
+    record { sends = called-so common.mode (base_at Initiator common) x.a call answer d.a.wrote s.sends; encodes = encoded-more (apdus_of (base_at Initiator common) x.a call answer) d.a.wrote (transfer_log_of Initiator l.transfer_logs).encoded s.encodes }
 source common two ledger exchanges (calls x l d Responder call answer reached h) Initiator = source common x l d reached Initiator
 source common two ledger exchanges (acts x l d Initiator own reached h) Initiator =
     let s = source common x l d reached Initiator in
-    record { sends = acted-so (base_at Initiator common) x.a own d.a.wrote s.sends; encodes = encoded-so x.a l.shared.set own d.a.wrote (transfer_log_of Initiator l.transfer_log).encoded s.sends s.encodes }
+    record { sends = acted-so (base_at Initiator common) x.a own d.a.wrote s.sends; encodes = encoded-so x.a l.shared.set own d.a.wrote (transfer_log_of Initiator l.transfer_logs).encoded s.sends s.encodes }
 source common two ledger exchanges (acts x l d Responder own reached h) Initiator = source common x l d reached Initiator
 source common two ledger exchanges (takes x l d Initiator message left body answers shown reached comes h) Initiator =
     let s = source common x l d reached Initiator in
-    record { sends = taken-so (base_at Initiator common) x.a message body answers shown d.a.wrote h s.sends; encodes = encoded-more (rejects_in shown) d.a.wrote (transfer_log_of Initiator l.transfer_log).encoded s.encodes }
+    record { sends = taken-so (base_at Initiator common) x.a message body answers shown d.a.wrote h s.sends; encodes = encoded-more (rejects_in shown) d.a.wrote (transfer_log_of Initiator l.transfer_logs).encoded s.encodes }
 source common two ledger exchanges (takes x l d Responder message left body answers shown reached comes h) Initiator = source common x l d reached Initiator
 source common two ledger exchanges (passes x l d Initiator message left reached comes h) Initiator = source common x l d reached Initiator
 source common two ledger exchanges (passes x l d Responder message left reached comes h) Initiator = source common x l d reached Initiator
@@ -436,15 +436,15 @@ source common two ledger exchanges (breaks x l d reached) Initiator =
     record { sends = broke-so (base_at Initiator common) x.a d.a.wrote s.sends; encodes = s.encodes }
 source common two ledger exchanges (calls x l d Responder call answer reached h) Responder =
     let s = source common x l d reached Responder in
-    record { sends = called-so common.mode (base_at Responder common) x.b call answer d.b.wrote s.sends; encodes = encoded-more (apdus_of (base_at Responder common) x.b call answer) d.b.wrote (transfer_log_of Responder l.transfer_log).encoded s.encodes }
+    record { sends = called-so common.mode (base_at Responder common) x.b call answer d.b.wrote s.sends; encodes = encoded-more (apdus_of (base_at Responder common) x.b call answer) d.b.wrote (transfer_log_of Responder l.transfer_logs).encoded s.encodes }
 source common two ledger exchanges (calls x l d Initiator call answer reached h) Responder = source common x l d reached Responder
 source common two ledger exchanges (acts x l d Responder own reached h) Responder =
     let s = source common x l d reached Responder in
-    record { sends = acted-so (base_at Responder common) x.b own d.b.wrote s.sends; encodes = encoded-so x.b l.shared.set own d.b.wrote (transfer_log_of Responder l.transfer_log).encoded s.sends s.encodes }
+    record { sends = acted-so (base_at Responder common) x.b own d.b.wrote s.sends; encodes = encoded-so x.b l.shared.set own d.b.wrote (transfer_log_of Responder l.transfer_logs).encoded s.sends s.encodes }
 source common two ledger exchanges (acts x l d Initiator own reached h) Responder = source common x l d reached Responder
 source common two ledger exchanges (takes x l d Responder message left body answers shown reached comes h) Responder =
     let s = source common x l d reached Responder in
-    record { sends = taken-so (base_at Responder common) x.b message body answers shown d.b.wrote h s.sends; encodes = encoded-more (rejects_in shown) d.b.wrote (transfer_log_of Responder l.transfer_log).encoded s.encodes }
+    record { sends = taken-so (base_at Responder common) x.b message body answers shown d.b.wrote h s.sends; encodes = encoded-more (rejects_in shown) d.b.wrote (transfer_log_of Responder l.transfer_logs).encoded s.encodes }
 source common two ledger exchanges (takes x l d Initiator message left body answers shown reached comes h) Responder = source common x l d reached Responder
 source common two ledger exchanges (passes x l d Initiator message left reached comes h) Responder = source common x l d reached Responder
 source common two ledger exchanges (passes x l d Responder message left reached comes h) Responder = source common x l d reached Responder

@@ -155,8 +155,8 @@ module _ (free : Free) (tables : Tables) (spellings : Spellings) (a b : Config) 
         is_new = new;
       } in
       let whole : ArrivesWhole common two ledger role = reliable-whole free tables spellings a b carries fit two ledger (exchanges-reached common two ledger exchanges reached) role ends in
-      let from : Source (exchange_of (other role) exchanges).wrote (body_at (other role) two) (transfer_log_of (other role) ledger.transfer_log).encoded = source common two ledger exchanges reached (other role) in
-      record { item = whole.item; arrived = whole.arrived; written = newest-in (exchange_of (other role) exchanges).wrote _ (transfer_log_of (other role) ledger.transfer_log).encoded whole.encoded from.encodes }
+      let from : Source (exchange_of (other role) exchanges).wrote (body_at (other role) two) (transfer_log_of (other role) ledger.transfer_logs).encoded = source common two ledger exchanges reached (other role) in
+      record { item = whole.item; arrived = whole.arrived; written = newest-in (exchange_of (other role) exchanges).wrote _ (transfer_log_of (other role) ledger.transfer_logs).encoded whole.encoded from.encodes }
 
   taken-answers : (two : Two) (ledger : Ledger) (exchanges : Exchanges) (role : Role) (message : Message) (left : List Message) (later : Body) (answers : List Message) (shown : List Indication) → Carries free (base Initiator) → IsFit common → ReachedWithExchanges common two ledger exchanges → coming_to role two ≡ message ∷ left → react (base role) (body_at role two) message ≡ Takes later answers shown → AreAnswers tables (exchange_of (other role) exchanges).wrote (exchange_of role exchanges).shown → AreAnswers tables (exchange_of (other role) exchanges).wrote (still_after (base role) (body_at role two) message (exchange_of role exchanges).shown ++ shown)
   taken-answers two ledger exchanges role message left later answers shown carries fit reached comes h k =

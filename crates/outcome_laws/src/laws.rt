@@ -16,7 +16,7 @@ pub fn one_outcome()
     ensures allowed { OutcomesAreAllowed }
     ensures links { LinksAreAllowed }
     ensures places { EachMetOrComing }
-    ensures goes { ExchangesAreReached }
+    ensures reached { ExchangesAreReached }
     ensures all { AllHaveExchanges }
 {}
 

@@ -156,7 +156,7 @@ fn known<'a>(
     known(alloc, table, rest, found, scope, opened, spot)
 }
 
-/// Of how many known fields it is told whether they stand, behind one that is passed over.
+/// Of how many known fields it is settled whether they stand, behind one that is passed over.
 fn settled_by(passed: &Passed, settled: usize, class: Class, number: u64) -> Option<usize>
     ensures { result ≡ settled_by passed.now settled class number }
 {

@@ -12,7 +12,7 @@ use Rattle.end_rules.specs.Messages.{TransportUnit, ConnectionRequest, Connectio
 use Rattle.association_worlds.specs.association_wire.Written.{request_ends, confirm_ends, written_unit, written, tsdu_of}
 use Rattle.association_worlds.specs.association_reading.Front.{Front, OfTransport, fronts_of, all_fronts}
 use Rattle.osi_base.specs.Limits.{IsUnitSize}
-use Rattle.association_worlds.specs.InTransit.{IsOfTransport, IsCarried, front_of, Sent, text_of, texts, fronts_of_sent, AreWritten}
+use Rattle.association_worlds.specs.InTransit.{IsOfTransport, IsCarried, front_of, SentMessage, text_of, texts, fronts_of_sent, AreWritten}
 use Rattle.association_worlds.proofs.Streams.{word-front, small-octets, texts-octets}
 use Rattle.association_worlds.proofs.Kept.{fronts-append}
 use Rattle.prefix_laws.specs.Laws.{HandsUpLast, BeginningsBringNothing}
@@ -37,7 +37,7 @@ closing-transport (DisconnectRequest destination) h =
     (record { packet = Disconnect; closes = unit-closes _ _ (disconnect_is [] 1 0 0 (omega arith) (omega arith)); brings = refl })
 closing-transport TransportError h = absurd h
 
-closing : (tables : Tables) (s : Sent) → IsCarried tables s.message → IsUnitSize s.size → Closing (text_of tables s) (front_of tables s.message)
+closing : (tables : Tables) (s : SentMessage) → IsCarried tables s.message → IsUnitSize s.size → Closing (text_of tables s) (front_of tables s.message)
 closing tables s h z = by s.message h
   where
     by : (m : Message) → IsCarried tables m → Closing (written tables s.size m) (front_of tables m)
@@ -46,13 +46,13 @@ closing tables s h z = by s.message h
 
 -- ---- messages in a row
 
-record Row (tables : Tables) (sents : List Sent) : Type 0 where
+record Row (tables : Tables) (sents : List SentMessage) : Type 0 where
   us : List Tpdu
   splits : Splits [] (texts tables sents) us []
   whole : begun_by [] us ≡ []
   hands : all_fronts (handed [] us) ≡ fronts_of_sent tables sents
 
-row : (tables : Tables) (sents : List Sent) → AreWritten tables sents → Row tables sents
+row : (tables : Tables) (sents : List SentMessage) → AreWritten tables sents → Row tables sents
 row tables [] h = record { us = []; splits = refl; whole = refl; hands = refl }
 row tables (s ∷ sents) h =
     let c = closing tables s h.0 h.1 in
@@ -73,11 +73,11 @@ row tables (s ∷ sents) h =
           ∙ (λ i. (c.brings i ++ []) ++ r.hands i);
     }
 
-written-front : (tables : Tables) (xs ys : List Sent) → AreWritten tables (xs ++ ys) → AreWritten tables xs
+written-front : (tables : Tables) (xs ys : List SentMessage) → AreWritten tables (xs ++ ys) → AreWritten tables xs
 written-front tables [] ys h = tt
 written-front tables (x ∷ xs) ys h = (h.0, h.1, written-front tables xs ys h.2)
 
-written-behind : (tables : Tables) (xs ys : List Sent) → AreWritten tables (xs ++ ys) → AreWritten tables ys
+written-behind : (tables : Tables) (xs ys : List SentMessage) → AreWritten tables (xs ++ ys) → AreWritten tables ys
 written-behind tables [] ys h = h
 written-behind tables (x ∷ xs) ys h = written-behind tables xs ys h.2
 

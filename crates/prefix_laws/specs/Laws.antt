@@ -8,7 +8,7 @@ use Rattle.tpkt.specs.Wire.{Tpdu, Splits, begun_after, begun_by, handed_for, han
 use Rattle.tpkt.specs.Written.{written_tsdu}
 use Rattle.tpkt.specs.Reader.{nothing, reading}
 use Rattle.association_worlds.specs.association_reading.Front.{all_fronts}
-use Rattle.association_worlds.specs.InTransit.{Sent, text_of, texts, fronts_of_sent, AreWritten}
+use Rattle.association_worlds.specs.InTransit.{SentMessage, text_of, texts, fronts_of_sent, AreWritten}
 
 -- A stream is whole units, of which the last hands up this packet and those before it nothing; no data of a TSDU are left behind it.
 pub record HandsUpLast (begun stream : List ℕ) (packet : Packet) : Type 0 where
@@ -26,5 +26,5 @@ OnlyTheLastPacketHandsUp = (size : ℕ) (tsdu : List ℕ) → unit_least ≤ siz
 -- Behind whole messages, a proper beginning of the next brings nothing, and is right so far.
 abbrev pub BeginningsBringNothing : Type 0
 BeginningsBringNothing =
-    (tables : Tables) (before : List Sent) (next : Sent) (front back : List ℕ) → AreWritten tables (before ++ next ∷ []) → text_of tables next ≡ front ++ back → 0 < length back →
+    (tables : Tables) (before : List SentMessage) (next : SentMessage) (front back : List ℕ) → AreWritten tables (before ++ next ∷ []) → text_of tables next ≡ front ++ back → 0 < length back →
     (all_fronts (reading nothing (texts tables before ++ front)).packets ≡ fronts_of_sent tables before) × ((reading nothing (texts tables before ++ front)).held.fault ≡ None)

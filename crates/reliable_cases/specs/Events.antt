@@ -20,8 +20,8 @@ plain =
     }
 
 -- context 5 of the module in BER; checkpoint 1 and window 2
-abbrev pub calc_pair : Common
-calc_pair = record { tables = calc; spellings = plain; mode = Reliable; of_initiator = config_of true Reliable; of_responder = config_of false Reliable }
+abbrev pub calc_common : Common
+calc_common = record { tables = calc; spellings = plain; mode = Reliable; of_initiator = config_of true Reliable; of_responder = config_of false Reliable }
 
 abbrev pub times : ℕ → List Event → List Event
 times zero events = []
@@ -37,14 +37,14 @@ abbrev pub a_acts : List Event
 a_acts = Acts Initiator ∷ []
 
 -- CR, CC, CN, AC: of an opening, and of a recovery
-abbrev pub four_ways : List Event
-four_ways = b_takes ++ a_takes ++ b_takes ++ a_takes
+abbrev pub four_takings : List Event
+four_takings = b_takes ++ a_takes ++ b_takes ++ a_takes
 
 abbrev pub opening : List Event
-opening = Calls Initiator the_calls.Open ∷ four_ways
+opening = Calls Initiator the_calls.Open ∷ four_takings
 
 abbrev pub recovery : List Event
-recovery = Calls Initiator the_calls.Recover ∷ four_ways
+recovery = Calls Initiator the_calls.Recover ∷ four_takings
 
 -- an invocation of add, which begins as activity 1: AS, the encoding, two parts with their marks, and the window is full
 abbrev pub begun : List Event

@@ -168,7 +168,7 @@ module _ (free : Free) (tables : Tables) (spellings : Spellings) (a b : Config) 
     pub placed : IsPlaced (base role) item
     pub there : pair_of (body_at role two).sets.held item.id ≡ Some item.pair
     pub arrived : arrived_now (base role) (body_at role two) ≡ Ok (Whole item)
-    pub encoded : IsNewest (record { activity = (body_at role two).receiving.last; id = item.id; pair = Some item.pair; apdu = item.apdu }) (transfer_log_of (other role) ledger.transfer_log).encoded
+    pub encoded : IsNewest (record { activity = (body_at role two).receiving.last; id = item.id; pair = Some item.pair; apdu = item.apdu }) (transfer_log_of (other role) ledger.transfer_logs).encoded
 
   taken-kept : (role : Role) (body : Body) (number : ℕ) (later : Body) (answers : List Message) (shown : List Indication) → Live body → react (base role) body (Session (OfActivities (End number))) ≡ Takes later answers shown → is_purged (is_initiator role) body.link.awaits (unit_of (OfActivities (End number))) ≡ false
   taken-kept role body number later answers shown live h = go (is_purged (is_initiator role) body.link.awaits (unit_of (OfActivities (End number)))) refl
@@ -189,9 +189,9 @@ module _ (free : Free) (tables : Tables) (spellings : Spellings) (a b : Config) 
       let up : handed_up setup (set_seen body.sets.held) (incoming_seen body.receiving) ≡ Some (item_seen (base role) r.item) = ap (λ w. if w then None else value_read setup (set_seen body.sets.held) (incoming_seen body.receiving)) e.is_new ∙ r.read in
       let now : handed_up setup (state_of setup role world).sets.held (state_of setup role world).incoming ≡ Some (item_seen (base role) r.item) = ap (λ (s : states.State). handed_up setup s.sets.held s.incoming) j.ends.own.state ∙ up in
       let n = (laws setup).whole world role e.number Nothing (item_seen (base role) r.item) x.run now in
-      let d = j.transfer_log (other role) in
+      let d = j.transfer_logs (other role) in
       let last : (state_of setup role world).incoming.last ≡ body.receiving.last = ap (λ (s : states.State). s.incoming.last) j.ends.own.state in
-      let theirs : model_laws.IsNewest (record { activity = body.receiving.last; apdu = apdu_seen (base Initiator) r.item.apdu; identifier = r.item.id; pair = Some (pair_seen r.item.pair) }) (map (encoding_seen (base Initiator)) (transfer_log_of (other role) ledger.transfer_log).encoded) =
+      let theirs : model_laws.IsNewest (record { activity = body.receiving.last; apdu = apdu_seen (base Initiator) r.item.apdu; identifier = r.item.id; pair = Some (pair_seen r.item.pair) }) (map (encoding_seen (base Initiator)) (transfer_log_of (other role) ledger.transfer_logs).encoded) =
       subst (model_laws.IsNewest (record { activity = body.receiving.last; apdu = apdu_seen (base Initiator) r.item.apdu; identifier = r.item.id; pair = Some (pair_seen r.item.pair) })) (sym d.encoded)
       (subst (λ k. model_laws.IsNewest (record { activity = k; apdu = apdu_seen (base Initiator) r.item.apdu; identifier = r.item.id; pair = Some (pair_seen r.item.pair) }) (model_laws.encodings setup (other role) world)) last n) in
       record {
@@ -199,7 +199,7 @@ module _ (free : Free) (tables : Tables) (spellings : Spellings) (a b : Config) 
         placed = r.placed;
         there = r.there;
         arrived = r.arrived;
-        encoded = newest-so (base Initiator) (transfer_log_of (other role) ledger.transfer_log).encoded body.receiving.last r.item fit.reads d.encodings (calling.transferable-at free tables spellings a b role r.item.apdu r.transferable) theirs;
+        encoded = newest-so (base Initiator) (transfer_log_of (other role) ledger.transfer_logs).encoded body.receiving.last r.item fit.reads d.encodings (calling.transferable-at free tables spellings a b role r.item.apdu r.transferable) theirs;
       }
 
   pub whole-at : (two : Two) (ledger : Ledger) (role : Role) → Carries free (base Initiator) → IsFit common → Kept two ledger → TakesTransferEnd common two role → Whole_ two ledger role

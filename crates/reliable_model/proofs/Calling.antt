@@ -38,7 +38,7 @@ use Rattle.agreement.specs.Worlds.Moment.{By}
 use Rattle.agreement.specs.Laws.{handed_by}
 use Rattle.agreement.proofs.Interface.{laws}
 use Rattle.end_model.specs.Seen.{Free, seen}
-use Rattle.end_model.specs.OpenInvocations.{IsProper, Numbered}
+use Rattle.end_model.specs.OpenInvocations.{IsProper, AreNumberedCalls}
 use Rattle.end_model.specs.Acting.{as_list, invoked_as, HandsIn, ActsAs, IsSoundBody, ReadsBack}
 use Rattle.end_model.specs.Requests.{sent_all, after_called}
 use Rattle.end_model.proofs.Ladder.{called}
@@ -286,7 +286,7 @@ module _ (free : Free) (tables : Tables) (spellings : Spellings) (a b : Config) 
       (subst AreOwn (sym due) (tt, tt))
 
   same-numbered : (role : Role) (body later : Body) → IsSoundBody Reliable (base role) body → later.calls ≡ body.calls → IsSoundBody Reliable (base role) later
-  same-numbered role body later sound c = record { numbered = subst Numbered (sym c) sound.numbered; calm = tt; sets = tt; queues = tt }
+  same-numbered role body later sound c = record { numbered = subst AreNumberedCalls (sym c) sound.numbered; calm = tt; sets = tt; queues = tt }
 
   no-mark : (answer : Option ℤ) → Err refusals.NotNegotiated ≡ Ok answer → ⊥
   no-mark answer h = cc

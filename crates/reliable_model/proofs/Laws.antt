@@ -68,19 +68,19 @@ module _ (free : Free) (tables : Tables) (spellings : Spellings) (a b : Config) 
   kept-of : Carries free (base Initiator) → IsFit common → (two : Two) (ledger : Ledger) → ReachedWithLedger common two ledger → Kept two ledger
   kept-of carries fit two ledger reached = placing.all-kept free tables spellings a b (record { fit = fit; carries = carries }) two ledger reached
 
-  items-so : (two : Two) (ledger : Ledger) (role : Role) (encoding : Encoding) → IsFit common → Kept two ledger → IsNewest encoding (transfer_log_of role ledger.transfer_log).encoded → IsOf encoding.apdu (item_of encoding.activity (transfer_log_of role ledger.transfer_log).started)
+  items-so : (two : Two) (ledger : Ledger) (role : Role) (encoding : Encoding) → IsFit common → Kept two ledger → IsNewest encoding (transfer_log_of role ledger.transfer_logs).encoded → IsOf encoding.apdu (item_of encoding.activity (transfer_log_of role ledger.transfer_logs).started)
   items-so two ledger role encoding fit k h =
       let setup : model.ModelSetup = taking.setup free tables spellings a b in
-      let d = k.joint.transfer_log role in
-      let n = newest-item (base Initiator) encoding (transfer_log_of role ledger.transfer_log).encoded d.encodings h in
+      let d = k.joint.transfer_logs role in
+      let n = newest-item (base Initiator) encoding (transfer_log_of role ledger.transfer_logs).encoded d.encodings h in
       let theirs = (laws setup).items k.world role (encoding_seen (base Initiator) encoding) k.joint.ends.run (subst (model_laws.IsNewest (encoding_seen (base Initiator) encoding)) d.encoded n.0) in
-      item-found (base Initiator) encoding.activity encoding.apdu (transfer_log_of role ledger.transfer_log).started fit.reads d.items n.1
+      item-found (base Initiator) encoding.activity encoding.apdu (transfer_log_of role ledger.transfer_logs).started fit.reads d.items n.1
       (subst (λ items. model_laws.IsOf (apdu_seen (base Initiator) encoding.apdu) (model_laws.item_of encoding.activity items)) (sym d.started) theirs)
 
-  once-so : (two : Two) (ledger : Ledger) (role : Role) → Kept two ledger → AreFalling (transfer_log_of role ledger.transfer_log).arrived
+  once-so : (two : Two) (ledger : Ledger) (role : Role) → Kept two ledger → AreFalling (transfer_log_of role ledger.transfer_logs).arrived
   once-so two ledger role k =
       let setup : model.ModelSetup = taking.setup free tables spellings a b in
-      subst AreFalling (sym (k.joint.transfer_log role).arrived) ((laws setup).once k.world k.joint.ends.run role)
+      subst AreFalling (sym (k.joint.transfer_logs role).arrived) ((laws setup).once k.world k.joint.ends.run role)
 
 pub reliable-modelled : ReliableModelled
 reliable-modelled free tables spellings a b carries fit two ledger reached =
@@ -111,8 +111,8 @@ reliable-as_sent free tables spellings a b carries fit two ledger reached role i
     let same : w.item ≡ item = one-item w.item item (sym w.arrived ∙ arrived) in
     let there : pair_of (body_at role two).sets.held item.id ≡ Some item.pair = subst (λ (x : Item). pair_of (body_at role two).sets.held x.id ≡ Some x.pair) same w.there in (
       there,
-      subst (λ p. IsNewest (record { activity = (body_at role two).receiving.last; id = item.id; pair = p; apdu = item.apdu }) (transfer_log_of (other role) ledger.transfer_log).encoded) (sym there)
-          (subst (λ (x : Item). IsNewest (record { activity = (body_at role two).receiving.last; id = x.id; pair = Some x.pair; apdu = x.apdu }) (transfer_log_of (other role) ledger.transfer_log).encoded) same w.encoded),
+      subst (λ p. IsNewest (record { activity = (body_at role two).receiving.last; id = item.id; pair = p; apdu = item.apdu }) (transfer_log_of (other role) ledger.transfer_logs).encoded) (sym there)
+          (subst (λ (x : Item). IsNewest (record { activity = (body_at role two).receiving.last; id = x.id; pair = Some x.pair; apdu = x.apdu }) (transfer_log_of (other role) ledger.transfer_logs).encoded) same w.encoded),
     )
 
 pub reliable-items : ReliableItems

@@ -37,7 +37,7 @@ use Rattle.end_model.specs.Rows.{at}
 use Rattle.end_model.specs.Words.{Means, AreMeant}
 use Rattle.end_model.specs.Acting.{ActsAs}
 use Rattle.end_model.specs.BothEnds.{Common, base_at, setup_of}
-use Rattle.end_model.specs.Steps.{BothEnds, TookIt, PassedIt, BreaksSo}
+use Rattle.end_model.specs.Steps.{RunWithBoth, TookIt, PassedIt, BreaksSo}
 use Rattle.end_model.specs.Sharing.{side_of, shared_all_sent}
 use Rattle.end_model.proofs.BareMachine.{same-if}
 use Rattle.end_model.proofs.Restarts.{below-seen, newest-seen}
@@ -175,20 +175,20 @@ module _ (free : Free) (tables : Tables) (spellings : Spellings) (a b : Config) 
     pub encodings : AreEncodable (base Initiator) transfer_log.encoded
 
   abbrev pub AllLogs : TransferLogs → World → Type 0
-  AllLogs transfer_log world = (r : Role) → LogsAre r (transfer_log_of r transfer_log) world
+  AllLogs transfer_logs world = (r : Role) → LogsAre r (transfer_log_of r transfer_logs) world
 
   -- a step of one end leaves the transfer log of the other
-  left-alone : (world : World) (role : Role) (step : Step) (transfer_log : TransferLogs) (change : TransferLog → TransferLog) → AllLogs transfer_log world → LogsAre role (change (transfer_log_of role transfer_log)) (By role step ∷ world) → AllLogs (on_transfer_log role change transfer_log) (By role step ∷ world)
-  left-alone world Initiator step transfer_log change h own Initiator = own
-  left-alone world Initiator step transfer_log change h own Responder = let k = h Responder in record { started = k.started; encoded = k.encoded; arrived = k.arrived; items = k.items; encodings = k.encodings }
-  left-alone world Responder step transfer_log change h own Responder = own
-  left-alone world Responder step transfer_log change h own Initiator = let k = h Initiator in record { started = k.started; encoded = k.encoded; arrived = k.arrived; items = k.items; encodings = k.encodings }
+  left-alone : (world : World) (role : Role) (step : Step) (transfer_logs : TransferLogs) (change : TransferLog → TransferLog) → AllLogs transfer_logs world → LogsAre role (change (transfer_log_of role transfer_logs)) (By role step ∷ world) → AllLogs (on_transfer_log role change transfer_logs) (By role step ∷ world)
+  left-alone world Initiator step transfer_logs change h own Initiator = own
+  left-alone world Initiator step transfer_logs change h own Responder = let k = h Responder in record { started = k.started; encoded = k.encoded; arrived = k.arrived; items = k.items; encodings = k.encodings }
+  left-alone world Responder step transfer_logs change h own Responder = own
+  left-alone world Responder step transfer_logs change h own Initiator = let k = h Initiator in record { started = k.started; encoded = k.encoded; arrived = k.arrived; items = k.items; encodings = k.encodings }
 
   -- both ends beside the model, and their ledger
   pub record Joint (world : World) (role : Role) (body : Body) (coming : List Message) (peer : Body) (to_peer : List Message) (ledger : Ledger) : Type 0 where
-    pub ends : BothEnds free common proposed world role body coming peer to_peer
+    pub ends : RunWithBoth free common proposed world role body coming peer to_peer
     pub same : Same ledger.shared (shared_at setup world)
-    pub transfer_log : AllLogs ledger.transfer_log world
+    pub transfer_logs : AllLogs ledger.transfer_logs world
 
   -- ---- an act, with what it starts and encodes
 
@@ -199,40 +199,40 @@ module _ (free : Free) (tables : Tables) (spellings : Spellings) (a b : Config) 
   pub acts-joint : (world : World) (role : Role) (body later : Body) (coming : List Message) (peer : Body) (to_peer sent : List Message) (act : model.Act) (items : List Queued) (encodings : List Encoding) (ledger : Ledger) → Joint world role body coming peer to_peer ledger → ActsAs free Reliable (base role) proposed body later sent act → ActLog role body ledger.shared.set act items encodings → AreTransferable (base Initiator) items → AreEncodable (base Initiator) encodings → Joint (By role (Acts act) ∷ world) role later coming peer (to_peer ++ sent) (after_acting common role sent items encodings ledger)
   acts-joint world role body later coming peer to_peer sent act items encodings ledger j x d good coded =
       let meant : AreMeant proposed (base role) sent (sent_by setup (state_of setup role world) act) = subst (λ y. AreMeant proposed (base role) sent (sent_by setup y act)) (sym j.ends.own.state) x.means in
-      let old = j.transfer_log role in
+      let old = j.transfer_logs role in
       record {
         ends = acts-kept free common proposed world role body later coming peer to_peer sent act j.ends x;
         same = all-same proposed (base role) role sent (sent_by setup (state_of setup role world) act) ledger.shared (shared_at setup world) meant j.same;
-        transfer_log =
-            left-alone world role (Acts act) ledger.transfer_log (longer_transfer_log items encodings) j.transfer_log
+        transfer_logs =
+            left-alone world role (Acts act) ledger.transfer_logs (longer_transfer_log items encodings) j.transfer_logs
             (record {
               started =
-                  map-append (queued_seen (base Initiator)) items (transfer_log_of role ledger.transfer_log).started ∙
-                  d.starts (map (queued_seen (base Initiator)) (transfer_log_of role ledger.transfer_log).started) ∙
+                  map-append (queued_seen (base Initiator)) items (transfer_log_of role ledger.transfer_logs).started ∙
+                  d.starts (map (queued_seen (base Initiator)) (transfer_log_of role ledger.transfer_logs).started) ∙
                   ap (λ xs. laws.started_after (seen (base role) body) (Acts act) xs) old.started ∙
                   ap (λ s. laws.started_after s (Acts act) (laws.items_started setup role world)) (sym j.ends.own.state) ∙
                   sym (same-if role (laws.started_after (state_of setup role world) (Acts act) (laws.items_started setup role world)) (laws.items_started setup role world));
               encoded =
-                  map-append (encoding_seen (base Initiator)) encodings (transfer_log_of role ledger.transfer_log).encoded ∙
-                  ap (λ xs. xs ++ map (encoding_seen (base Initiator)) (transfer_log_of role ledger.transfer_log).encoded) d.encodes ∙
+                  map-append (encoding_seen (base Initiator)) encodings (transfer_log_of role ledger.transfer_logs).encoded ∙
+                  ap (λ xs. xs ++ map (encoding_seen (base Initiator)) (transfer_log_of role ledger.transfer_logs).encoded) d.encodes ∙
                   ap (λ xs. laws.encoded_by (seen (base role) body) (set_seen ledger.shared.set) (Acts act) ++ xs) old.encoded ∙
                   ap (λ s. laws.encoded_by s (set_seen ledger.shared.set) (Acts act) ++ laws.encodings setup role world) (sym j.ends.own.state) ∙
                   ap (λ s. laws.encoded_by (state_of setup role world) s (Acts act) ++ laws.encodings setup role world) j.same.set ∙
                   sym (same-if role (laws.encoded_by (state_of setup role world) (shared_at setup world).set (Acts act) ++ laws.encodings setup role world) (laws.encodings setup role world));
               arrived = old.arrived ∙ sym (same-if role (laws.arrived_after setup (state_of setup role world) (Acts act) (laws.arrived setup role world)) (laws.arrived setup role world));
-              items = queue-append (base Initiator) items (transfer_log_of role ledger.transfer_log).started good old.items;
-              encodings = encodings-append (base Initiator) encodings (transfer_log_of role ledger.transfer_log).encoded coded old.encodings;
+              items = queue-append (base Initiator) items (transfer_log_of role ledger.transfer_logs).started good old.items;
+              encodings = encodings-append (base Initiator) encodings (transfer_log_of role ledger.transfer_logs).encoded coded old.encodings;
             });
       }
 
   -- an act that starts and encodes nothing
-  no-more : (role : Role) (transfer_log : TransferLogs) → on_transfer_log role (longer_transfer_log [] []) transfer_log ≡ transfer_log
-  no-more Initiator transfer_log = refl
-  no-more Responder transfer_log = refl
+  no-more : (role : Role) (transfer_logs : TransferLogs) → on_transfer_log role (longer_transfer_log [] []) transfer_logs ≡ transfer_logs
+  no-more Initiator transfer_logs = refl
+  no-more Responder transfer_logs = refl
 
   pub quiet-joint : (world : World) (role : Role) (body later : Body) (coming : List Message) (peer : Body) (to_peer sent : List Message) (act : model.Act) (ledger : Ledger) → Joint world role body coming peer to_peer ledger → ActsAs free Reliable (base role) proposed body later sent act → ActLog role body ledger.shared.set act [] [] → Joint (By role (Acts act) ∷ world) role later coming peer (to_peer ++ sent) (after_sending common role sent ledger)
   quiet-joint world role body later coming peer to_peer sent act ledger j x d =
-      subst (λ ds. Joint (By role (Acts act) ∷ world) role later coming peer (to_peer ++ sent) (record { shared = shared_all_sent Reliable (side_of role) sent ledger.shared; transfer_log = ds })) (no-more role ledger.transfer_log)
+      subst (λ ds. Joint (By role (Acts act) ∷ world) role later coming peer (to_peer ++ sent) (record { shared = shared_all_sent Reliable (side_of role) sent ledger.shared; transfer_logs = ds })) (no-more role ledger.transfer_logs)
       (acts-joint world role body later coming peer to_peer sent act [] [] ledger j x d tt tt)
 
   -- ---- a taking
@@ -243,61 +243,61 @@ module _ (free : Free) (tables : Tables) (spellings : Spellings) (a b : Config) 
 
   pub takes-joint : (world : World) (role : Role) (body : Body) (word : Word) (left : List Message) (peer : Body) (to_peer : List Message) (choice : model.Choice) (ledger : Ledger) → Joint world role body (Session word ∷ left) peer to_peer ledger → (t : TookIt free common proposed world role body word left peer to_peer choice) → Same (after_taking common role body (Session word) (answers_to_word (base role) body word) ledger).shared (worlds.shared_answered t.message choice (shared_at setup world)) → TakeLog role body word t.message choice → Joint (By role (Takes t.message choice) ∷ world) role (after_word (base role) body word) left peer (to_peer ++ answers_to_word (base role) body word) (after_taking common role body (Session word) (answers_to_word (base role) body word) ledger)
   takes-joint world role body word left peer to_peer choice ledger j t same d =
-      let old = j.transfer_log role in
+      let old = j.transfer_logs role in
       let step : Step = Takes t.message choice in
       record {
         ends = t.ends;
         same = same;
-        transfer_log =
-            left-alone world role step ledger.transfer_log (transfer_log_taken (base role) body (Session word)) j.transfer_log
+        transfer_logs =
+            left-alone world role step ledger.transfer_logs (transfer_log_taken (base role) body (Session word)) j.transfer_logs
             (record {
               started =
-                  d.starts (transfer_log_of role ledger.transfer_log).started (laws.items_started setup role world) old.started ∙
+                  d.starts (transfer_log_of role ledger.transfer_logs).started (laws.items_started setup role world) old.started ∙
                   ap (λ s. laws.started_after s step (laws.items_started setup role world)) (sym j.ends.own.state) ∙
                   sym (same-if role (laws.started_after (state_of setup role world) step (laws.items_started setup role world)) (laws.items_started setup role world));
               encoded = old.encoded ∙ sym (same-if role (laws.encodings setup role world) (laws.encodings setup role world));
               arrived =
-                  d.arrives (transfer_log_of role ledger.transfer_log).arrived ∙
+                  d.arrives (transfer_log_of role ledger.transfer_logs).arrived ∙
                   ap (λ xs. laws.arrived_after setup (seen (base role) body) step xs) old.arrived ∙
                   ap (λ s. laws.arrived_after setup s step (laws.arrived setup role world)) (sym j.ends.own.state) ∙
                   sym (same-if role (laws.arrived_after setup (state_of setup role world) step (laws.arrived setup role world)) (laws.arrived setup role world));
-              items = items-kept (base Initiator) (base role) body (Session word) (transfer_log_of role ledger.transfer_log).started old.items;
+              items = items-kept (base Initiator) (base role) body (Session word) (transfer_log_of role ledger.transfer_logs).started old.items;
               encodings = old.encodings;
             });
       }
 
   -- ---- what leaves the ledger
 
-  passed-log : (world : World) (role : Role) (message : model.Message) (transfer_log : TransferLogs) → AllLogs transfer_log world → AllLogs transfer_log (By role (Passes message) ∷ world)
-  passed-log world Initiator message transfer_log h Initiator = let k = h Initiator in record { started = k.started; encoded = k.encoded; arrived = k.arrived; items = k.items; encodings = k.encodings }
-  passed-log world Initiator message transfer_log h Responder = let k = h Responder in record { started = k.started; encoded = k.encoded; arrived = k.arrived; items = k.items; encodings = k.encodings }
-  passed-log world Responder message transfer_log h Initiator = let k = h Initiator in record { started = k.started; encoded = k.encoded; arrived = k.arrived; items = k.items; encodings = k.encodings }
-  passed-log world Responder message transfer_log h Responder = let k = h Responder in record { started = k.started; encoded = k.encoded; arrived = k.arrived; items = k.items; encodings = k.encodings }
+  passed-log : (world : World) (role : Role) (message : model.Message) (transfer_logs : TransferLogs) → AllLogs transfer_logs world → AllLogs transfer_logs (By role (Passes message) ∷ world)
+  passed-log world Initiator message transfer_logs h Initiator = let k = h Initiator in record { started = k.started; encoded = k.encoded; arrived = k.arrived; items = k.items; encodings = k.encodings }
+  passed-log world Initiator message transfer_logs h Responder = let k = h Responder in record { started = k.started; encoded = k.encoded; arrived = k.arrived; items = k.items; encodings = k.encodings }
+  passed-log world Responder message transfer_logs h Initiator = let k = h Initiator in record { started = k.started; encoded = k.encoded; arrived = k.arrived; items = k.items; encodings = k.encodings }
+  passed-log world Responder message transfer_logs h Responder = let k = h Responder in record { started = k.started; encoded = k.encoded; arrived = k.arrived; items = k.items; encodings = k.encodings }
 
   pub passes-joint : (world : World) (role : Role) (body : Body) (word : Word) (left : List Message) (peer : Body) (to_peer : List Message) (ledger : Ledger) → Joint world role body (Session word ∷ left) peer to_peer ledger → (p : PassedIt free common proposed world role body left peer to_peer) → Joint (By role (Passes p.message) ∷ world) role body left peer to_peer ledger
   passes-joint world role body word left peer to_peer ledger j p =
-      record { ends = p.ends; same = j.same; transfer_log = passed-log world role p.message ledger.transfer_log j.transfer_log }
+      record { ends = p.ends; same = j.same; transfer_logs = passed-log world role p.message ledger.transfer_logs j.transfer_logs }
 
   pub units-joint : (world : World) (role : Role) (body : Body) (unit : TransportUnit) (left : List Message) (peer : Body) (to_peer : List Message) (ledger : Ledger) → Joint world role body (Transport unit ∷ left) peer to_peer ledger → Joint world role body left peer to_peer ledger
   units-joint world role body unit left peer to_peer ledger j =
-      record { ends = units-kept free common proposed world role body unit left peer to_peer j.ends; same = j.same; transfer_log = j.transfer_log }
+      record { ends = units-kept free common proposed world role body unit left peer to_peer j.ends; same = j.same; transfer_logs = j.transfer_logs }
 
   pub unseen-joint : (world : World) (role : Role) (body later : Body) (coming : List Message) (peer : Body) (to_peer sent : List Message) (ledger : Ledger) → Joint world role body coming peer to_peer ledger → seen (base role) later ≡ seen (base role) body → AreMeant proposed (base role) sent [] → Joint world role later coming peer (to_peer ++ sent) ledger
   unseen-joint world role body later coming peer to_peer sent ledger j same units =
-      record { ends = unseen-kept free common proposed world role body later coming peer to_peer sent j.ends same units; same = j.same; transfer_log = j.transfer_log }
+      record { ends = unseen-kept free common proposed world role body later coming peer to_peer sent j.ends same units; same = j.same; transfer_logs = j.transfer_logs }
 
   pub breaks-joint : (world : World) (role : Role) (body : Body) (coming : List Message) (peer : Body) (to_peer : List Message) (ledger : Ledger) → Joint world role body coming peer to_peer ledger → BreaksSo common body → BreaksSo common peer → Joint (Break ∷ world) role (after_broke (base role) body) [] (after_broke (base (other role)) peer) [] ledger
   breaks-joint world role body coming peer to_peer ledger j own others =
       record {
         ends = breaks-kept free common proposed world role body coming peer to_peer j.ends own others;
         same = j.same;
-        transfer_log = λ r. let k = j.transfer_log r in record { started = k.started; encoded = k.encoded; arrived = k.arrived; items = k.items; encodings = k.encodings };
+        transfer_logs = λ r. let k = j.transfer_logs r in record { started = k.started; encoded = k.encoded; arrived = k.arrived; items = k.items; encodings = k.encodings };
       }
 
   -- ---- both sides of it
 
   pub flip : {world : World} {x y : Body} {f g : List Message} {ledger : Ledger} → Joint world Initiator x f y g ledger → Joint world Responder y g x f ledger
-  flip j = record { ends = record { run = j.ends.run; own = j.ends.others; others = j.ends.own }; same = j.same; transfer_log = j.transfer_log }
+  flip j = record { ends = record { run = j.ends.run; own = j.ends.others; others = j.ends.own }; same = j.same; transfer_logs = j.transfer_logs }
 
   pub flop : {world : World} {x y : Body} {f g : List Message} {ledger : Ledger} → Joint world Responder y g x f ledger → Joint world Initiator x f y g ledger
-  flop j = record { ends = record { run = j.ends.run; own = j.ends.others; others = j.ends.own }; same = j.same; transfer_log = j.transfer_log }
+  flop j = record { ends = record { run = j.ends.run; own = j.ends.others; others = j.ends.own }; same = j.same; transfer_logs = j.transfer_logs }

@@ -740,14 +740,14 @@ module _ (free : Free) (tables : Tables) (spellings : Spellings) (a b : Config) 
             record {
               ends = record { run = tt; own = record { state = refl; flight = tt }; others = record { state = refl; flight = tt } };
               same = record { set = refl; inter = refl; saved = refl; of_a = refl; of_b = refl };
-              transfer_log = first-log;
+              transfer_logs = first-log;
             };
         good_a = record { sound = record { numbered = tt; calm = tt; sets = tt; queues = tt }; sending = record { queue = tt; current = tt } };
         good_b = record { sound = record { numbered = tt; calm = tt; sets = tt; queues = tt }; sending = record { queue = tt; current = tt } };
         opened = Resting First (record { phase_is = refl; stage_is = refl; calm = refl }) (record { phase_is = refl; stage_is = refl; calm = refl }) refl refl;
       }
     where
-      first-log : (r : Role) → ledgers.LogsAre free tables spellings a b r (transfer_log_of r (first_ledger common).transfer_log) []
+      first-log : (r : Role) → ledgers.LogsAre free tables spellings a b r (transfer_log_of r (first_ledger common).transfer_logs) []
       first-log Initiator = record { started = refl; encoded = refl; arrived = refl; items = tt; encodings = tt }
       first-log Responder = record { started = refl; encoded = refl; arrived = refl; items = tt; encodings = tt }
 

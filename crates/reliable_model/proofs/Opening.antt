@@ -53,7 +53,7 @@ use Rattle.agreement.specs.Worlds.{World, shared_at}
 use Rattle.agreement.specs.Worlds.Step.{Acts, Takes as model_takes}
 use Rattle.agreement.specs.Worlds.Moment.{By}
 use Rattle.end_model.specs.Seen.{Free, phase_seen, awaited_seen, set_seen, queued_seen, seen}
-use Rattle.end_model.specs.OpenInvocations.{Numbered}
+use Rattle.end_model.specs.OpenInvocations.{AreNumberedCalls}
 use Rattle.end_model.specs.Words.{Means}
 use Rattle.end_model.specs.Acting.{IsSoundBody, TakenAs}
 use Rattle.end_model.proofs.Takes.{fine}
@@ -218,7 +218,7 @@ module _ (free : Free) (tables : Tables) (spellings : Spellings) (a b : Config) 
   pub good-same : (role : Role) (body later : Body) → later.calls ≡ body.calls → later.sending ≡ body.sending → Good role body → Good role later
   good-same role body later c s g =
       record {
-        sound = record { numbered = subst Numbered (sym c) g.sound.numbered; calm = tt; sets = tt; queues = tt };
+        sound = record { numbered = subst AreNumberedCalls (sym c) g.sound.numbered; calm = tt; sets = tt; queues = tt };
         sending = subst (IsSending (base role)) (sym s) g.sending;
       }
 

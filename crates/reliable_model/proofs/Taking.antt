@@ -56,7 +56,7 @@ use Rattle.agreement.proofs.Interface.{takes, laws}
 use Rattle.end_model.specs.Seen.{Free, role_seen, pair_seen, set_seen, phase_seen, awaited_seen, items_seen, item_seen}
 use Rattle.end_model.specs.Seen.{apdu_seen, incoming_seen, calls_seen, seen, setup_seen}
 use Rattle.end_model.specs.Rows.{at}
-use Rattle.end_model.specs.OpenInvocations.{Numbered}
+use Rattle.end_model.specs.OpenInvocations.{AreNumberedCalls}
 use Rattle.end_model.specs.Words.{Means, results_seen, value_of_item}
 use Rattle.end_model.specs.Acting.{IsSoundBody, TakenAs, ReadsBack}
 use Rattle.end_model.specs.Heard.{IsExpected}
@@ -132,7 +132,7 @@ same-live body later live s t m p =
     go (inl e) = inl (p ∙ e)
     go (inr e) = inr (p ∙ e)
 
-cut-numbered : (x : Option ℤ) (calls : Calls) → Numbered calls → Numbered (cut_invocation x calls)
+cut-numbered : (x : Option ℤ) (calls : Calls) → AreNumberedCalls calls → AreNumberedCalls (cut_invocation x calls)
 cut-numbered None calls h = h
 cut-numbered (Some id) calls h = numbered-closed calls.made true id calls.opens h
 
@@ -573,7 +573,7 @@ module _ (free : Free) (tables : Tables) (spellings : Spellings) (a b : Config) 
             });
         sound =
             subst (IsSoundBody Reliable (base role)) (sym later)
-            (record { numbered = subst Numbered (sym (heard-calls (base role) (ended body) item.id heard.calls heard.shown heard.reject)) hears_it.numbered; calm = tt; sets = tt; queues = tt });
+            (record { numbered = subst AreNumberedCalls (sym (heard-calls (base role) (ended body) item.id heard.calls heard.shown heard.reject)) hears_it.numbered; calm = tt; sets = tt; queues = tt });
         sending =
             subst (λ (y : Body). IsSending (base role) y.sending) (sym later)
             (heard-sending (base role) (ended body) item.id heard.calls heard.shown heard.reject hears_it.proper (heard-small free Reliable (base role) body.calls item.id item.apdu heard hears_it) h);

@@ -1,5 +1,5 @@
--- What two ends reach, in every mode: by calls, by what they do by themselves, by takings and by breaks; with what they share,
--- and a ledger of what each started, encoded and was handed up.
+-- What two ends reach, in every mode: by calls, by what they do by themselves, by takings and by breaks; with a
+-- ledger: what they share, and the transfer log of each, which is what it started, encoded and was handed up.
 use Rattle.std.specs.Prelude.{◌≡◌, ℕ, ℤ, List, [], ◌∷◌, ◌++◌, Bool, ◌||◌, if◌then◌else◌, Option, Some, None, Ok}
 use Rattle.osi_base.specs.declared.syntax.Pair.{Pair}
 use Rattle.osi_base.specs.declared.layer_words.SetItem.{SetItem}
@@ -48,21 +48,21 @@ pub record TransferLogs : Type 0 where
 
 pub record Ledger : Type 0 where
   pub shared : Shared
-  pub transfer_log : TransferLogs
+  pub transfer_logs : TransferLogs
 
 abbrev pub no_transfer_log : TransferLog
 no_transfer_log = record { started = []; encoded = []; arrived = [] }
 
 abbrev pub first_ledger : Common → Ledger
-first_ledger common = record { shared = shared_first (base_at Initiator common); transfer_log = record { a = no_transfer_log; b = no_transfer_log } }
+first_ledger common = record { shared = shared_first (base_at Initiator common); transfer_logs = record { a = no_transfer_log; b = no_transfer_log } }
 
 abbrev pub transfer_log_of : Role → TransferLogs → TransferLog
-transfer_log_of Initiator transfer_log = transfer_log.a
-transfer_log_of Responder transfer_log = transfer_log.b
+transfer_log_of Initiator transfer_logs = transfer_logs.a
+transfer_log_of Responder transfer_logs = transfer_logs.b
 
 abbrev pub on_transfer_log : Role → (TransferLog → TransferLog) → TransferLogs → TransferLogs
-on_transfer_log Initiator change transfer_log = record transfer_log { a = change transfer_log.a }
-on_transfer_log Responder change transfer_log = record transfer_log { b = change transfer_log.b }
+on_transfer_log Initiator change transfer_logs = record transfer_logs { a = change transfer_logs.a }
+on_transfer_log Responder change transfer_logs = record transfer_logs { b = change transfer_logs.b }
 
 -- ---- what each step adds
 
@@ -116,7 +116,7 @@ abbrev pub after_acting : Common → Role → List Message → List Queued → L
 after_acting common role sent items encodings ledger =
     record {
       shared = shared_all_sent common.mode (side_of role) sent ledger.shared;
-      transfer_log = on_transfer_log role (longer_transfer_log items encodings) ledger.transfer_log;
+      transfer_logs = on_transfer_log role (longer_transfer_log items encodings) ledger.transfer_logs;
     }
 
 abbrev pub after_own : Common → Role → Body → OwnAct → Ledger → Ledger
@@ -131,7 +131,7 @@ abbrev pub after_taking : Common → Role → Body → Message → List Message 
 after_taking common role body message answers ledger =
     record {
       shared = shared_all_answered (base_at role common) message answers ledger.shared;
-      transfer_log = on_transfer_log role (transfer_log_taken (base_at role common) body message) ledger.transfer_log;
+      transfer_logs = on_transfer_log role (transfer_log_taken (base_at role common) body message) ledger.transfer_logs;
     }
 
 -- ---- what is reached

@@ -19,7 +19,7 @@ use Rattle.reliable_model.specs.Codecs.{Carries}
 use Rattle.reliable_model.specs.Ledgers.{Encoding, transfer_log_of, Ledger, ReachedWithLedger}
 use Rattle.reliable_model.specs.ReliableEnds.{reliable_common, IsFit}
 
--- in every pair of ends of reliable mode this holds of whatever they reach
+-- of every two ends of reliable mode this holds, whatever they reach
 abbrev pub EverReliable : (Common → Two → Ledger → Type 0) → Type 0
 EverReliable Law =
     (free : Free) (tables : Tables) (spellings : Spellings) (a b : Config) → Carries free (base_at Initiator (reliable_common tables spellings a b)) →
@@ -46,7 +46,7 @@ IsNewest encoding (first ∷ rest) = first ≡ encoding
 pub record ArrivesWhole (common : Common) (two : Two) (ledger : Ledger) (role : Role) : Type 0 where
   pub item : Item
   pub arrived : arrived_now (base_at role common) (body_at role two) ≡ Ok (Whole item)
-  pub encoded : IsNewest (record { activity = (body_at role two).receiving.last; id = item.id; pair = Some item.pair; apdu = item.apdu }) (transfer_log_of (other role) ledger.transfer_log).encoded
+  pub encoded : IsNewest (record { activity = (body_at role two).receiving.last; id = item.id; pair = Some item.pair; apdu = item.apdu }) (transfer_log_of (other role) ledger.transfer_logs).encoded
 
 abbrev pub ReliableArriveWhole : Type 0
 ReliableArriveWhole = EverReliable (λ common two ledger. (role : Role) → TakesTransferEnd common two role → ArrivesWhole common two ledger role)
@@ -58,7 +58,7 @@ ReliableAsSent =
     EverReliable (λ common two ledger. (role : Role) (item : Item) → TakesTransferEnd common two role →
     arrived_now (base_at role common) (body_at role two) ≡ Ok (Whole item) →
     (pair_of (body_at role two).sets.held item.id ≡ Some item.pair) ×
-    IsNewest (record { activity = (body_at role two).receiving.last; id = item.id; pair = pair_of (body_at role two).sets.held item.id; apdu = item.apdu }) (transfer_log_of (other role) ledger.transfer_log).encoded)
+    IsNewest (record { activity = (body_at role two).receiving.last; id = item.id; pair = pair_of (body_at role two).sets.held item.id; apdu = item.apdu }) (transfer_log_of (other role) ledger.transfer_logs).encoded)
 
 -- the k-th item that was started, of a list with the newest first
 abbrev pub item_of : ℕ → List Queued → Option Queued
@@ -72,9 +72,9 @@ IsOf apdu (Some item) = item.apdu ≡ apdu
 -- what was encoded last for an activity is the item that was started as that activity
 abbrev pub ReliableItems : Type 0
 ReliableItems =
-    EverReliable (λ common two ledger. (role : Role) (encoding : Encoding) → IsNewest encoding (transfer_log_of role ledger.transfer_log).encoded →
-    IsOf encoding.apdu (item_of encoding.activity (transfer_log_of role ledger.transfer_log).started))
+    EverReliable (λ common two ledger. (role : Role) (encoding : Encoding) → IsNewest encoding (transfer_log_of role ledger.transfer_logs).encoded →
+    IsOf encoding.apdu (item_of encoding.activity (transfer_log_of role ledger.transfer_logs).started))
 
 -- the numbers of the transfers that are handed up rise
 abbrev pub ReliableArriveOnce : Type 0
-ReliableArriveOnce = EverReliable (λ common two ledger. (role : Role) → AreFalling (transfer_log_of role ledger.transfer_log).arrived)
+ReliableArriveOnce = EverReliable (λ common two ledger. (role : Role) → AreFalling (transfer_log_of role ledger.transfer_logs).arrived)

@@ -4,10 +4,10 @@
 #![tactic(auto)]
 
 mod own_messages;
-mod pairs;
+mod reliable_ends;
 
 pub use own_messages::own_messages_act;
-pub use pairs::{
+pub use reliable_ends::{
     reliable_ends_are_modelled, reliable_transfers_arrive_whole_at_most_once,
     reliable_turn_has_one_holder, reliable_values_are_as_sent,
 };

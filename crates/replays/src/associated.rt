@@ -7,7 +7,7 @@ ghost use Rattle.end_rules.specs.Base.{base_of, is_bare};
 ghost use Rattle.codec_runs.specs.association_reading.Transfers.{association_spellings};
 ghost use Rattle.association_duo.specs.association_line.Line.{new_end};
 ghost use Rattle.association_duo.specs.association_end.View.{StandsFor};
-ghost use Rattle.schedule_text.specs.Schedules.{said};
+ghost use Rattle.schedule_text.specs.Schedules.{configs_and_events};
 ghost use Rattle.replays.specs.Runs.{IsSetUp, RanOver, RanAssociated};
 
 use crate::laws::associated_runs_keep_laws;
@@ -62,9 +62,9 @@ pub fn run_associated(
     schedule: Schedule,
 ) -> Result<Transcript, NoMemory>
     requires associated { is_bare schedule.setup.a.mode ≡ false }
-    requires set_up { IsSetUp (said schedule) }
+    requires set_up { IsSetUp (configs_and_events schedule) }
     requires typed { HasNoAny tables.now.types }
-    ensures { IfOk result (RanAssociated tables.now (said schedule)) }
+    ensures { IfOk result (RanAssociated tables.now (configs_and_events schedule)) }
 {
     associated_runs_keep_laws();
     tables.is_readable();

@@ -4,7 +4,7 @@ ghost use Rattle.std.specs.Prelude.{◌≡◌, true, false, [], None, IfOk};
 ghost use Rattle.dialogue.specs.declared.config.Mode.TheVariants as modes;
 ghost use Rattle.dialogue.specs.Config.{config_refusal, IsBare};
 ghost use Rattle.bare_duo.specs.bare_end.View.{StandsFor};
-ghost use Rattle.schedule_text.specs.Schedules.{said};
+ghost use Rattle.schedule_text.specs.Schedules.{configs_and_events};
 ghost use Rattle.replays.specs.Runs.{BareRanOver, RanBare};
 
 use bare_duo::bare_end_layer::End;
@@ -52,7 +52,7 @@ fn run_ends(
 pub fn run_bare(alloc: Global, tables: &Tables, schedule: Schedule) -> Result<Transcript, NoMemory>
     requires a { IsBare true schedule.setup.a }
     requires b { IsBare false schedule.setup.b }
-    ensures { IfOk result (RanBare tables.now (said schedule)) }
+    ensures { IfOk result (RanBare tables.now (configs_and_events schedule)) }
 {
     let Schedule { setup, events } = schedule;
     let a = new_end(alloc, tables, setup.a)?;

@@ -2,7 +2,7 @@
 
 ghost use Rattle.std.specs.Prelude.{IfOk};
 ghost use Rattle.packed_codec.specs.Laws.{HasNoAny};
-ghost use Rattle.schedule_text.specs.Schedules.{said};
+ghost use Rattle.schedule_text.specs.Schedules.{configs_and_events};
 ghost use Rattle.replays.specs.Runs.{IsSetUp, RanSchedule};
 
 use crate::associated::run_associated;
@@ -25,9 +25,9 @@ pub fn run_schedule(
     tables: &Tables,
     schedule: Schedule,
 ) -> Result<Transcript, NoMemory>
-    requires set_up { IsSetUp (said schedule) }
+    requires set_up { IsSetUp (configs_and_events schedule) }
     requires typed { HasNoAny tables.now.types }
-    ensures { IfOk result (RanSchedule tables.now (said schedule)) }
+    ensures { IfOk result (RanSchedule tables.now (configs_and_events schedule)) }
 {
     setups_of_bare_mode();
     match schedule.setup.a.mode {

@@ -11,10 +11,10 @@ use Rattle.apdu_spelling.specs.Spellings.{CarriedAs}
 use Rattle.apdu_spelling.proofs.OneHead.{one_carried}
 use Rattle.end_wire.specs.end_rules.Base.{Carried, Absent, Spelled, Unspelled}
 use Rattle.end_wire.specs.end_rules.Hearing.{problem_if, value_in}
-use Rattle.rose_roles.specs.declared.apdu_problems.Judged.TheVariants as judged
+use Rattle.rose_roles.specs.declared.apdu_problems.ValueOrProblem.TheVariants as value_or_problem
 use Rattle.rose_roles.specs.Heads.{room_in, Carries}
 use Rattle.rose_roles.specs.Values.{IsAllowedIn}
-use Rattle.rose_roles.specs.ApduProblems.{is_right, IsAllowed, IsJudged}
+use Rattle.rose_roles.specs.ApduProblems.{is_right, IsAllowed, IsValueOrProblem}
 
 room_le : (s : Syntax) (room : ℕ) → room_in s room ≤ 262144
 room_le syntax.Ber room = omega arith
@@ -54,8 +54,8 @@ module _ (t : Tables) (readable : IsReadable t) (s : Syntax) (room : ℕ) (used 
   wrong (Some os) (Spelled w) k h = h (Some w) k
   wrong (Some os) Unspelled k h = refl
 
-  pub right_there : (os : Option (List ℕ)) (problem : ℕ) (c : Carried) (v : Option Val) → Carries s t.types room (Some used) os c → IsAllowedIn s t.types room used os (Some v) → IsJudged (problem_if (not (is_right t.types used c)) problem) (value_in c) (judged.Right v)
+  pub right_there : (os : Option (List ℕ)) (problem : ℕ) (c : Carried) (v : Option Val) → Carries s t.types room (Some used) os c → IsAllowedIn s t.types room used os (Some v) → IsValueOrProblem (problem_if (not (is_right t.types used c)) problem) (value_in c) (value_or_problem.Right v)
   right_there os problem c v k h = let r = right os c v k h in (ap (λ (b : Bool). problem_if (not b) problem) r.0, r.1)
 
-  pub wrong_there : (os : Option (List ℕ)) (problem : ℕ) (c : Carried) → Carries s t.types room (Some used) os c → IsAllowedIn s t.types room used os None → IsJudged (problem_if (not (is_right t.types used c)) problem) (value_in c) (judged.Wrong problem)
+  pub wrong_there : (os : Option (List ℕ)) (problem : ℕ) (c : Carried) → Carries s t.types room (Some used) os c → IsAllowedIn s t.types room used os None → IsValueOrProblem (problem_if (not (is_right t.types used c)) problem) (value_in c) (value_or_problem.Wrong problem)
   wrong_there os problem c k h = ap (λ (b : Bool). problem_if (not b) problem) (wrong os c k h)

@@ -21,12 +21,12 @@ use Rattle.end_wire.specs.end_rules.Base.{Base, Carried, BadReject, InvokeHead, 
 use Rattle.end_wire.specs.end_rules.State as ends
 use Rattle.end_wire.specs.end_rules.Hearing as rules
 use Rattle.rose_roles.specs.declared.invoked_with.InvokedWith.{InvokedWith}
-use Rattle.rose_roles.specs.declared.apdu_problems.Judged as judgeds
-use Rattle.rose_roles.specs.declared.apdu_problems.Judged.TheVariants as judged
+use Rattle.rose_roles.specs.declared.apdu_problems.ValueOrProblem as values_or_problems
+use Rattle.rose_roles.specs.declared.apdu_problems.ValueOrProblem.TheVariants as value_or_problem
 use Rattle.rose_roles.specs.declared.apdu_taken.RoseTaken.TheVariants as taken
 use Rattle.rose_roles.specs.Calls.{Kept, Invoking, called, AreOpen, calls_of}
 use Rattle.rose_roles.specs.Heads.{Carries, use_by, parameter_placed, invoke_by, result_by, error_by, reject_by, head_by, said_by, is_invocation}
-use Rattle.rose_roles.specs.ApduProblems as judging
+use Rattle.rose_roles.specs.ApduProblems as of_apdus
 use Rattle.rose_roles.specs.Hearing.{heard_with, result_taken, error_taken}
 use Rattle.rose_roles.proofs.Hearings.{Matches, matching, right_is}
 
@@ -94,24 +94,24 @@ module _ (t : Tables) (s : Syntax) (room : ℕ) (os : Option (List ℕ)) (carrie
 
 -- ---- outcomes
 
-right_result_is : (base : Base) (place : ℕ) (o : Operation) (code : Option Code) (v : Carried) → rules.is_right_result base place o code v ≡ judging.right_result base.tables place o code v
+right_result_is : (base : Base) (place : ℕ) (o : Operation) (code : Option Code) (v : Carried) → rules.is_right_result base place o code v ≡ of_apdus.right_result base.tables place o code v
 right_result_is base place o None v = refl
 right_result_is base place o (Some code) v = ap (λ (b : Bool). rules.is_place (operation_with base.tables code) place && b) (right_is base o.result v)
 
-result_is : (base : Base) (place : ℕ) (o : Option Operation) (code : Option Code) (v : Carried) → rules.result_problem base place o code v ≡ judging.result_problem base.tables place o code v
+result_is : (base : Base) (place : ℕ) (o : Option Operation) (code : Option Code) (v : Carried) → rules.result_problem base place o code v ≡ of_apdus.result_problem base.tables place o code v
 result_is base place None code v = refl
 result_is base place (Some o) code v =
     ap (λ (b : Bool). rules.first_problem (rules.problem_if (not o.returns) 1) (rules.problem_if (not b) 2)) (right_result_is base place o code v)
 
-known_error_by : (base : Base) (o : Operation) (place : ℕ) (v : Carried) (row : Option ErrorRow) → error_at base.tables place ≡ row → rules.known_error_problem base o (Some place) v ≡ judging.known_error_problem base.tables o (Some place) v
+known_error_by : (base : Base) (o : Operation) (place : ℕ) (v : Carried) (row : Option ErrorRow) → error_at base.tables place ≡ row → rules.known_error_problem base o (Some place) v ≡ of_apdus.known_error_problem base.tables o (Some place) v
 known_error_by base o place v None e = rw e refl
 known_error_by base o place v (Some row) e = rw (e, right_is base row.parameter v) refl
 
-known_error_is : (base : Base) (o : Operation) (place : Option ℕ) (v : Carried) → rules.known_error_problem base o place v ≡ judging.known_error_problem base.tables o place v
+known_error_is : (base : Base) (o : Operation) (place : Option ℕ) (v : Carried) → rules.known_error_problem base o place v ≡ of_apdus.known_error_problem base.tables o place v
 known_error_is base o None v = refl
 known_error_is base o (Some place) v = known_error_by base o place v (error_at base.tables place) refl
 
-error_is : (base : Base) (o : Option Operation) (place : Option ℕ) (v : Carried) → rules.error_problem base o place v ≡ judging.error_problem base.tables o place v
+error_is : (base : Base) (o : Option Operation) (place : Option ℕ) (v : Carried) → rules.error_problem base o place v ≡ of_apdus.error_problem base.tables o place v
 error_is base None place v = refl
 error_is base (Some o) place v = ap (λ (p : Option ℕ). rules.first_problem (rules.problem_if (ends.is_empty o.errors) 1) p) (known_error_is base o place v)
 
@@ -140,44 +140,44 @@ module _ (base : Base) (es : List Entry) (own : Invoking) (performed : Kept) (mi
     pub shut_error : (code : Code) → called id own.kept ≡ None → heard_with calls (taken.Reject (Some id) (rules.problem_with problems.Error 0)) ≡ rules.hear base calls context (ErrorHead id code v)
     shut_error code e = sym (ap (λ (o : Option ends.OpenCall). rules.hear_error_of base calls id o (error_with base.tables code) v) (none_open the_open (matches None e)))
 
-    result_by_judged : (p : Option ℕ) (j : judgeds.Judged) → judging.IsJudged p (rules.value_in v) j
+    result_by_found : (p : Option ℕ) (j : values_or_problems.ValueOrProblem) → of_apdus.IsValueOrProblem p (rules.value_in v) j
         → heard_with (ends.close true id calls) (result_taken id j) ≡ rules.unless_problem p (rules.rejected (ends.close true id calls) (Some id) problems.Result) (rules.told (ends.close true id calls) (indications.Result id (rules.value_in v)))
-    result_by_judged p (judged.Right w) h =
+    result_by_found p (value_or_problem.Right w) h =
         sym (ap (λ (x : Option ℕ). rules.unless_problem x (rules.rejected (ends.close true id calls) (Some id) problems.Result) (rules.told (ends.close true id calls) (indications.Result id (rules.value_in v)))) h.0
         ∙ ap (λ (x : Option Val). rules.told (ends.close true id calls) (indications.Result id x)) (sym h.1))
-    result_by_judged p (judged.Wrong n) h =
+    result_by_found p (value_or_problem.Wrong n) h =
         sym (ap (λ (x : Option ℕ). rules.unless_problem x (rules.rejected (ends.close true id calls) (Some id) problems.Result) (rules.told (ends.close true id calls) (indications.Result id (rules.value_in v)))) h)
 
-    pub heard_result : (t : Tables) → base.tables ≡ t → (c : InvokedWith) → called id own.kept ≡ Some c → (code : Option Code) (j : judgeds.Judged)
-        → judging.IsJudged (judging.result_problem t c.operation (operation_at t c.operation) code v) (rules.value_in v) j
+    pub heard_result : (t : Tables) → base.tables ≡ t → (c : InvokedWith) → called id own.kept ≡ Some c → (code : Option Code) (j : values_or_problems.ValueOrProblem)
+        → of_apdus.IsValueOrProblem (of_apdus.result_problem t c.operation (operation_at t c.operation) code v) (rules.value_in v) j
         → heard_with (ends.close true id calls) (result_taken id j) ≡ rules.hear base calls context (ResultHead id code v)
     heard_result t same c e code j h =
         let m = one_open the_open c (matches (Some c) e) in
-        let h1 = subst (λ (x : Tables). judging.IsJudged (judging.result_problem x c.operation (operation_at x c.operation) code v) (rules.value_in v) j) (sym same) h in
-        let h2 = subst (λ (p : ℕ). judging.IsJudged (judging.result_problem base.tables p (operation_at base.tables p) code v) (rules.value_in v) j) (sym m.2) h1 in
-        let h3 = subst (λ (p : Option ℕ). judging.IsJudged p (rules.value_in v) j) (sym (result_is base m.0.operation (operation_at base.tables m.0.operation) code v)) h2 in
-        result_by_judged _ j h3 ∙ sym (ap (λ (o : Option ends.OpenCall). rules.hear_result_of base calls id o code v) m.1)
+        let h1 = subst (λ (x : Tables). of_apdus.IsValueOrProblem (of_apdus.result_problem x c.operation (operation_at x c.operation) code v) (rules.value_in v) j) (sym same) h in
+        let h2 = subst (λ (p : ℕ). of_apdus.IsValueOrProblem (of_apdus.result_problem base.tables p (operation_at base.tables p) code v) (rules.value_in v) j) (sym m.2) h1 in
+        let h3 = subst (λ (p : Option ℕ). of_apdus.IsValueOrProblem p (rules.value_in v) j) (sym (result_is base m.0.operation (operation_at base.tables m.0.operation) code v)) h2 in
+        result_by_found _ j h3 ∙ sym (ap (λ (o : Option ends.OpenCall). rules.hear_result_of base calls id o code v) m.1)
 
-    error_by_judged : (error : Option ℕ) (p : Option ℕ) (j : judgeds.Judged) → judging.IsJudged p (rules.value_in v) j
+    error_by_found : (error : Option ℕ) (p : Option ℕ) (j : values_or_problems.ValueOrProblem) → of_apdus.IsValueOrProblem p (rules.value_in v) j
         → heard_with (ends.close true id calls) (error_taken id error j) ≡ rules.unless_problem p (rules.rejected (ends.close true id calls) (Some id) problems.Error) (rules.error_told (ends.close true id calls) id error v)
-    error_by_judged None p (judged.Right w) h =
+    error_by_found None p (value_or_problem.Right w) h =
         sym (ap (λ (x : Option ℕ). rules.unless_problem x (rules.rejected (ends.close true id calls) (Some id) problems.Error) (rules.error_told (ends.close true id calls) id None v)) h.0)
-    error_by_judged (Some error) p (judged.Right w) h =
+    error_by_found (Some error) p (value_or_problem.Right w) h =
         sym (ap (λ (x : Option ℕ). rules.unless_problem x (rules.rejected (ends.close true id calls) (Some id) problems.Error) (rules.error_told (ends.close true id calls) id (Some error) v)) h.0
         ∙ ap (λ (x : Option Val). rules.told (ends.close true id calls) (indications.Error id error x)) (sym h.1))
-    error_by_judged error p (judged.Wrong n) h =
+    error_by_found error p (value_or_problem.Wrong n) h =
         sym (ap (λ (x : Option ℕ). rules.unless_problem x (rules.rejected (ends.close true id calls) (Some id) problems.Error) (rules.error_told (ends.close true id calls) id error v)) h)
 
-    pub heard_error : (t : Tables) → base.tables ≡ t → (c : InvokedWith) → called id own.kept ≡ Some c → (code : Code) (error : Option ℕ) → error ≡ error_with t code → (j : judgeds.Judged)
-        → judging.IsJudged (judging.error_problem t (operation_at t c.operation) error v) (rules.value_in v) j
+    pub heard_error : (t : Tables) → base.tables ≡ t → (c : InvokedWith) → called id own.kept ≡ Some c → (code : Code) (error : Option ℕ) → error ≡ error_with t code → (j : values_or_problems.ValueOrProblem)
+        → of_apdus.IsValueOrProblem (of_apdus.error_problem t (operation_at t c.operation) error v) (rules.value_in v) j
         → heard_with (ends.close true id calls) (error_taken id error j) ≡ rules.hear base calls context (ErrorHead id code v)
     heard_error t same c e code error is j h =
         let m = one_open the_open c (matches (Some c) e) in
-        let h1 = subst (λ (x : Tables). judging.IsJudged (judging.error_problem x (operation_at x c.operation) error v) (rules.value_in v) j) (sym same) h in
-        let h2 = subst (λ (p : ℕ). judging.IsJudged (judging.error_problem base.tables (operation_at base.tables p) error v) (rules.value_in v) j) (sym m.2) h1 in
-        let h3 = subst (λ (p : Option ℕ). judging.IsJudged p (rules.value_in v) j) (sym (error_is base (operation_at base.tables m.0.operation) error v)) h2 in
+        let h1 = subst (λ (x : Tables). of_apdus.IsValueOrProblem (of_apdus.error_problem x (operation_at x c.operation) error v) (rules.value_in v) j) (sym same) h in
+        let h2 = subst (λ (p : ℕ). of_apdus.IsValueOrProblem (of_apdus.error_problem base.tables (operation_at base.tables p) error v) (rules.value_in v) j) (sym m.2) h1 in
+        let h3 = subst (λ (p : Option ℕ). of_apdus.IsValueOrProblem p (rules.value_in v) j) (sym (error_is base (operation_at base.tables m.0.operation) error v)) h2 in
         let x : error ≡ error_with base.tables code = is ∙ ap (λ (y : Tables). error_with y code) (sym same) in
-        error_by_judged error _ j h3 ∙ sym ((λ k. rules.hear_error_of base calls id (m.1 k) (sym x k) v))
+        error_by_found error _ j h3 ∙ sym ((λ k. rules.hear_error_of base calls id (m.1 k) (sym x k) v))
 
   -- a reject of an own invocation
   pub heard_rejected : (problem : Problem) (c : InvokedWith) → rules.is_of_invocation problem.kind ≡ true → called id own.kept ≡ Some c

@@ -17,8 +17,8 @@ use Rattle.end_wire.specs.end_rules.State.{is_empty}
 use Rattle.end_wire.specs.end_rules.Invoking.{is_linked_to}
 use Rattle.end_wire.specs.end_rules.Hearing.{first_problem, problem_if, has_links, is_place}
 use Rattle.rose_roles.specs.declared.invoked_with.InvokedWith.{InvokedWith}
-use Rattle.rose_roles.specs.declared.apdu_problems.Judged as judgeds
-use Rattle.rose_roles.specs.declared.apdu_problems.Judged.TheVariants as judged
+use Rattle.rose_roles.specs.declared.apdu_problems.ValueOrProblem as values_or_problems
+use Rattle.rose_roles.specs.declared.apdu_problems.ValueOrProblem.TheVariants as value_or_problem
 use Rattle.rose_roles.specs.Calls.{Kept, called}
 
 abbrev pub silent : Option Operation → Bool
@@ -65,9 +65,9 @@ IsAllowed right value (Some v) = (right ≡ true) × (v ≡ value)
 IsAllowed right value None = right ≡ false
 
 -- the problem, or the value where there is none
-abbrev pub IsJudged : Option ℕ → Option Val → judgeds.Judged → Type 0
-IsJudged problem value (judged.Right v) = (problem ≡ None) × (v ≡ value)
-IsJudged problem value (judged.Wrong number) = problem ≡ Some number
+abbrev pub IsValueOrProblem : Option ℕ → Option Val → values_or_problems.ValueOrProblem → Type 0
+IsValueOrProblem problem value (value_or_problem.Right v) = (problem ≡ None) × (v ≡ value)
+IsValueOrProblem problem value (value_or_problem.Wrong number) = problem ≡ Some number
 
 abbrev pub operation_argument_problem : Tables → Option Operation → Carried → Option ℕ
 operation_argument_problem tables None argument = Some 2
@@ -83,9 +83,9 @@ invoke_problem tables invoked performed id linked place argument =
     first_problem (early_problem tables invoked performed id linked place) (argument_problem tables place argument)
 
 -- what is right has no earlier problem
-abbrev pub IsFree : Option ℕ → judgeds.Judged → Type 0
-IsFree early (judged.Right v) = early ≡ None
-IsFree early (judged.Wrong number) = Unit {0}
+abbrev pub IsFree : Option ℕ → values_or_problems.ValueOrProblem → Type 0
+IsFree early (value_or_problem.Right v) = early ≡ None
+IsFree early (value_or_problem.Wrong number) = Unit {0}
 
 -- a result without a code and a value, or one with the operation's code and a value of its type
 abbrev pub right_result : Tables → ℕ → Operation → Option Code → Carried → Bool

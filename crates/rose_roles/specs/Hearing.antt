@@ -14,8 +14,8 @@ use Rattle.end_wire.specs.end_rules.State as ends
 use Rattle.end_wire.specs.end_rules.Hearing.{Heard, told, hear, problem_with}
 use Rattle.rose_roles.specs.declared.apdu_taken.RoseTaken as takens
 use Rattle.rose_roles.specs.declared.apdu_taken.RoseTaken.TheVariants as taken
-use Rattle.rose_roles.specs.declared.apdu_problems.Judged as judgeds
-use Rattle.rose_roles.specs.declared.apdu_problems.Judged.TheVariants as judged
+use Rattle.rose_roles.specs.declared.apdu_problems.ValueOrProblem as values_or_problems
+use Rattle.rose_roles.specs.declared.apdu_problems.ValueOrProblem.TheVariants as value_or_problem
 use Rattle.rose_roles.specs.Heads.{HeadCarries, said_by}
 
 -- an answer as an indication, or as the reject that is due
@@ -37,18 +37,18 @@ HearsHead tables context head Carrying before after answer =
 abbrev pub Hears : Tables → Syntax → ℕ → ApduHead → ends.Calls → ends.Calls → takens.RoseTaken → Type 0
 Hears tables syntax context head before after answer = HearsHead tables context (said_by head) (HeadCarries tables syntax head) before after answer
 
--- what an outcome tells once it was judged
-abbrev pub result_taken : ℤ → judgeds.Judged → takens.RoseTaken
-result_taken id (judged.Right value) = taken.Result id value
-result_taken id (judged.Wrong number) = taken.Reject (Some id) (problem_with kinds.Result number)
+-- what an outcome tells, by its value or its problem
+abbrev pub result_taken : ℤ → values_or_problems.ValueOrProblem → takens.RoseTaken
+result_taken id (value_or_problem.Right value) = taken.Result id value
+result_taken id (value_or_problem.Wrong number) = taken.Reject (Some id) (problem_with kinds.Result number)
 
 abbrev pub error_placed : ℤ → Option ℕ → Option Val → takens.RoseTaken
 error_placed id None parameter = taken.Reject (Some id) (problem_with kinds.Error 2)
 error_placed id (Some error) parameter = taken.Error id error parameter
 
-abbrev pub error_taken : ℤ → Option ℕ → judgeds.Judged → takens.RoseTaken
-error_taken id error (judged.Right parameter) = error_placed id error parameter
-error_taken id error (judged.Wrong number) = taken.Reject (Some id) (problem_with kinds.Error number)
+abbrev pub error_taken : ℤ → Option ℕ → values_or_problems.ValueOrProblem → takens.RoseTaken
+error_taken id error (value_or_problem.Right parameter) = error_placed id error parameter
+error_taken id error (value_or_problem.Wrong number) = taken.Reject (Some id) (problem_with kinds.Error number)
 
 -- octets that are no head
 abbrev pub refused_as : faults.HeadFault → Result takens.RoseTaken NoMemory

@@ -9,7 +9,7 @@ ghost use Rattle.end_wire.specs.end_rules.Base.{Carried};
 ghost use Rattle.end_wire.specs.end_rules.Hearing.{has_links, problem_if, value_in};
 ghost use Rattle.end_wire.specs.end_rules.Sets.{is_among};
 ghost use Rattle.end_wire.specs.end_rules.Invoking.{is_linked_to};
-ghost use Rattle.rose_roles.specs.ApduProblems.{silent, operation_called, argument_problem, link_problem, is_right, IsJudged, result_problem, error_problem, known_error_problem};
+ghost use Rattle.rose_roles.specs.ApduProblems.{silent, operation_called, argument_problem, link_problem, is_right, IsValueOrProblem, result_problem, error_problem, known_error_problem};
 ghost use Rattle.rose_roles.specs.Heads.{Carries, use_by, parameter_at, parameter_placed};
 
 use crate::invoked_with::InvokedWith;
@@ -21,7 +21,7 @@ use stub_tables::{Code, Operation, Tables, Use};
 
 /// The value that is right, or the number of the problem.
 #[derive(Drop)]
-pub(crate) enum Judged {
+pub(crate) enum ValueOrProblem {
     Right(Option<Val>),
     Wrong(u8),
 }
@@ -80,7 +80,7 @@ pub(crate) fn link_problem(tables: &Tables, parent: Option<InvokedWith>, place: 
 }
 
 /// The value that is carried, or this problem.
-pub(crate) fn judge_value(
+pub(crate) fn value_or_problem(
     alloc: Global,
     syntax: Syntax,
     tables: &Tables,
@@ -88,21 +88,21 @@ pub(crate) fn judge_value(
     octets: &Option<Octets>,
     room: u32,
     problem: u8,
-) -> Result<Judged, NoMemory>
-    ensures { IfOk result (λ judged. (carried : Carried) → Carries syntax tables.now.types room
+) -> Result<ValueOrProblem, NoMemory>
+    ensures { IfOk result (λ found. (carried : Carried) → Carries syntax tables.now.types room
         (Some used.now) octets.now carried →
-        IsJudged (problem_if (not (is_right tables.now.types used.now carried)) problem)
-        (value_in carried) judged) }
+        IsValueOrProblem (problem_if (not (is_right tables.now.types used.now carried)) problem)
+        (value_in carried) found) }
 {
     tables.is_readable();
     match allowed(alloc, syntax, &tables.types, used, octets, room)? {
-        Some(value) => Ok(Judged::Right(value)),
-        None => Ok(Judged::Wrong(problem)),
+        Some(value) => Ok(ValueOrProblem::Right(value)),
+        None => Ok(ValueOrProblem::Wrong(problem)),
     }
 }
 
 /// What an outcome of the operation at this place says that returns what its code and octets say.
-pub(crate) fn judge_result(
+pub(crate) fn result_or_problem(
     alloc: Global,
     syntax: Syntax,
     tables: &Tables,
@@ -110,32 +110,32 @@ pub(crate) fn judge_result(
     code: &Option<Code>,
     octets: &Option<Octets>,
     room: u32,
-) -> Result<Judged, NoMemory>
-    ensures { IfOk result (λ judged. (carried : Carried) → Carries syntax tables.now.types room
+) -> Result<ValueOrProblem, NoMemory>
+    ensures { IfOk result (λ found. (carried : Carried) → Carries syntax tables.now.types room
         (use_by tables.now kinds.Result code.now) octets.now carried →
-        IsJudged (result_problem tables.now place (operation_at tables.now place) code.now carried)
-        (value_in carried) judged) }
+        IsValueOrProblem (result_problem tables.now place (operation_at tables.now place) code.now carried)
+        (value_in carried) found) }
 {
     let Some(operation) = tables.operation(place) else {
-        return Ok(Judged::Wrong(1));
+        return Ok(ValueOrProblem::Wrong(1));
     };
     if !operation.returns {
-        return Ok(Judged::Wrong(1));
+        return Ok(ValueOrProblem::Wrong(1));
     }
     let Some(code) = code else {
         if operation.result.carries(&tables.types, &None) {
-            return Ok(Judged::Right(None));
+            return Ok(ValueOrProblem::Right(None));
         }
-        return Ok(Judged::Wrong(2));
+        return Ok(ValueOrProblem::Wrong(2));
     };
     if tables.operation_with(code) != Some(place) {
-        return Ok(Judged::Wrong(2));
+        return Ok(ValueOrProblem::Wrong(2));
     }
-    judge_value(alloc, syntax, tables, &operation.result, octets, room, 2)
+    value_or_problem(alloc, syntax, tables, &operation.result, octets, room, 2)
 }
 
 /// What a known error says of an operation.
-fn judge_known_error(
+fn known_error_or_problem(
     alloc: Global,
     syntax: Syntax,
     tables: &Tables,
@@ -143,23 +143,23 @@ fn judge_known_error(
     error: u32,
     octets: &Option<Octets>,
     room: u32,
-) -> Result<Judged, NoMemory>
-    ensures { IfOk result (λ judged. (carried : Carried) → Carries syntax tables.now.types room
+) -> Result<ValueOrProblem, NoMemory>
+    ensures { IfOk result (λ found. (carried : Carried) → Carries syntax tables.now.types room
         (parameter_at tables.now error) octets.now carried →
-        IsJudged (known_error_problem tables.now operation.now (Some error) carried)
-        (value_in carried) judged) }
+        IsValueOrProblem (known_error_problem tables.now operation.now (Some error) carried)
+        (value_in carried) found) }
 {
     if !operation.has_error(error) {
-        return Ok(Judged::Wrong(3));
+        return Ok(ValueOrProblem::Wrong(3));
     }
     match tables.error(error) {
-        Some(row) => judge_value(alloc, syntax, tables, &row.parameter, octets, room, 4),
-        None => Ok(Judged::Wrong(4)),
+        Some(row) => value_or_problem(alloc, syntax, tables, &row.parameter, octets, room, 4),
+        None => Ok(ValueOrProblem::Wrong(4)),
     }
 }
 
 /// What an outcome of the operation at this place says that is this error with these octets.
-pub(crate) fn judge_error(
+pub(crate) fn error_or_problem(
     alloc: Global,
     syntax: Syntax,
     tables: &Tables,
@@ -167,44 +167,46 @@ pub(crate) fn judge_error(
     error: Option<u32>,
     octets: &Option<Octets>,
     room: u32,
-) -> Result<Judged, NoMemory>
-    ensures { IfOk result (λ judged. (carried : Carried) → Carries syntax tables.now.types room
+) -> Result<ValueOrProblem, NoMemory>
+    ensures { IfOk result (λ found. (carried : Carried) → Carries syntax tables.now.types room
         (parameter_placed tables.now error) octets.now carried →
-        IsJudged (error_problem tables.now (operation_at tables.now place) error carried)
-        (value_in carried) judged) }
+        IsValueOrProblem (error_problem tables.now (operation_at tables.now place) error carried)
+        (value_in carried) found) }
 {
     let Some(operation) = tables.operation(place) else {
-        return Ok(Judged::Wrong(1));
+        return Ok(ValueOrProblem::Wrong(1));
     };
     if operation.errors.len() == 0 {
-        return Ok(Judged::Wrong(1));
+        return Ok(ValueOrProblem::Wrong(1));
     }
     match error {
-        Some(error) => { judge_known_error(alloc, syntax, tables, operation, error, octets, room) }
-        None => Ok(Judged::Wrong(2)),
+        Some(error) => {
+            known_error_or_problem(alloc, syntax, tables, operation, error, octets, room)
+        }
+        None => Ok(ValueOrProblem::Wrong(2)),
     }
 }
 
 /// What an invocation of the operation at this place says that has no other problem.
-pub(crate) fn judge_argument(
+pub(crate) fn argument_or_problem(
     alloc: Global,
     syntax: Syntax,
     tables: &Tables,
     place: Option<u32>,
     octets: &Option<Octets>,
     room: u32,
-) -> Result<Judged, NoMemory>
-    ensures { IfOk result (λ judged. (carried : Carried) → Carries syntax tables.now.types room
+) -> Result<ValueOrProblem, NoMemory>
+    ensures { IfOk result (λ found. (carried : Carried) → Carries syntax tables.now.types room
         (option_map argument_of (placed (operation_at tables.now) place)) octets.now carried →
-        IsJudged (argument_problem tables.now place carried) (value_in carried) judged) }
+        IsValueOrProblem (argument_problem tables.now place carried) (value_in carried) found) }
 {
     let Some(place) = place else {
-        return Ok(Judged::Wrong(1));
+        return Ok(ValueOrProblem::Wrong(1));
     };
     match tables.operation(place) {
         Some(operation) => {
-            judge_value(alloc, syntax, tables, &operation.argument, octets, room, 2)
+            value_or_problem(alloc, syntax, tables, &operation.argument, octets, room, 2)
         }
-        None => Ok(Judged::Wrong(2)),
+        None => Ok(ValueOrProblem::Wrong(2)),
     }
 }

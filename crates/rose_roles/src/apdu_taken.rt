@@ -6,7 +6,7 @@ ghost use Rattle.osi_base.specs.declared.layer_words.ProblemKind.TheVariants as 
 ghost use Rattle.rose_roles.specs.declared.apdu_taken.RoseTaken.TheVariants as takens;
 ghost use Rattle.rose_roles.specs.Hearing.{refused_as, result_taken, error_taken};
 
-use crate::apdu_problems::Judged;
+use crate::apdu_problems::ValueOrProblem;
 use asn1_types::Val;
 use end_wire::apdu_codec_layer::HeadFault;
 use osi_base::{NoMemory, Problem, ProblemKind};
@@ -102,28 +102,28 @@ pub fn is_of_invocation(kind: ProblemKind) -> bool
     }
 }
 
-/// What a result tells once it was judged.
-pub(crate) fn result_taken(id: &i64, judged: Judged) -> RoseTaken
-    ensures { result ≡ result_taken id.now judged }
+/// What a result tells, by its value or its problem.
+pub(crate) fn result_taken(id: &i64, found: ValueOrProblem) -> RoseTaken
+    ensures { result ≡ result_taken id.now found }
 {
-    match judged {
-        Judged::Right(value) => RoseTaken::Result { id: *id, value },
-        Judged::Wrong(number) => reject_with(Some(*id), ProblemKind::Result, number),
+    match found {
+        ValueOrProblem::Right(value) => RoseTaken::Result { id: *id, value },
+        ValueOrProblem::Wrong(number) => reject_with(Some(*id), ProblemKind::Result, number),
     }
 }
 
-/// What an error, as a place in the table of errors, tells once it was judged.
-pub(crate) fn error_taken(id: &i64, error: Option<u32>, judged: Judged) -> RoseTaken
-    ensures { result ≡ error_taken id.now error judged }
+/// What an error, as a place in the table of errors, tells by its parameter or its problem.
+pub(crate) fn error_taken(id: &i64, error: Option<u32>, found: ValueOrProblem) -> RoseTaken
+    ensures { result ≡ error_taken id.now error found }
 {
-    match (judged, error) {
-        (Judged::Right(parameter), Some(error)) => RoseTaken::Error {
+    match (found, error) {
+        (ValueOrProblem::Right(parameter), Some(error)) => RoseTaken::Error {
             id: *id,
             error,
             parameter,
         },
-        (Judged::Right(_), None) => reject_with(Some(*id), ProblemKind::Error, 2),
-        (Judged::Wrong(number), _) => reject_with(Some(*id), ProblemKind::Error, number),
+        (ValueOrProblem::Right(_), None) => reject_with(Some(*id), ProblemKind::Error, 2),
+        (ValueOrProblem::Wrong(number), _) => reject_with(Some(*id), ProblemKind::Error, number),
     }
 }
 

@@ -14,7 +14,7 @@ ghost use Rattle.rose_roles.specs.Heads.{is_invocation, reject_by, Carries, use_
 ghost use Rattle.rose_roles.specs.Hearing.{Hears, HearsHead, heard_with};
 ghost use Rattle.rose_roles.specs.Calls.{Kept, Invoking, called, key_of, AreOpen, calls_of, open_call, open_calls_in, KeepsOpen, InvokerKeeps};
 
-use crate::apdu_problems::{judge_error, judge_result};
+use crate::apdu_problems::{error_or_problem, result_or_problem};
 use crate::apdu_taken::{
     RoseTaken, error_taken, is_of_invocation, own_rejected, reject_with, result_taken,
 };
@@ -200,7 +200,7 @@ impl Invoker {
             taken) }
         ensures keeps { InvokerKeeps forest.old forest.new self.old self.new result }
     {
-        let judged = judge_result(
+        let found = result_or_problem(
             self.alloc,
             syntax,
             tables,
@@ -210,7 +210,7 @@ impl Invoker {
             head.room,
         )?;
         self.close(forest, id);
-        Ok(result_taken(id, judged))
+        Ok(result_taken(id, found))
     }
 
     /// An error.
@@ -265,7 +265,7 @@ impl Invoker {
         ensures keeps { InvokerKeeps forest.old forest.new self.old self.new result }
     {
         let error = tables.error_with(code);
-        let judged = judge_error(
+        let found = error_or_problem(
             self.alloc,
             syntax,
             tables,
@@ -275,7 +275,7 @@ impl Invoker {
             head.room,
         )?;
         self.close(forest, id);
-        Ok(error_taken(id, error, judged))
+        Ok(error_taken(id, error, found))
     }
 
     /// A reject: one of an invoke problem closes the own invocation that it names.

@@ -12,10 +12,10 @@ ghost use Rattle.end_wire.specs.end_rules.State.{close, opens_of};
 ghost use Rattle.end_wire.specs.end_rules.Hearing.{opening, invoked, value_in, first_problem, problem_if};
 ghost use Rattle.rose_roles.specs.Calls.{Kept, Invoking, called, key_of, AreOpen, calls_of, open_calls_in, PerformerKeeps};
 ghost use Rattle.rose_roles.specs.Heads.{is_invocation, Carries};
-ghost use Rattle.rose_roles.specs.ApduProblems.{silent, known_problem, early_problem, invoke_problem, IsJudged, IsFree};
+ghost use Rattle.rose_roles.specs.ApduProblems.{silent, known_problem, early_problem, invoke_problem, IsValueOrProblem, IsFree};
 ghost use Rattle.rose_roles.specs.Hearing.{Hears, heard_with};
 
-use crate::apdu_problems::{Judged, is_silent_at, judge_argument, link_problem};
+use crate::apdu_problems::{ValueOrProblem, argument_or_problem, is_silent_at, link_problem};
 use crate::apdu_taken::{RoseTaken, invoke_rejected, invoked};
 use crate::invoked_with::InvokedWith;
 use crate::invoker::Invoker;
@@ -182,7 +182,7 @@ impl Performer {
     }
 
     /// The argument of an invocation, or its first problem.
-    fn judge(
+    fn argument_or_first_problem(
         &self,
         own: &Invoker,
         syntax: Syntax,
@@ -190,21 +190,23 @@ impl Performer {
         id: &i64,
         place: Option<u32>,
         head: &ApduHead,
-    ) -> Result<Judged, NoMemory>
-        ensures judged { IfOk result (λ judged. (carried : Carried) →
+    ) -> Result<ValueOrProblem, NoMemory>
+        ensures found { IfOk result (λ found. (carried : Carried) →
             Carries syntax tables.now.types head.now.room
             (option_map argument_of (placed (operation_at tables.now) place)) head.now.rest carried
-            → IsJudged (invoke_problem tables.now own.now.kept self.now.kept id.now head.now.linked
-            place carried) (value_in carried) judged) }
+            → IsValueOrProblem (invoke_problem tables.now own.now.kept self.now.kept id.now head.now.linked
+            place carried) (value_in carried) found) }
         ensures free { IfOk result (IsFree (early_problem tables.now own.now.kept self.now.kept
             id.now head.now.linked place)) }
     {
         match self.early_problem(own, tables, id, &head.linked, place) {
-            Some(number) => Ok(Judged::Wrong(number)),
+            Some(number) => Ok(ValueOrProblem::Wrong(number)),
             None => {
                 let rest = &head.rest;
-                let judged = judge_argument(self.alloc, syntax, tables, place, rest, head.room)?;
-                Ok(judged)
+                let found = argument_or_problem(
+                    self.alloc, syntax, tables, place, rest, head.room,
+                )?;
+                Ok(found)
             }
         }
     }
@@ -304,9 +306,9 @@ impl Performer {
             return Ok(RoseTaken::BadReject);
         };
         let place = tables.operation_with(code);
-        match self.judge(own, syntax, tables, id, place, &head)? {
-            Judged::Wrong(number) => Ok(invoke_rejected(id, number)),
-            Judged::Right(argument) => {
+        match self.argument_or_first_problem(own, syntax, tables, id, place, &head)? {
+            ValueOrProblem::Wrong(number) => Ok(invoke_rejected(id, number)),
+            ValueOrProblem::Right(argument) => {
                 let taken = self.perform(forest, tables, id, place, head.linked, argument)?;
                 Ok(taken)
             }

@@ -2,7 +2,7 @@
 
 ghost use Rattle.std.specs.Prelude.{◌≡◌, ℕ, List, Ok};
 ghost use Rattle.schedule_text.specs.declared.setting.Modes.{Modes};
-ghost use Rattle.schedule_text.specs.Schedules.{said, schedule_of};
+ghost use Rattle.schedule_text.specs.Schedules.{configs_and_events, schedule_of};
 ghost use Rattle.schedule_ends.specs.Ends.{HasEnds};
 
 use crate::typed::{config_is_of_end, events_are_calls};
@@ -16,8 +16,8 @@ use stub_tables::Tables;
 /// its ends, where the tables have no `Any`.
 pub fn schedule_has_ends(tables: &Tables, schedule: &Schedule)
     ensures { (modes : Modes) (text : List ℕ)
-        → schedule_of modes tables.now text ≡ Ok (said schedule.now)
-        → HasEnds modes tables.now (said schedule.now) }
+        → schedule_of modes tables.now text ≡ Ok (configs_and_events schedule.now)
+        → HasEnds modes tables.now (configs_and_events schedule.now) }
 {
     schedules_are_run();
     tables.is_readable();

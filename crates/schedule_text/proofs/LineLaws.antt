@@ -12,7 +12,7 @@ use Rattle.schedule_text.specs.declared.draft.Draft.{Draft}
 use Rattle.schedule_text.specs.declared.setting.Modes.{Modes}
 use Rattle.schedule_text.specs.Events.{no_draft}
 use Rattle.schedule_text.specs.Schedules.{Said, after_line, at_line, then_lines, lines_read, finished, then_finished, schedule_of, of_lines, lacks_mode, first_or_lack}
-use Rattle.schedule_text.specs.Laws.{said_by, BreaksFirst, SaysAll, told, HasOneReading}
+use Rattle.schedule_text.specs.Laws.{said_by, BreaksFirst, SaysAll, result_at_line_one, HasOneReading}
 
 -- from this draft on: the line behind so many breaks the grammar, and none before it
 pub record BreaksFrom (modes : Modes) (tables : Tables) (start : Draft) (lines : List (List ℕ)) (before : ℕ) (kind : ScriptKind) : Type 0 where
@@ -132,9 +132,9 @@ broken_so modes tables lines number kind (Err fault) (inr (other, same, b)) e =
     let k : other ≡ kind = cc in
     inr (n, rw (sym k) b)
 
-told_is : (read : Reading Said) → at_line 1 read ≡ told read
-told_is (Ok s) = refl
-told_is (Err kind) = refl
+result_is : (read : Reading Said) → at_line 1 read ≡ result_at_line_one read
+result_is (Ok s) = refl
+result_is (Err kind) = refl
 
 pub first_fault : (modes : Modes) (tables : Tables) (text : List ℕ) → modes.direct ≡ true → length text ≤ text_most → HasOneReading modes tables text
 first_fault modes tables text direct short =
@@ -145,7 +145,7 @@ first_fault modes tables text direct short =
     record {
       said = λ s e. told_so modes tables lines s r tells (sym whole ∙ e);
       broken = λ number kind e. broken_so modes tables lines number kind r tells (sym whole ∙ e);
-      all_said = λ read a. whole ∙ ap (then_finished modes tables) (all_read modes tables no_draft a.draft 1 lines a.fine) ∙ ap (at_line 1) a.said ∙ told_is read;
+      all_said = λ read a. whole ∙ ap (then_finished modes tables) (all_read modes tables no_draft a.draft 1 lines a.fine) ∙ ap (at_line 1) a.said ∙ result_is read;
       breaks = λ before kind b. let place : 1 + before ≡ suc before = omega arith in
           whole ∙ ap (then_finished modes tables) (first_read modes tables no_draft 1 lines before kind (record { draft = b.draft; line = b.line; fine = b.fine; stands = b.stands; breaks = b.breaks }))
           ∙ ap (λ n. Err (At n kind)) place;

@@ -37,9 +37,9 @@ pub record SaysAll (modes : Modes) (tables : Tables) (lines : List (List ℕ)) (
   pub said : finished modes tables draft ≡ read
 
 -- a fault of the setup after all lines, at line 1
-abbrev pub told : Reading Said → Result Said ScriptFault
-told (Ok s) = Ok s
-told (Err kind) = Err (At 1 kind)
+abbrev pub result_at_line_one : Reading Said → Result Said ScriptFault
+result_at_line_one (Ok s) = Ok s
+result_at_line_one (Err kind) = Err (At 1 kind)
 
 -- Where direct mode is run: a text of not too many octets is a schedule as its lines say, or has one first fault: a line
 -- that breaks the grammar in this way, or the setup that stands after all of them, which is told at line 1.
@@ -48,7 +48,7 @@ pub record HasOneReading (modes : Modes) (tables : Tables) (text : List ℕ) : T
   pub broken : (number : ℕ) (kind : ScriptKind) → schedule_of modes tables text ≡ Err (At number kind)
       → ((before : ℕ) × (number ≡ suc before) × BreaksFirst modes tables (lines_of text) before kind)
       ⊎ ((number ≡ 1) × SaysAll modes tables (lines_of text) (Err kind))
-  pub all_said : (read : Reading Said) → SaysAll modes tables (lines_of text) read → schedule_of modes tables text ≡ told read
+  pub all_said : (read : Reading Said) → SaysAll modes tables (lines_of text) read → schedule_of modes tables text ≡ result_at_line_one read
   pub breaks : (before : ℕ) (kind : ScriptKind) → BreaksFirst modes tables (lines_of text) before kind → schedule_of modes tables text ≡ Err (At (suc before) kind)
 
 -- for every module and every text

@@ -27,8 +27,8 @@ pub record Said : Type 0 where
   pub b : Config
   pub events : List Event
 
-abbrev pub said : Schedule → Said
-said schedule = record { a = schedule.setup.a; b = schedule.setup.b; events = schedule.events }
+abbrev pub configs_and_events : Schedule → Said
+configs_and_events schedule = record { a = schedule.setup.a; b = schedule.setup.b; events = schedule.events }
 
 -- ---- one line
 

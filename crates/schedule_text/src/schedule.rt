@@ -6,7 +6,7 @@ ghost use Rattle.script_lines.specs.Reading.{Gives};
 ghost use Rattle.script_lines.specs.declared.fault.ScriptFault.TheVariants.{NoMemory as no_room, At};
 ghost use Rattle.schedule_text.specs.Events.{no_draft};
 ghost use Rattle.schedule_text.specs.SetupLines.{is_setup_word};
-ghost use Rattle.schedule_text.specs.Schedules.{Said, said, setup_in_draft, line_of_word, after_line, at_line, lines_read, finished, names_a_mode, lacks_mode, first_or_lack, schedule_of, TellsOf, is_blank};
+ghost use Rattle.schedule_text.specs.Schedules.{Said, configs_and_events, setup_in_draft, line_of_word, after_line, at_line, lines_read, finished, names_a_mode, lacks_mode, first_or_lack, schedule_of, TellsOf, is_blank};
 
 use crate::draft::{Draft, no_draft};
 use crate::event::{event_line, is_event_word};
@@ -154,7 +154,7 @@ fn finished(
     tables: &Tables,
     draft: Draft,
 ) -> Result<Schedule, ScriptLineFault>
-    ensures { Gives said result (finished modes tables.now draft) }
+    ensures { Gives configs_and_events result (finished modes tables.now draft) }
 {
     let (a, b) = settled(alloc, modes, tables, &draft.setting)?;
     Ok(Schedule {
@@ -204,7 +204,7 @@ pub fn read_schedule(
     bytes: &[u8],
 ) -> Result<Schedule, ScriptFault>
     ensures ok { IfOk result (λ schedule. schedule_of modes tables.now bytes.now
-        ≡ Ok (said schedule)) }
+        ≡ Ok (configs_and_events schedule)) }
     ensures err { IfErr result (λ fault. fault ≢ no_room → schedule_of modes tables.now bytes.now
         ≡ Err fault) }
 {

@@ -12,12 +12,12 @@ abbrev pub lines_of : List ℕ → List (List ℕ)
 lines_of text = pieces 10 text
 
 -- lines, and the number of the first of them
-pub record Numbered : Type 0 where
+pub record NumberedLines : Type 0 where
   pub number : ℕ
   pub lines : List (List ℕ)
 
 -- the lines of what is left of a text
-abbrev pub numbered : ℕ → Option (Bor (List ℕ)) → Numbered
+abbrev pub numbered : ℕ → Option (Bor (List ℕ)) → NumberedLines
 numbered number None = record { number = number; lines = [] }
 numbered number (Some rest) = record { number = number; lines = lines_of rest.now }
 

@@ -35,8 +35,8 @@ object_identifier_at kind text = identifier_here kind (after_spaces text)
 -- ---- transfer syntaxes
 
 -- the name of the syntax that a word names
-abbrev pub syntax_named : List ℕ → Option (List ℕ)
-syntax_named word =
+abbrev pub arcs_of_word : List ℕ → Option (List ℕ)
+arcs_of_word word =
     if bytes_eq word (codes "ber") then Some (name_of Ber)
     else if bytes_eq word (codes "der") then Some (name_of Der)
     else if bytes_eq word (codes "packed") then Some (name_of Packed)
@@ -49,7 +49,7 @@ begins_braced (c ∷ cs) = c == 123
 abbrev pub word_syntax : List ℕ → Reading (List ℕ × List ℕ)
 word_syntax text = do
   field ← field_at text
-  name ← or_kind BadName (syntax_named field.0)
+  name ← or_kind BadName (arcs_of_word field.0)
   Ok (name, field.1)
 
 -- a word, or an object identifier

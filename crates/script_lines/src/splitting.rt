@@ -35,9 +35,9 @@ pub struct Lines<'a> {
 }
 
 impl<'a> Model for Lines<'a> {
-    ghost use Rattle.script_lines.specs.Lines.{Numbered, numbered, IsCounted};
+    ghost use Rattle.script_lines.specs.Lines.{NumberedLines, numbered, IsCounted};
 
-    ghost Value = { Numbered };
+    ghost Value = { NumberedLines };
 
     ghost view = { λ lines. numbered lines.number lines.rest };
 

@@ -5,7 +5,7 @@ ghost use Rattle.std.specs.Option.{option_map};
 ghost use Rattle.osi_base.specs.Syntax.{name_of};
 ghost use Rattle.value_reading.specs.Found.{found};
 ghost use Rattle.script_lines.specs.Reading.{Gives, or_kind};
-ghost use Rattle.script_lines.specs.Syntaxes.{identifier_found, found_or, identifier_here, object_identifier_at, syntax_named, begins_braced, word_syntax, syntax_at, are_over, more_syntaxes, syntaxes_at};
+ghost use Rattle.script_lines.specs.Syntaxes.{identifier_found, found_or, identifier_here, object_identifier_at, arcs_of_word, begins_braced, word_syntax, syntax_at, are_over, more_syntaxes, syntaxes_at};
 
 use crate::fault::ScriptKind;
 use crate::fields::{field, is_next, is_over, is_parted};
@@ -70,8 +70,8 @@ pub fn object_identifier(
 }
 
 /// The syntax that a word names.
-fn syntax_named(word: &[u8]) -> Option<Syntax>
-    ensures { option_map (λ s. name_of s) result ≡ syntax_named word.now }
+fn syntax_of_word(word: &[u8]) -> Option<Syntax>
+    ensures { option_map (λ s. name_of s) result ≡ arcs_of_word word.now }
 {
     if word == b"ber".as_slice() {
         Some(Syntax::Ber)
@@ -95,9 +95,9 @@ fn begins_braced(text: &[u8]) -> bool
 
 /// The name of the syntax that a word names.
 fn word_name(alloc: Global, word: &[u8]) -> Result<Oid, ScriptLineFault>
-    ensures { Gives (λ x. x) result (or_kind ScriptKind.BadName (syntax_named word.now)) }
+    ensures { Gives (λ x. x) result (or_kind ScriptKind.BadName (arcs_of_word word.now)) }
 {
-    match syntax_named(word) {
+    match syntax_of_word(word) {
         Some(syntax) => Ok(syntax.name(alloc)?),
         None => Err(ScriptLineFault::Kind(ScriptKind::BadName)),
     }

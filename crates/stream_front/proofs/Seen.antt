@@ -20,7 +20,7 @@ use Rattle.stream_front.specs.declared.scanner.Scanner.{Scanner}
 use Rattle.stream_front.specs.declared.scanner.ScanStage as stages
 use Rattle.stream_front.specs.declared.scanner.ScanStage.TheVariants as stage
 use Rattle.stream_front.specs.Fronts.{front_of, front_at}
-use Rattle.stream_front.specs.Resuming.{End, spot, scope_in, next_at, outermost, goes_on, size_left, outcome, resume, is_done, told, IsSoundStage, HasSeen}
+use Rattle.stream_front.specs.Resuming.{End, spot, scope_in, next_at, outermost, goes_on, size_left, outcome, resume, is_done, first_value_of, IsSoundStage, HasSeen}
 use Rattle.stream_front.specs.Steps as steps
 use Rattle.stream_front.proofs.Turning.{bool_is, next_in}
 use Rattle.stream_front.proofs.Lengths.{size_short}
@@ -93,27 +93,27 @@ nothing_left seen field depth (stage.Contents left) sound on = let short : nat_l
 nothing_left seen field depth stage.Whole sound on = absurd (let wrong : true ≡ false = on in cc)
 nothing_left seen field depth (stage.Faulty place) sound on = absurd (let wrong : true ≡ false = on in cc)
 
-done_told : (seen field depth : ℕ) (kept : stages.ScanStage) (rest : List ℕ) → is_done kept ≡ true → told kept seen ≡ outcome (resume (record { seen = seen; field = field; depth = depth; stage = kept }) rest)
-done_told seen field depth stage.Whole rest done = refl
-done_told seen field depth (stage.Faulty place) rest done = refl
-done_told seen field depth stage.Next rest done = absurd (let wrong : false ≡ true = done in cc)
-done_told seen field depth stage.Zero rest done = absurd (let wrong : false ≡ true = done in cc)
-done_told seen field depth (stage.High constructed) rest done = absurd (let wrong : false ≡ true = done in cc)
-done_told seen field depth (stage.Digits constructed padded number) rest done = absurd (let wrong : false ≡ true = done in cc)
-done_told seen field depth (stage.Length constructed) rest done = absurd (let wrong : false ≡ true = done in cc)
-done_told seen field depth (stage.Size size left number) rest done = absurd (let wrong : false ≡ true = done in cc)
-done_told seen field depth (stage.Contents left) rest done = absurd (let wrong : false ≡ true = done in cc)
+done_value : (seen field depth : ℕ) (kept : stages.ScanStage) (rest : List ℕ) → is_done kept ≡ true → first_value_of kept seen ≡ outcome (resume (record { seen = seen; field = field; depth = depth; stage = kept }) rest)
+done_value seen field depth stage.Whole rest done = refl
+done_value seen field depth (stage.Faulty place) rest done = refl
+done_value seen field depth stage.Next rest done = absurd (let wrong : false ≡ true = done in cc)
+done_value seen field depth stage.Zero rest done = absurd (let wrong : false ≡ true = done in cc)
+done_value seen field depth (stage.High constructed) rest done = absurd (let wrong : false ≡ true = done in cc)
+done_value seen field depth (stage.Digits constructed padded number) rest done = absurd (let wrong : false ≡ true = done in cc)
+done_value seen field depth (stage.Length constructed) rest done = absurd (let wrong : false ≡ true = done in cc)
+done_value seen field depth (stage.Size size left number) rest done = absurd (let wrong : false ≡ true = done in cc)
+done_value seen field depth (stage.Contents left) rest done = absurd (let wrong : false ≡ true = done in cc)
 
-on_told : (kept : stages.ScanStage) (seen : ℕ) → is_done kept ≡ false → told kept seen ≡ Short
-on_told stage.Whole seen on = absurd (let wrong : true ≡ false = on in cc)
-on_told (stage.Faulty place) seen on = absurd (let wrong : true ≡ false = on in cc)
-on_told stage.Next seen on = refl
-on_told stage.Zero seen on = refl
-on_told (stage.High constructed) seen on = refl
-on_told (stage.Digits constructed padded number) seen on = refl
-on_told (stage.Length constructed) seen on = refl
-on_told (stage.Size size left number) seen on = refl
-on_told (stage.Contents left) seen on = refl
+short_value : (kept : stages.ScanStage) (seen : ℕ) → is_done kept ≡ false → first_value_of kept seen ≡ Short
+short_value stage.Whole seen on = absurd (let wrong : true ≡ false = on in cc)
+short_value (stage.Faulty place) seen on = absurd (let wrong : true ≡ false = on in cc)
+short_value stage.Next seen on = refl
+short_value stage.Zero seen on = refl
+short_value (stage.High constructed) seen on = refl
+short_value (stage.Digits constructed padded number) seen on = refl
+short_value (stage.Length constructed) seen on = refl
+short_value (stage.Size size left number) seen on = refl
+short_value (stage.Contents left) seen on = refl
 
 -- ---- what was seen
 
@@ -146,16 +146,16 @@ step_seen s octets octet h on lt e =
 all_read : (s : Scanner) (octets : List ℕ) (strict : Bool) → HasSeen s octets → front_at strict octets ≡ outcome (resume s (drop s.seen octets))
 all_read s octets strict h = ap (front_at strict) (sym (take-append-drop s.seen octets)) ∙ h.reads strict (drop s.seen octets)
 
-pub told_done : (s : Scanner) (octets : List ℕ) (strict : Bool) → HasSeen s octets → is_done s.stage ≡ true → told s.stage s.seen ≡ front_at strict octets
-told_done s octets strict h done = done_told s.seen s.field s.depth s.stage (drop s.seen octets) done ∙ sym (all_read s octets strict h)
+pub value_done : (s : Scanner) (octets : List ℕ) (strict : Bool) → HasSeen s octets → is_done s.stage ≡ true → first_value_of s.stage s.seen ≡ front_at strict octets
+value_done s octets strict h done = done_value s.seen s.field s.depth s.stage (drop s.seen octets) done ∙ sym (all_read s octets strict h)
 
-pub told_all : (s : Scanner) (octets : List ℕ) (strict : Bool) → HasSeen s octets → length octets ≤ s.seen → told s.stage s.seen ≡ front_at strict octets
-told_all s octets strict h all =
+pub value_all : (s : Scanner) (octets : List ℕ) (strict : Bool) → HasSeen s octets → length octets ≤ s.seen → first_value_of s.stage s.seen ≡ front_at strict octets
+value_all s octets strict h all =
     elim (bool_is (is_done s.stage)) [
-      | inl done ↦ told_done s octets strict h done
+      | inl done ↦ value_done s octets strict h done
       | inr on ↦
           let none : drop s.seen octets ≡ [] = drop_of_length-le octets all in
-          on_told s.stage s.seen on ∙ sym (all_read s octets strict h ∙ ap (λ (x : List ℕ). outcome (resume s x)) none ∙ nothing_left s.seen s.field s.depth s.stage h.sound on)
+          short_value s.stage s.seen on ∙ sym (all_read s octets strict h ∙ ap (λ (x : List ℕ). outcome (resume s x)) none ∙ nothing_left s.seen s.field s.depth s.stage h.sound on)
     ]
 
 -- ---- the next octet

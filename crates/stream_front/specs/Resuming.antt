@@ -130,10 +130,10 @@ is_done stage.Whole = true
 is_done (stage.Faulty place) = true
 is_done _ = false
 
-abbrev pub told : stages.ScanStage → ℕ → FirstValue
-told stage.Whole seen = Whole seen
-told (stage.Faulty place) seen = Faulty place
-told _ seen = Short
+abbrev pub first_value_of : stages.ScanStage → ℕ → FirstValue
+first_value_of stage.Whole seen = Whole seen
+first_value_of (stage.Faulty place) seen = Faulty place
+first_value_of _ seen = Short
 
 -- These are the first octets that it has seen, and what they say however they go on is what reading on says.
 pub record HasSeen (s : Scanner) (octets : List ℕ) : Type 0 where

@@ -1,4 +1,4 @@
-//! What stands first.
+//! What octets begin with.
 
 /// What octets begin with.
 #[derive(Clone, Copy, Debug, PartialEq, Eq)]

@@ -2,7 +2,7 @@
 
 ghost use Rattle.std.specs.Prelude.{◌≡◌, ◌<◌, ◌^◌, ℕ, Bool, List, length, false};
 ghost use Rattle.stream_front.specs.Fronts.{front_at};
-ghost use Rattle.stream_front.specs.Resuming.{HasSeen, is_done, told};
+ghost use Rattle.stream_front.specs.Resuming.{HasSeen, is_done, first_value_of};
 
 use crate::first_value::FirstValue;
 use crate::steps::step;
@@ -99,11 +99,11 @@ impl Scanner {
     {
         while let Some(octet) = octets.get(self.seen) {
             if self.is_done() {
-                return self.told();
+                return self.first_value();
             }
             *self = step(*self, *octet);
         }
-        self.told()
+        self.first_value()
     }
 
     /// Whether the octets that were seen say what stands first.
@@ -114,8 +114,8 @@ impl Scanner {
     }
 
     /// What the octets that were seen begin with.
-    fn told(&self) -> FirstValue
-        ensures { result ≡ told self.now.stage self.now.seen }
+    fn first_value(&self) -> FirstValue
+        ensures { result ≡ first_value_of self.now.stage self.now.seen }
     {
         match self.stage {
             ScanStage::Whole => FirstValue::Whole(self.seen),

@@ -43,7 +43,7 @@ ReliableEndsAreModelled =
     (free : Free) × Carries free (base_at Initiator (reliable_ends tables a b)) ×
     ((two : Two) (ledger : Ledger) → ReachedWithLedger (reliable_ends tables a b) two ledger → RunOf free (reliable_ends tables a b) two)
 
--- in every pair of such ends this holds of whatever they reach
+-- of every two such ends this holds, whatever they reach
 abbrev pub EverInEnds : (Common → Two → Ledger → Type 0) → Type 0
 EverInEnds Law =
     (tables : Tables) (a b : Config) → IsModule tables → IsReliable a → IsReliable b →
@@ -68,11 +68,11 @@ ReliableEndsArriveWhole = EverInEnds (λ common two ledger. (role : Role) → Ta
 abbrev pub ReliableEndsKeepItems : Type 0
 ReliableEndsKeepItems =
     EverInEnds (λ common two ledger.
-    (role : Role) (encoding : Encoding) → IsNewest encoding (transfer_log_of role ledger.transfer_log).encoded → IsOf encoding.apdu (item_of encoding.activity (transfer_log_of role ledger.transfer_log).started))
+    (role : Role) (encoding : Encoding) → IsNewest encoding (transfer_log_of role ledger.transfer_logs).encoded → IsOf encoding.apdu (item_of encoding.activity (transfer_log_of role ledger.transfer_logs).started))
 
 -- The numbers of the transfers that are handed up rise.
 abbrev pub ReliableEndsArriveOnce : Type 0
-ReliableEndsArriveOnce = EverInEnds (λ common two ledger. (role : Role) → AreFalling (transfer_log_of role ledger.transfer_log).arrived)
+ReliableEndsArriveOnce = EverInEnds (λ common two ledger. (role : Role) → AreFalling (transfer_log_of role ledger.transfer_logs).arrived)
 
 -- Taken as sent: what arrives has the pair that the taker's own set gives its context, which is the pair that the shared set gave
 -- it as the other end encoded the item.
@@ -81,7 +81,7 @@ ReliableEndsTakeAsSent =
     EverInEnds (λ common two ledger.
     (role : Role) (item : Item) → TakesTransferEnd common two role → arrived_now (base_at role common) (body_at role two) ≡ Ok (Whole item) →
     (pair_of (body_at role two).sets.held item.id ≡ Some item.pair) ×
-    IsNewest (record { activity = (body_at role two).receiving.last; id = item.id; pair = pair_of (body_at role two).sets.held item.id; apdu = item.apdu }) (transfer_log_of (other role) ledger.transfer_log).encoded)
+    IsNewest (record { activity = (body_at role two).receiving.last; id = item.id; pair = pair_of (body_at role two).sets.held item.id; apdu = item.apdu }) (transfer_log_of (other role) ledger.transfer_logs).encoded)
 
 -- Each outcome that an end is told is an APDU that the other end wrote.
 abbrev pub ReliableEndsTellAnswers : Type 0

@@ -2,8 +2,8 @@
 use Rattle.std.proofs.Common.{◌≡◌, ℕ, ◌+◌, List, [], ◌∷◌, Option, None, Some, subst}
 use Rattle.notation_tokens.specs.declared.token.Located.{Located}
 use Rattle.operation_notation.specs.declared.module.Assignment.{Assignment}
-use Rattle.operation_notation.specs.declared.module.Body.{Body}
-use Rattle.operation_notation.specs.declared.module.Body.TheVariants as bodies
+use Rattle.operation_notation.specs.declared.module.Assigned.{Assigned}
+use Rattle.operation_notation.specs.declared.module.Assigned.TheVariants as bodies
 use Rattle.operation_notation.specs.declared.module.ErrText.{ErrText}
 use Rattle.operation_notation.specs.declared.module.ModuleText.{ModuleText}
 use Rattle.operation_notation.specs.declared.module.OpText.{OpText}
@@ -39,7 +39,7 @@ keeps_error scope name e =
     keeps_then (known_or_none (code_of e.code)) _ (keeps_known (code_of e.code)) (λ code.
     keeps_give _))
 
-keeps_body : (scope : Ground) (place : ℕ) (made : _) (name : Located) (body : Body) → Keeps (body_of scope place made name body)
+keeps_body : (scope : Ground) (place : ℕ) (made : _) (name : Located) (body : Assigned) → Keeps (body_of scope place made name body)
 keeps_body scope place made name (bodies.Typed of) =
     keeps_then (row_behind scope (type_row scope) (behind scope.assignments place)) (λ id. give made) (keeps_behind (type_row scope) (keeps_type scope) scope (behind scope.assignments place)) (λ id. keeps_give made)
 keeps_body scope place made name (bodies.Operation o) =

@@ -14,22 +14,22 @@ use Rattle.operation_notation.specs.declared.module.UseText.{UseText}
 use Rattle.module_faults.specs.Names.{or_none, find, type_at}
 use Rattle.module_compiler.specs.Scope.{Ground, behind}
 use Rattle.asn1_types.specs.Numbered.{kind_numbered, class_numbered}
-use Rattle.module_compiler.specs.Numbering.{Numbered, Walk, after, ◌>>=◌, give, none, add, add_if, range_row, size_of, is_explicit, tag_row, tagged, default_number, with_default, part_of, parts_of, note, known, walk_new, walk_if_new, row_of, row_behind, named_row, plain_row, over, walk, type_row, use_of}
+use Rattle.module_compiler.specs.Numbering.{NumberedRows, Walk, after, ◌>>=◌, give, none, add, add_if, range_row, size_of, is_explicit, tag_row, tagged, default_number, with_default, part_of, parts_of, note, known, walk_new, walk_if_new, row_of, row_behind, named_row, plain_row, over, walk, type_row, use_of}
 use Rattle.typed_modules.proofs.TypedRows.{IsTyped, AreTyped, one_more}
 
 -- what walking gives has typed rows
-abbrev pub Typed : {A : Type 0} → Option (A × Numbered) → Type 0
+abbrev pub Typed : {A : Type 0} → Option (A × NumberedRows) → Type 0
 Typed None = Unit {0}
 Typed (Some p) = AreTyped p.1.rows
 
 -- typed rows stay so
 pub record KeepsTyped (A : Type 0) (walked : Walk A) : Type 0 where
-  pub each : (s : Numbered) → AreTyped s.rows → Typed (walked s)
+  pub each : (s : NumberedRows) → AreTyped s.rows → Typed (walked s)
 
 abbrev pub Keeps : {A : Type 0} → Walk A → Type 0
 Keeps {A} walked = KeepsTyped A walked
 
-typed_after : {A B : Type 0} (o : Option (A × Numbered)) (f : A → Walk B) → Typed o → ((a : A) → Keeps (f a)) → Typed (after o f)
+typed_after : {A B : Type 0} (o : Option (A × NumberedRows)) (f : A → Walk B) → Typed o → ((a : A) → Keeps (f a)) → Typed (after o f)
 typed_after None f t h = tt
 typed_after (Some p) f t h = (h p.0).each p.1 t
 
@@ -59,7 +59,7 @@ unfolding tagged
 keeps_tagged scope None inner = record { each = λ s t. t }
 keeps_tagged scope (Some tag) inner = record { each = λ s t. (keeps_add_if (class_numbered (pos tag.class)) (tag_row (is_explicit scope tag inner s) tag inner) (λ class. tt)).each s t }
 
-typed_default : (name : List ℕ) (optional : Bool) (of : TypeId) (s : Numbered) (default : Option (Option ℤ)) → AreTyped s.rows → Typed (with_default name optional of s default)
+typed_default : (name : List ℕ) (optional : Bool) (of : TypeId) (s : NumberedRows) (default : Option (Option ℤ)) → AreTyped s.rows → Typed (with_default name optional of s default)
 typed_default name optional of s None t = tt
 typed_default name optional of s (Some default) t = t
 

@@ -1,4 +1,4 @@
-//! What stands first in a text.
+//! A value that stands first in a text, and the rest behind it.
 
 use asn1_types::{Val, Vals};
 

@@ -3,7 +3,7 @@ use Rattle.module_faults.specs.declared.reach_search.Standing.{Standing}
 use Rattle.module_faults.specs.Least.{least_from}
 use Rattle.module_faults.specs.Recursion.{bodies_uses}
 use Rattle.module_faults.specs.Standings.{says}
-use Rattle.module_faults.specs.ReachSets.{AreTold}
+use Rattle.module_faults.specs.ReachSets.{IsRightSurvey}
 use Rattle.module_faults.specs.Facts.{env_of}
 use Rattle.module_faults.specs.Faults.{bodies_show, first_recursive}
 use Rattle.module_faults.proofs.Whole.{of_names}
@@ -11,8 +11,8 @@ use Rattle.module_faults.proofs.faults.least_fault.Goals as goal
 
 pub shown_faults-requires : goal.shown_faults-requires
 shown_faults-requires c =
-    subst (λ (z : List Standing). AreTold (bodies_uses c.in_ok-names.names c.in_ok-names.names) z) (sym c.deref-2.ensures.value)
-    (subst (λ (z : List (List ℕ)). AreTold z c.in_ok-survey.survey.standings.items) c.in_ok-uses.ensures c.in_ok-survey.ensures)
+    subst (λ (z : List Standing). IsRightSurvey (bodies_uses c.in_ok-names.names c.in_ok-names.names) z) (sym c.deref-2.ensures.value)
+    (subst (λ (z : List (List ℕ)). IsRightSurvey z c.in_ok-survey.survey.standings.items) c.in_ok-uses.ensures c.in_ok-survey.ensures)
 
 pub returns : goal.returns
 returns c =

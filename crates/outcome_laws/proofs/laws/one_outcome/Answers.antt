@@ -4,4 +4,4 @@ use Rattle.outcome_laws.proofs.Places.{each-met, exchanges-reached, each-exchang
 use Rattle.outcome_laws.proofs.laws.one_outcome.Goals as goal
 
 pub returns : goal.returns
-returns c = record { outcomes = one-outcome; allowed = outcomes-are-allowed; links = links-are-allowed; places = each-met; goes = exchanges-reached; all = each-exchange }
+returns c = record { outcomes = one-outcome; allowed = outcomes-are-allowed; links = links-are-allowed; places = each-met; reached = exchanges-reached; all = each-exchange }

@@ -6,7 +6,7 @@ use Rattle.association_end.specs.View.{EndView}
 use Rattle.association_end.specs.OneMessage.{AllMayStand}
 use Rattle.association_end.proofs.Inside.{view_in}
 use Rattle.association_end.proofs.Sounds.{sound_deaf}
-use Rattle.association_end.proofs.Dealing.{on_err, kept_same, aborted_so}
+use Rattle.association_end.proofs.ReactionSent.{on_err, kept_same, aborted_so}
 use Rattle.association_end.proofs.end.End.abort.Goals as goal
 
 pub send_all-requires : goal.send_all-requires

@@ -5,7 +5,7 @@ use Rattle.association_reacting.specs.association_answers.BroughtAs.{seen_messag
 use Rattle.association_end.specs.OneMessage.{AllMayStand}
 use Rattle.association_end.proofs.Inside.{view_in}
 use Rattle.association_end.proofs.Sounds.{sound_size}
-use Rattle.association_end.proofs.Dealing.{settled_so, kept_sized}
+use Rattle.association_end.proofs.ReactionSent.{settled_so, kept_sized}
 use Rattle.association_end.proofs.end.End.answer.Goals as goal
 
 pub invariant_of-self : goal.invariant_of-self

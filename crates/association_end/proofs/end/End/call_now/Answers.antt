@@ -4,7 +4,7 @@ use Rattle.association_end.proofs.end.End.call_now.Goals as goal
 
 pub returns : goal.returns
 returns c =
-    answered c.args.self.now c.change.new.self c.send_due-sent.new.self c.args.asked.now c.in_ok-called.called c.in_ok-called.ensures.is c.in_ok-sent.ensures.ok c.pump.new.self c.in_ok-pump.ensures.ok
+    answered c.args.self.now c.change.new.self c.send_due-sent.new.self c.args.asked.now c.in_ok-called.called c.in_ok-called.ensures.is c.in_ok-sent.ensures.ok c.do_own_acts.new.self c.in_ok-do_own_acts.ensures.ok
 
 pub returns-in_err-called : goal.returns-in_err-called
 returns-in_err-called c =
@@ -16,8 +16,8 @@ returns-in_err-sent c =
     let p = err_from_is_err_and c.from_residual-in_err-sent.result c.from_residual-in_err-sent.ensures.1 in
     rw (p.1, p.2) (kept_changed c.args.self.now c.change.new.self c.send_due-sent.new.self c.args.asked.now c.in_ok-called.called c.in_ok-called.ensures.is c.in_err-sent.ensures.err)
 
-pub returns-in_err-pump : goal.returns-in_err-pump
-returns-in_err-pump c =
-    let p = err_from_is_err_and c.from_residual-in_err-pump.result c.from_residual-in_err-pump.ensures.1 in
+pub returns-in_err-do_own_acts : goal.returns-in_err-do_own_acts
+returns-in_err-do_own_acts c =
+    let p = err_from_is_err_and c.from_residual-in_err-do_own_acts.result c.from_residual-in_err-do_own_acts.ensures.1 in
     rw (p.1, p.2)
-    (began_own c.args.self.now c.change.new.self c.send_due-sent.new.self c.args.asked.now c.in_ok-called.called c.in_ok-called.ensures.is c.in_ok-sent.ensures.ok c.pump.new.self c.in_err-pump.ensures.err)
+    (began_own c.args.self.now c.change.new.self c.send_due-sent.new.self c.args.asked.now c.in_ok-called.called c.in_ok-called.ensures.is c.in_ok-sent.ensures.ok c.do_own_acts.new.self c.in_err-do_own_acts.ensures.err)

@@ -7,7 +7,7 @@ use Rattle.association_end.specs.Changed.{ChangedBy}
 use Rattle.association_end.specs.OneMessage.{with_body}
 use Rattle.association_end.proofs.Inside.{view_in}
 use Rattle.association_end.proofs.Sounds.{sound_over}
-use Rattle.association_end.proofs.Dealing.{kept_line}
+use Rattle.association_end.proofs.ReactionSent.{kept_line}
 use Rattle.association_end.proofs.Calls.{changed_so, changed_sound, changed_room, memory_changed}
 use Rattle.association_end.proofs.end.End.change.Goals as goal
 

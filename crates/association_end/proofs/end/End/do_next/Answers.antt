@@ -2,7 +2,7 @@ use Rattle.std.proofs.Common.{refl, sym, ap, ◌∙◌}
 use Rattle.std.specs.Prelude.{option_map}
 use Rattle.std.proofs.lemmas.Result.{err_from_is_err_and}
 use Rattle.association_requests.specs.OwnActs.{seen_act}
-use Rattle.association_end.proofs.Dealing.{kept_same}
+use Rattle.association_end.proofs.ReactionSent.{kept_same}
 use Rattle.association_end.proofs.end.End.do_next.Goals as goal
 
 pub returns-in-None : goal.returns-in-None

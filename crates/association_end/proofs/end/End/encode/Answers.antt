@@ -8,7 +8,7 @@ use Rattle.association_end.specs.View.{EndView, Stepped}
 use Rattle.association_end.specs.OneMessage.{with_body}
 use Rattle.association_end.proofs.Inside.{view_in}
 use Rattle.association_end.proofs.Sounds.{sound_same}
-use Rattle.association_end.proofs.Dealing.{on_err, kept_line}
+use Rattle.association_end.proofs.ReactionSent.{on_err, kept_line}
 use Rattle.association_end.proofs.Own.{encoded_so}
 use Rattle.association_end.proofs.end.End.encode.Goals as goal
 

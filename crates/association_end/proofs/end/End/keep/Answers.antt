@@ -8,7 +8,7 @@ use Rattle.association_end.specs.OneMessage.{with_came}
 use Rattle.association_end.proofs.Inside.{view_in}
 use Rattle.association_end.proofs.Sounds.{sound_deaf, sound_fed, sound_lost}
 use Rattle.association_end.proofs.Feeds.{kept_over, kept_up}
-use Rattle.association_end.proofs.Dealing.{kept_line}
+use Rattle.association_end.proofs.ReactionSent.{kept_line}
 use Rattle.association_end.proofs.end.End.keep.Goals as goal
 
 pub invariant_of-self : goal.invariant_of-self

@@ -8,7 +8,7 @@ use Rattle.association_end.specs.Progress.{Keeps}
 use Rattle.association_end.specs.OneMessage.{ReactedTo, with_body}
 use Rattle.association_end.proofs.Inside.{view_in}
 use Rattle.association_end.proofs.Sounds.{up_some, sound_body}
-use Rattle.association_end.proofs.Dealing.{on_err, reacted_so}
+use Rattle.association_end.proofs.ReactionSent.{on_err, reacted_so}
 use Rattle.association_end.proofs.end.End.react.Goals as goal
 
 pub react_to-requires-clause-up : goal.react_to-requires-clause-up

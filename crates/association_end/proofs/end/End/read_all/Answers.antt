@@ -1,6 +1,6 @@
 use Rattle.std.proofs.Common.{Bool, sym, subst, ◌∙◌}
-use Rattle.association_end.specs.Progress.{Goes, DealtWith}
-use Rattle.association_end.proofs.Dealing.{on_err}
+use Rattle.association_end.specs.Progress.{Goes, ReadOne}
+use Rattle.association_end.proofs.ReactionSent.{on_err}
 use Rattle.association_end.proofs.Feeds.{reads_on_start, reads_on_more, reads_on_end, reads_on_over, reads_on_kept}
 use Rattle.association_end.proofs.end.End.read_all.Goals as goal
 
@@ -25,7 +25,7 @@ reading-preserved c =
 
 pub reading-smaller : goal.reading-smaller
 reading-smaller c =
-    let d : DealtWith c.reading.self c.read_next.new.self c.reading.shown c.read_next.new.shown
+    let d : ReadOne c.reading.self c.read_next.new.self c.reading.shown c.read_next.new.shown
     = subst (λ (b : Bool). Goes b c.reading.self c.read_next.new.self c.reading.shown c.read_next.new.shown) c.if-not-more.false c.in_ok-more.ensures in
     d.fewer
 

@@ -8,7 +8,7 @@ use Rattle.association_reacting.specs.association_state.Seen.{seen}
 use Rattle.association_end.specs.View.{EndView, Stepped}
 use Rattle.association_end.proofs.Inside.{view_in}
 use Rattle.association_end.proofs.Sounds.{up_some, sound_body}
-use Rattle.association_end.proofs.Dealing.{on_err, kept_line, kept_sent}
+use Rattle.association_end.proofs.ReactionSent.{on_err, kept_line, kept_sent}
 use Rattle.association_end.proofs.Own.{sent_so}
 use Rattle.association_end.proofs.end.End.send.Goals as goal
 

@@ -1,7 +1,7 @@
 use Rattle.std.proofs.Common.{true, false, refl, sym, subst}
 use Rattle.association_reacting.specs.association_answers.declared.brought.Reaction.{Reaction}
 use Rattle.association_end.specs.OneMessage.{AllMayStand, sent_for, IsOverFor, SettlesFor}
-use Rattle.association_end.proofs.Dealing.{settled_nothing}
+use Rattle.association_end.proofs.ReactionSent.{settled_nothing}
 use Rattle.association_end.proofs.end.End.settle.Goals as goal
 
 pub returns-in-Passes : goal.returns-in-Passes

@@ -4,7 +4,7 @@ use Rattle.association_end.specs.OneMessage.{sending}
 use Rattle.association_end.proofs.Inside.{view_in}
 use Rattle.association_end.proofs.Sounds.{sound_waiting}
 use Rattle.association_end.proofs.Sent.{sent_one, sent_none}
-use Rattle.association_end.proofs.Dealing.{on_err}
+use Rattle.association_end.proofs.ReactionSent.{on_err}
 use Rattle.association_end.proofs.end.End.write.Goals as goal
 
 pub returns-clause-ok : goal.returns-clause-ok

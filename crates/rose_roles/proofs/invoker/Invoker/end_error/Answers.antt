@@ -12,4 +12,4 @@ returns-clause-heard c = λ performed context base carried same k.
     ap (λ (x : ends.Calls). heard_with x c.error_taken.result) (c.close.ensures.closed performed)
     ∙ ap (heard_with (ends.close true c.args.id.now (calls_of c.args.forest.now c.args.self.now performed))) c.error_taken.ensures
     ∙ heard_error base c.args.forest.now c.args.self.now performed c.requires.own context c.args.id.now carried c.args.tables.now same c.args.call c.requires.call c.args.code.now c.error_with-error.result c.error_with-error.ensures
-    c.in_ok-judged.judged (c.in_ok-judged.ensures carried known)
+    c.in_ok-found.found (c.in_ok-found.ensures carried known)

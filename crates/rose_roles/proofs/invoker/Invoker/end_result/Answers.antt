@@ -9,4 +9,4 @@ pub returns-clause-heard : goal.returns-clause-heard
 returns-clause-heard c = λ performed context base carried same k.
     ap (λ (x : ends.Calls). heard_with x c.result_taken.result) (c.close.ensures.closed performed)
     ∙ ap (heard_with (ends.close true c.args.id.now (calls_of c.args.forest.now c.args.self.now performed))) c.result_taken.ensures
-    ∙ heard_result base c.args.forest.now c.args.self.now performed c.requires.own context c.args.id.now carried c.args.tables.now same c.args.call c.requires.call c.args.head.now.code c.in_ok-judged.judged (c.in_ok-judged.ensures carried k)
+    ∙ heard_result base c.args.forest.now c.args.self.now performed c.requires.own context c.args.id.now carried c.args.tables.now same c.args.call c.requires.call c.args.head.now.code c.in_ok-found.found (c.in_ok-found.ensures carried k)

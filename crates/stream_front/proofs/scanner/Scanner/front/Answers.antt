@@ -2,12 +2,12 @@ use Rattle.std.proofs.Common.{◌≡◌, ◌<◌, Some, refl, length, sym, ◌�
 use Rattle.std.proofs.lemmas.Bool.{ltb-true}
 use Rattle.std.proofs.lemmas.Option.{slice_get_read}
 use Rattle.std.specs.Prelude.{slice_get}
-use Rattle.stream_front.proofs.Seen.{told_done, told_all, octet_seen, octet_less}
+use Rattle.stream_front.proofs.Seen.{value_done, value_all, octet_seen, octet_less}
 use Rattle.stream_front.proofs.scanner.Scanner.front.Goals as goal
 
 pub returns-then-is_done-clause-front : goal.returns-then-is_done-clause-front
 returns-then-is_done-clause-front c =
-    λ strict. c.told.ensures ∙ told_done c.loop-octet.self c.args.octets.now strict c.loop-octet.invariant (sym c.is_done.ensures ∙ c.if-is_done.true)
+    λ strict. c.first_value.ensures ∙ value_done c.loop-octet.self c.args.octets.now strict c.loop-octet.invariant (sym c.is_done.ensures ∙ c.if-is_done.true)
 
 pub loop-octet-smaller : goal.loop-octet-smaller
 loop-octet-smaller c =
@@ -22,4 +22,4 @@ loop-octet-preserved c =
     rw c.step.ensures (octet_seen c.loop-octet.self c.args.octets.now c.in-Some.octet.now c.loop-octet.invariant (sym c.is_done.ensures ∙ c.if-is_done.false) there)
 
 pub returns-clause-front : goal.returns-clause-front
-returns-clause-front c = λ strict. c.told-2.ensures ∙ told_all c.loop-octet.self c.args.octets.now strict c.loop-octet.invariant c.in_default.ensures.lookup.3
+returns-clause-front c = λ strict. c.first_value-2.ensures ∙ value_all c.loop-octet.self c.args.octets.now strict c.loop-octet.invariant c.in_default.ensures.lookup.3

@@ -2,7 +2,7 @@ use Rattle.std.proofs.Common.{Option, subst}
 use Rattle.asn1_types.specs.declared.value.Val.{Val}
 use Rattle.rose_roles.specs.Values.{IsAllowedIn}
 use Rattle.rose_roles.proofs.Allowed.{right_there, wrong_there}
-use Rattle.rose_roles.proofs.apdu_problems.judge_value.Goals as goal
+use Rattle.rose_roles.proofs.apdu_problems.value_or_problem.Goals as goal
 
 pub returns-in-Some : goal.returns-in-Some
 returns-in-Some c = λ carried k.

@@ -15,13 +15,13 @@ use Rattle.association_reacting.specs.association_answers.BroughtAs.{seen_messag
 use Rattle.association_reacting.specs.SeenReaction.{ReactsAs}
 use Rattle.association_end.specs.View.{EndView, base}
 use Rattle.association_end.specs.OneMessage as reacted
-use Rattle.association_end.specs.OneMessage.{AllMayStand, with_body, with_line, with_came, sending, size_of_front, ReactsTo, ReactedTo, sent_for, IsOverFor, Settles, SettlesFor, Deals, TookFirst}
+use Rattle.association_end.specs.OneMessage.{AllMayStand, with_body, with_line, with_came, sending, size_of_front, ReactsTo, ReactedTo, sent_for, IsOverFor, Settles, SettlesFor, ReactionDone, TookFirst}
 use Rattle.association_words.specs.declared.words.Message.{Message}
 use Rattle.association_meaning.specs.association_intake.declared.front.Front as fronts
 use Rattle.association_meaning.specs.association_intake.Seen.{seen_front}
 use Rattle.association_end.specs.Progress.{Keeps, Goes}
 use Rattle.association_end.proofs.Sent.{answers_stand}
-use Rattle.association_end.proofs.Dealt.{dealt}
+use Rattle.association_end.proofs.ReactionSteps.{reaction_read}
 
 pub reacted_so : (old new : EndView) (body : Body) (front : Front) (r : Result Reaction NoMemory) → new ≡ with_body body old → IfOk r (ReactsTo (base old) old.end.body body front) → IfOk r (ReactedTo old new front)
 reacted_so old new body front (Ok x) n p =
@@ -53,22 +53,22 @@ module _ (law : ReactionsAreSteps) (old new : EndView) (front : Front) where
 -- ---- what was taken off was reacted to
 
 module _ (old mid new : EndView) (front : Front) (before later : List Indication) (size : ℕ) (size_is : size ≡ size_of_front (first_size old.config.initiator) old.end.line.size front) where
-  pub deals : (r : Reaction) (more : Bool) → ReactedTo old mid front r → SettlesFor r size mid new before later more → Deals old new front before later more
-  deals Passes more h s =
+  pub reaction_done : (r : Reaction) (more : Bool) → ReactedTo old mid front r → SettlesFor r size mid new before later more → ReactionDone old new front before later more
+  reaction_done Passes more h s =
       let mid_is : mid ≡ old = h.new_is ∙ ap (λ (body : Body). with_body body old) h.reacts.body in
-      subst (Deals old new front before later) (sym s.0)
+      subst (ReactionDone old new front before later) (sym s.0)
       (reacted.passes (h.is ∙ ap Some h.reacts.is) (s.1.new_is ∙ mid_is) (s.1.shown_is ∙ append-nil before))
-  deals (Takes taken) more h s =
+  reaction_done (Takes taken) more h s =
       let answers : List meant.Message = seen_messages taken.answers in
-      subst (Deals old new front before later) (sym s.0)
+      subst (ReactionDone old new front before later) (sym s.0)
       (reacted.takes mid.end.body answers taken.shown (h.is ∙ ap Some h.reacts.is)
       (s.1.new_is
       ∙ ap (λ (m : EndView). sending answers (with_line (record m.end.line { size = size }) m)) h.new_is
       ∙ ap (λ (n : ℕ). sending answers (with_line (record old.end.line { size = n }) (with_body mid.end.body old))) size_is)
       s.1.shown_is)
-  deals (Fails came aborts shown) more h s =
+  reaction_done (Fails came aborts shown) more h s =
       let sent : List meant.Message = seen_messages aborts in
-      subst (Deals old new front before later) (sym s.0)
+      subst (ReactionDone old new front before later) (sym s.0)
       (reacted.fails h.reacts.fault mid.end.body sent shown (h.is ∙ ap Some h.reacts.is)
       (s.1.new_is ∙ ap (λ (m : EndView). with_came None (sending sent m)) h.new_is)
       s.1.shown_is)
@@ -104,18 +104,18 @@ kept_took old mid new front t k = record {
   waiting = k.waiting ∙ ap (λ (x : EndView). x.end.line.waiting) t.new_is;
 }
 
-pub deals_result : (old mid new : EndView) (front : Front) (before later : List Indication) (size : ℕ) → size ≡ size_of_front (first_size old.config.initiator) old.end.line.size front
+pub reaction_result : (old mid new : EndView) (front : Front) (before later : List Indication) (size : ℕ) → size ≡ size_of_front (first_size old.config.initiator) old.end.line.size front
     → (reaction : Reaction) → ReactedTo old mid front reaction → (r : Result Bool NoMemory)
-    → MatchResult r (λ more. SettlesFor reaction size mid new before later more) (λ _. Keeps mid new) → MatchResult r (Deals old new front before later) (λ _. Keeps old new)
-deals_result old mid new front before later size e reaction h (Ok more) s = deals old mid new front before later size e reaction more h s
-deals_result old mid new front before later size e reaction h (Err x) k = kept_body old mid new mid.end.body h.new_is k
+    → MatchResult r (λ more. SettlesFor reaction size mid new before later more) (λ _. Keeps mid new) → MatchResult r (ReactionDone old new front before later) (λ _. Keeps old new)
+reaction_result old mid new front before later size e reaction h (Ok more) s = reaction_done old mid new front before later size e reaction more h s
+reaction_result old mid new front before later size e reaction h (Err x) k = kept_body old mid new mid.end.body h.new_is k
 
 pub up_behind : (old mid : EndView) (front : fronts.Front) → TookFirst old mid front → passes_over old.end.body.link.phase ≡ false → passes_over mid.end.body.link.phase ≡ false
 up_behind old mid front t up = ap (λ (x : EndView). passes_over x.end.body.link.phase) t.new_is ∙ up
 
 pub next_read : (law : ReactionsAreSteps) (old mid new : EndView) (front : fronts.Front) (before later : List Indication) → TookFirst old mid front → passes_over old.end.body.link.phase ≡ false → (r : Result Bool NoMemory)
-    → MatchResult r (Deals mid new (seen_front front) before later) (λ _. Keeps mid new) → MatchResult r (λ more. Goes more old new before later) (λ _. Keeps old new)
-next_read law old mid new front before later t up (Ok more) d = dealt law old mid new t.intake (seen_front front) before later more t.came up t.first t.new_is d
+    → MatchResult r (ReactionDone mid new (seen_front front) before later) (λ _. Keeps mid new) → MatchResult r (λ more. Goes more old new before later) (λ _. Keeps old new)
+next_read law old mid new front before later t up (Ok more) d = reaction_read law old mid new t.intake (seen_front front) before later more t.came up t.first t.new_is d
 next_read law old mid new front before later t up (Err x) k = kept_took old mid new front t k
 
 -- ---- what is sent and shown

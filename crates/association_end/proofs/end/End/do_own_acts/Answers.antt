@@ -1,8 +1,8 @@
 use Rattle.std.proofs.Common.{Bool, subst}
 use Rattle.association_end.specs.Progress.{OwnGoes}
-use Rattle.association_end.proofs.Dealing.{on_err}
+use Rattle.association_end.proofs.ReactionSent.{on_err}
 use Rattle.association_end.proofs.Own.{own_on_start, own_on_more, own_on_end, own_on_kept, less_left}
-use Rattle.association_end.proofs.end.End.pump.Goals as goal
+use Rattle.association_end.proofs.end.End.do_own_acts.Goals as goal
 
 pub doing-init : goal.doing-init
 doing-init c = own_on_start c.args.self.now

@@ -29,7 +29,7 @@ use Rattle.outcome_laws.specs.reliable_model.Ledgers.{Ledger, TransferLog, Trans
 use Rattle.outcome_laws.specs.Exchanges.{Exchanges}
 use Rattle.association_runs.specs.Sides.{ends_for}
 use Rattle.association_runs.specs.Worlds.{stepping}
-use Rattle.association_runs.specs.TransferLogs.{transfer_log_after, transfer_log_at}
+use Rattle.association_runs.specs.TransferLogsAt.{transfer_log_after, transfer_log_at}
 use Rattle.association_runs.proofs.Histories.{end_for, body-for}
 use Rattle.association_runs.proofs.Keeps.{IsQuiet, Keeps}
 use Rattle.association_runs.proofs.Joint.{both}
@@ -163,7 +163,7 @@ module _ (common : Common) where
   peer-same Responder w (x ∷ xs) = peer-same Responder (record { side = B; step = x } ∷ w) xs
 
   abbrev pub AreDone : World → Two → Ledger → Exchanges → Type 0
-  AreDone w two ledger exchanges = (role : Role) → transfer_log_at ends (side_of role) w ≡ transfer_log_of role ledger.transfer_log
+  AreDone w two ledger exchanges = (role : Role) → transfer_log_at ends (side_of role) w ≡ transfer_log_of role ledger.transfer_logs
 
   -- the own transfer log changed, and the other's not
   changed : (role : Role) (w v : World) (before : TransferLogs) (f : TransferLog → TransferLog) → transfer_log_at ends (side_of role) v ≡ f (transfer_log_of role before) → transfer_log_at ends (side_of (other role)) v ≡ transfer_log_at ends (side_of (other role)) w
@@ -179,7 +179,7 @@ module _ (common : Common) where
   own-after base body set (SendsNow message) d = refl
   own-after base body set (EncodesOn context) d = refl
 
-  broke-so : (w : World) (ledger : Ledger) → ((r : Role) → transfer_log_at ends (side_of r) w ≡ transfer_log_of r ledger.transfer_log) → (r : Role) → transfer_log_at ends (side_of r) (record { side = B; step = broke } ∷ record { side = A; step = broke } ∷ w) ≡ transfer_log_of r ledger.transfer_log
+  broke-so : (w : World) (ledger : Ledger) → ((r : Role) → transfer_log_at ends (side_of r) w ≡ transfer_log_of r ledger.transfer_logs) → (r : Role) → transfer_log_at ends (side_of r) (record { side = B; step = broke } ∷ record { side = A; step = broke } ∷ w) ≡ transfer_log_of r ledger.transfer_logs
   broke-so w ledger h Initiator = h Initiator
   broke-so w ledger h Responder = h Responder
 
@@ -192,22 +192,22 @@ module _ (common : Common) where
     begins = first-so;
     calls = λ role w two ledger exchanges call answer j c h.
         let due : List Message = due_of (both_ends.base_at role common) (end_for common role w).body call (Ok answer) in
-        same-so role w (stepping (side_of role) w (called call (Ok answer) ∷ map sent due)) ledger.transfer_log
+        same-so role w (stepping (side_of role) w (called call (Ok answer) ∷ map sent due)) ledger.transfer_logs
         (sents-idle role (record { side = side_of role; step = called call (Ok answer) } ∷ w) due (due-none (both_ends.base_at role common) (end_for common role w).body call answer) ∙ one-idle role w (called call (Ok answer)) tt)
         (peer-same role w (called call (Ok answer) ∷ map sent due)) h;
     acts = λ role w two ledger exchanges own j c h.
-        changed role w (stepping (side_of role) w (step_of own ∷ [])) ledger.transfer_log (longer_transfer_log (started_by (both_ends.body_at role two) own) (encoded_by (both_ends.body_at role two) ledger.shared.set own))
+        changed role w (stepping (side_of role) w (step_of own ∷ [])) ledger.transfer_logs (longer_transfer_log (started_by (both_ends.body_at role two) own) (encoded_by (both_ends.body_at role two) ledger.shared.set own))
         (one-step role w (step_of own) ∙ own-after (both_ends.base_at role common) (body_at ends (side_of role) w) (shared_at ends w).set own (transfer_log_at ends (side_of role) w)
         ∙ (λ i. longer_transfer_log (started_by ((body-for common role w ∙ j.bodies role) i) own) (encoded_by ((body-for common role w ∙ j.bodies role) i) (j.shared i).set own) (h role i)))
         (peer-same role w (step_of own ∷ [])) h;
     takes = λ role w two ledger exchanges message left body answers shown j e r h.
-        changed role w (stepping (side_of role) w (took message ∷ map (answered message) answers)) ledger.transfer_log (transfer_log_taken (both_ends.base_at role common) (both_ends.body_at role two) message)
+        changed role w (stepping (side_of role) w (took message ∷ map (answered message) answers)) ledger.transfer_logs (transfer_log_taken (both_ends.base_at role common) (both_ends.body_at role two) message)
         (answers-idle role (record { side = side_of role; step = took message } ∷ w) message answers ∙ one-step role w (took message)
         ∙ (λ i. transfer_log_taken (both_ends.base_at role common) ((body-for common role w ∙ j.bodies role) i) message (h role i)))
         (peer-same role w (took message ∷ map (answered message) answers)) h;
     passes = λ role w two ledger exchanges message left j e r h.
-        same-so role w (stepping (side_of role) w (passed ∷ [])) ledger.transfer_log (one-idle role w passed tt) (peer-same role w (passed ∷ [])) h;
+        same-so role w (stepping (side_of role) w (passed ∷ [])) ledger.transfer_logs (one-idle role w passed tt) (peer-same role w (passed ∷ [])) h;
     quiet = λ role w two ledger exchanges x q h.
-        same-so role w (record { side = side_of role; step = x } ∷ w) ledger.transfer_log (one-idle role w x (quiet-idle x q)) (peer-same role w (x ∷ [])) h;
+        same-so role w (record { side = side_of role; step = x } ∷ w) ledger.transfer_logs (one-idle role w x (quiet-idle x q)) (peer-same role w (x ∷ [])) h;
     breaks = λ w two ledger exchanges j h. broke-so w ledger h;
   }

@@ -1,4 +1,4 @@
--- What stood first was dealt with: these are steps of reading.
+-- The reaction to what stood first: it is made of steps of reading.
 use Rattle.std.proofs.Common.{◌≡◌, ℕ, ◌<◌, Bool, true, false, if◌then◌else◌, List, [], ◌∷◌, ◌++◌, length, Option, Some, None, refl, sym, ap, subst, ◌∙◌, arith}
 use Rattle.std.proofs.lemmas.List.{append-nil}
 use Rattle.std.specs.Prelude.{option_map, Result, Ok, Err}
@@ -17,9 +17,9 @@ use Rattle.association_line.specs.Line.{Line, after, after_all, takes_first, fir
 use Rattle.association_line.specs.Feeding.{word_in, message_in, taking, failing, Reads, is_over, waits, passes, takes, fails, one_passed, one_taken, one_failed}
 use Rattle.association_line.specs.Reactions.{ReactionsAreSteps, IsTaken, IsFailed}
 use Rattle.association_end.specs.View.{EndView, base}
-use Rattle.association_end.specs.Progress.{DealtWith, ReadAll, Goes, count_in, messages_left}
+use Rattle.association_end.specs.Progress.{ReadOne, ReadAll, Goes, count_in, messages_left}
 use Rattle.association_end.specs.OneMessage as reacted
-use Rattle.association_end.specs.OneMessage.{Deals, TookFirst, with_body, with_line, with_came, sending, size_of_front}
+use Rattle.association_end.specs.OneMessage.{ReactionDone, TookFirst, with_body, with_line, with_came, sending, size_of_front}
 use Rattle.association_end.specs.Sound.{IsMessage, AreMessages, HasMessages}
 use Rattle.association_end.proofs.Sent.{waiting_with, answered_all, aborted_all}
 
@@ -106,7 +106,7 @@ module _ (old : EndView) (intake : Intake) (came : old.end.line.came ≡ Some in
   off : record old.end.line { came = Some (behind_first intake) } ≡ takes_first old.end.line
   off = ap (λ (c : Option Intake). record old.end.line { came = option_map behind_first c }) (sym came)
 
-  pub passed_over : (new : EndView) (before after : List Indication) → react_to b old.end.body first ≡ Some Passes → new ≡ mid → after ≡ before → DealtWith old new before after
+  pub passed_over : (new : EndView) (before after : List Indication) → react_to b old.end.body first ≡ Some Passes → new ≡ mid → after ≡ before → ReadOne old new before after
   passed_over new before later is n s = record {
     on = record {
       steps = passed ∷ [];
@@ -142,7 +142,7 @@ module _ (old : EndView) (intake : Intake) (came : old.end.line.came ≡ Some in
           (λ i. record { body = taken.body_is i; line = waiting_with b answers (taken_line i) })
           ∙ sym (answered_all b (after b old.end (took taken.message)) taken.message answers)
 
-      pub was_taken : (new : EndView) (before after : List Indication) → new ≡ taken_end → after ≡ before ++ told → DealtWith old new before after
+      pub was_taken : (new : EndView) (before after : List Indication) → new ≡ taken_end → after ≡ before ++ told → ReadOne old new before after
       was_taken new before later n s = record {
         on = record {
           steps = taking taken.message answers;
@@ -211,14 +211,14 @@ module _ (old : EndView) (intake : Intake) (came : old.end.line.came ≡ Some in
       }
 
 -- as the code comes by it
-pub dealt : (law : ReactionsAreSteps) (old mid new : EndView) (intake : Intake) (front : Front) (before after : List Indication) (more : Bool) → old.end.line.came ≡ Some intake → passes_over old.end.body.link.phase ≡ false
-    → front ≡ first_in intake → mid ≡ with_came (Some (behind_first intake)) old → Deals mid new front before after more → Goes more old new before after
-dealt law old mid new intake front before later more came up first is d =
-    let there : Deals (with_came (Some (behind_first intake)) old) new (first_in intake) before later more
-    = subst (λ (m : EndView). Deals m new (first_in intake) before later more) is (subst (λ (f : Front). Deals mid new f before later more) first d) in
+pub reaction_read : (law : ReactionsAreSteps) (old mid new : EndView) (intake : Intake) (front : Front) (before after : List Indication) (more : Bool) → old.end.line.came ≡ Some intake → passes_over old.end.body.link.phase ≡ false
+    → front ≡ first_in intake → mid ≡ with_came (Some (behind_first intake)) old → ReactionDone mid new front before after more → Goes more old new before after
+reaction_read law old mid new intake front before later more came up first is d =
+    let there : ReactionDone (with_came (Some (behind_first intake)) old) new (first_in intake) before later more
+    = subst (λ (m : EndView). ReactionDone m new (first_in intake) before later more) is (subst (λ (f : Front). ReactionDone mid new f before later more) first d) in
     go more there
   where
-    go : (k : Bool) → Deals (with_came (Some (behind_first intake)) old) new (first_in intake) before later k → Goes k old new before later
+    go : (k : Bool) → ReactionDone (with_came (Some (behind_first intake)) old) new (first_in intake) before later k → Goes k old new before later
     go true (reacted.passes e n s) = passed_over old intake came up new before later e n s
     go true (reacted.takes left answers told e n s) = was_taken old intake came up law left answers told e new before later n s
     go false (reacted.fails f left aborts told e n s) = has_failed old intake came up law f left aborts told e new before later n s
