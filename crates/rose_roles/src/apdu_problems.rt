@@ -113,8 +113,8 @@ pub(crate) fn result_or_problem(
 ) -> Result<ValueOrProblem, NoMemory>
     ensures { IfOk result (λ found. (carried : Carried) → Carries syntax tables.now.types room
         (use_by tables.now kinds.Result code.now) octets.now carried →
-        IsValueOrProblem (result_problem tables.now place (operation_at tables.now place) code.now carried)
-        (value_in carried) found) }
+        IsValueOrProblem (result_problem tables.now place (operation_at tables.now place) code.now
+        carried) (value_in carried) found) }
 {
     let Some(operation) = tables.operation(place) else {
         return Ok(ValueOrProblem::Wrong(1));

@@ -194,8 +194,8 @@ impl Performer {
         ensures found { IfOk result (λ found. (carried : Carried) →
             Carries syntax tables.now.types head.now.room
             (option_map argument_of (placed (operation_at tables.now) place)) head.now.rest carried
-            → IsValueOrProblem (invoke_problem tables.now own.now.kept self.now.kept id.now head.now.linked
-            place carried) (value_in carried) found) }
+            → IsValueOrProblem (invoke_problem tables.now own.now.kept self.now.kept id.now
+            head.now.linked place carried) (value_in carried) found) }
         ensures free { IfOk result (IsFree (early_problem tables.now own.now.kept self.now.kept
             id.now head.now.linked place)) }
     {
