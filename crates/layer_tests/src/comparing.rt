@@ -1,8 +1,10 @@
 //! The order of DER spellings that is told of values is that of their octets (X.690 11.6): the
-//! first octet that differs tells. Of eight pairs of values the octets and the order are worked out
-//! by hand. All else is a check that two functions agree: all pairs of many values of a type are
-//! compared both ways, and what is expected is computed from the octets that the program writes of
-//! both. That such octets are right is shown by the rows of `ber` and `sets_of`.
+//! first octet that differs tells, and octets that begin others are less. What is expected are data
+//! made apart from this program. Of eight pairs of values the octets and the order are worked out
+//! by hand. All other values stand in lists: in rising order, with their octets in the comments, or
+//! with a table of their ranks in that order. Octets, order and ranks were worked out by an encoder
+//! apart from this program (X.690 8, 10.1, 10.3, 11.1), and all pairs of a list are compared both
+//! ways. That the program writes such octets is shown by the rows of `ber` and `sets_of`.
 
 use crate::tables::{Member, Row, table};
 use ber_codec::{Node, TypeId, TypeTable, Val, Vals, ber_octets, fits, is_less};
@@ -74,21 +76,23 @@ fn string(rt: &impl Abort, alloc: Global, length: usize, last: u8) -> Val {
     }
 }
 
+/// Rising by their octets: 02 01 and 00, 01, 7F, 80, FF; 02 02 and 00 80, 00 FF, 01 00, 80 00,
+/// FF 00, FF 7F; 02 03 and 01 00 00, FF 7F FF; 02 08 and 80, with seven octets 00.
 const NUMBERS: [i64; 14] = [
-    i64::MIN,
-    -32_769,
-    -32_768,
-    -256,
-    -129,
-    -128,
-    -1,
     0,
     1,
     127,
+    -128,
+    -1,
     128,
     255,
     256,
+    -32_768,
+    -256,
+    -129,
     65_536,
+    -32_769,
+    i64::MIN,
 ];
 
 fn numbers(rt: &impl Abort, alloc: Global, items: &[i64]) -> Vals {
@@ -99,8 +103,12 @@ fn numbers(rt: &impl Abort, alloc: Global, items: &[i64]) -> Vals {
     all
 }
 
+/// How many octets stand in front of the last, which is 6, 7 and 8 with each. Identifiers and
+/// lengths: 04 01, 04 02, 04 7F, 04 81 80, 04 81 FF, 04 82 01 00, 04 82 01 2D, 04 82 FF FF and
+/// 04 83 01 00 00.
 const LENGTHS: [usize; 9] = [0, 1, 126, 127, 254, 255, 300, 65_534, 65_535];
 
+/// Rising, by their lengths and then by their last octets.
 fn strings(rt: &impl Abort, alloc: Global) -> Vals {
     let mut all = Vec::new(alloc);
     for length in &LENGTHS {
@@ -147,6 +155,7 @@ fn choice(rt: &impl Abort, alloc: Global, place: u32) -> Option<Val> {
     }
 }
 
+/// Rising: 04 01 01, 04 81 80 and 128 octets, 9F 28 01 00, 9F 28 01 FF, BF 81 48 02 05 00.
 fn choices(rt: &impl Abort, alloc: Global) -> Vals {
     let mut all = Vec::new(alloc);
     for place in 0..5_u32 {
@@ -177,7 +186,8 @@ const FIRST: [Option<i64>; 3] = [None, Some(1), Some(300)];
 
 const SECOND: [Option<i64>; 3] = [None, Some(-1), Some(128)];
 
-/// Parts that are there or not, in all ways.
+/// Parts that are there or not, in all ways: with each first part each second one, and with each
+/// of these pairs each of the five choices and none.
 fn records(rt: &impl Abort, alloc: Global) -> Vals {
     let mut all = Vec::new(alloc);
     for a in &FIRST {
@@ -198,17 +208,19 @@ fn list_of(items: Vals) -> Val {
     }
 }
 
-/// The items of lists.
+/// The items of lists, rising: 30 00; 30 03 and 02 01 01, 02 01 FF; 30 04 02 02 01 00; 30 06 and
+/// 02 01 01 02 01 02, 02 01 02 02 01 01; 30 07 and 02 01 01 02 02 01 00, 02 02 01 00 02 01 01;
+/// 30 09 and three times 02 01 01.
 const ITEMS: [&[i64]; 9] = [
     &[],
     &[1],
+    &[-1],
+    &[256],
     &[1, 2],
     &[2, 1],
-    &[256],
     &[1, 256],
     &[256, 1],
     &[1, 1, 1],
-    &[-1],
 ];
 
 fn lists(rt: &impl Abort, alloc: Global) -> Vals {
@@ -232,7 +244,8 @@ fn pair(rt: &impl Abort, alloc: Global, first: &[i64], second: &[i64]) -> Val {
     list_of(lists)
 }
 
-/// Pairs of lists.
+/// With each list of `ITEMS` each as the second. They are compared as they stand, whether they rise
+/// or not.
 fn pairs(rt: &impl Abort, alloc: Global) -> Vals {
     let mut all = Vec::new(alloc);
     for first in &ITEMS {
@@ -244,20 +257,22 @@ fn pairs(rt: &impl Abort, alloc: Global) -> Vals {
     all
 }
 
-/// Some numbers in base 128 have first octets that are greater than those of greater numbers.
+/// Rising: 06 01 and 00, 01, 28, 7F; 06 02 and 55 7F, 81 00; 06 03 and 55 81 00, 88 37 03; 06 04
+/// and 55 7F 81 00, 55 81 00 7F, 55 81 80 00, 55 FF 7F 00. Some numbers in base 128 have first
+/// octets that are greater than those of greater numbers.
 const ARCS: [&[u32]; 12] = [
     &[0, 0],
     &[0, 1],
     &[1, 0],
     &[2, 47],
-    &[2, 48],
-    &[2, 999, 3],
     &[2, 5, 127],
+    &[2, 48],
     &[2, 5, 128],
+    &[2, 999, 3],
     &[2, 5, 127, 128],
     &[2, 5, 128, 127],
-    &[2, 5, 16_383, 0],
     &[2, 5, 16_384],
+    &[2, 5, 16_383, 0],
 ];
 
 fn object_id(rt: &impl Abort, alloc: Global, arcs: &[u32]) -> Val {
@@ -275,12 +290,13 @@ fn object_ids(rt: &impl Abort, alloc: Global) -> Vals {
     all
 }
 
-/// Octets of bit strings, and how many bits of the last are unused.
+/// Octets of bit strings, and how many bits of the last are unused. Rising: 03 01 00; 03 02 and
+/// 00 80, 04 F0, 07 80; 03 03 00 01 02.
 const STRINGS: [(&[u8], u8); 5] = [
     (&[], 0),
     (&[0x80], 0),
-    (&[0x80], 7),
     (&[0xF0], 4),
+    (&[0x80], 7),
     (&[1, 2], 0),
 ];
 
@@ -300,16 +316,6 @@ fn bit_strings(rt: &impl Abort, alloc: Global) -> Vals {
             .expect(rt, "memory");
     }
     all
-}
-
-/// Whether octets are less: the first that differs is, or the others begin with them.
-fn octets_less(a: &[u8], b: &[u8]) -> bool {
-    for (one, other) in a.iter().zip(b.iter()) {
-        if one != other {
-            return one < other;
-        }
-    }
-    a.len() < b.len()
 }
 
 /// The DER spelling of a value.
@@ -488,32 +494,113 @@ fn pairs_worked_out_by_hand(rt: HostRuntime) {
     drop(table);
 }
 
-/// Whether these two values are told to compare as their octets do.
-fn is_told(rt: &impl Abort, alloc: Global, table: &TypeTable, of: u32, a: &Val, b: &Val) -> bool {
-    let first = spelling(rt, alloc, table, of, a);
-    let second = spelling(rt, alloc, table, of, b);
-    let less = octets_less(first.as_slice(), second.as_slice());
-    drop(first);
-    drop(second);
+/// Lines of ranks, worked out by that encoder: of each value of a list in turn, how many different
+/// spellings in the list are less than its own. Equal octets have equal ranks.
+type Ranks = &'static [&'static [u32]];
+
+/// The rank of each value of a list that rises is its place.
+const RISING: [&[u32]; 1] = [&[
+    0, 1, 2, 3, 4, 5, 6, 7, 8, 9, 10, 11, 12, 13, 14, 15, 16, 17, 18, 19, 20, 21, 22, 23, 24, 25,
+    26,
+]];
+
+/// Of `records` as SEQUENCEs, a line for each first part with each second one. The least are 30 00,
+/// 30 03 02 01 01 (a is 1), 30 03 04 01 01 (c alone) and 30 04 02 02 01 2C (a is 300). In the first
+/// line 45 is 30 81 83 and a string of 128 octets, behind all 45 that have the short form of a
+/// length; 21 and 22 are 30 09 with A0 03 02 01 FF 9F 28 01 FF and A0 04 02 02 00 80 04 01 01.
+const SEQUENCE_RANKS: [&[u32]; 9] = [
+    &[2, 45, 4, 5, 9, 0],
+    &[16, 48, 20, 21, 28, 6],
+    &[22, 49, 25, 26, 33, 8],
+    &[7, 46, 10, 11, 18, 1],
+    &[27, 50, 29, 30, 39, 13],
+    &[31, 51, 34, 35, 42, 17],
+    &[12, 47, 14, 15, 24, 3],
+    &[32, 52, 36, 37, 43, 19],
+    &[38, 53, 40, 41, 44, 23],
+];
+
+/// Of `records` as SETs. Here the last two are the other way round: 20 is 31 09 with 04 01 01 A0 04
+/// 02 02 00 80, since the tag of x stands in front of [0], and 22 with A0 03 02 01 FF 9F 28 01 FF.
+const SET_RANKS: [&[u32]; 9] = [
+    &[2, 45, 4, 5, 9, 0],
+    &[16, 48, 21, 22, 28, 6],
+    &[20, 49, 25, 26, 33, 8],
+    &[7, 46, 10, 11, 18, 1],
+    &[27, 50, 30, 31, 39, 13],
+    &[29, 51, 34, 35, 42, 17],
+    &[12, 47, 14, 15, 24, 3],
+    &[32, 52, 37, 38, 43, 19],
+    &[36, 53, 40, 41, 44, 23],
+];
+
+/// Of `pairs`, a line for each first list. The least is 31 04 30 00 30 00; then, all behind 31 07,
+/// 30 00 30 03 02 01 01, 30 00 30 03 02 01 FF, 30 03 02 01 01 30 00 and 30 03 02 01 FF 30 00.
+const PAIR_RANKS: [&[u32]; 9] = [
+    &[0, 1, 2, 5, 7, 8, 15, 16, 24],
+    &[3, 9, 10, 17, 25, 26, 34, 35, 50],
+    &[4, 11, 12, 18, 27, 28, 36, 37, 51],
+    &[6, 19, 20, 23, 38, 39, 46, 47, 58],
+    &[13, 29, 30, 40, 52, 53, 59, 60, 72],
+    &[14, 31, 32, 41, 54, 55, 61, 62, 73],
+    &[21, 42, 43, 48, 63, 64, 68, 69, 76],
+    &[22, 44, 45, 49, 65, 66, 70, 71, 77],
+    &[33, 56, 57, 67, 74, 75, 78, 79, 80],
+];
+
+/// The types whose values are compared, and the ranks of these.
+const COMPARED: [(u32, Ranks); 9] = [
+    (INTEGER, &RISING),
+    (OCTETS, &RISING),
+    (CHOICE, &RISING),
+    (SEQUENCE, &SEQUENCE_RANKS),
+    (SET, &SET_RANKS),
+    (LIST, &RISING),
+    (OBJECT_ID, &RISING),
+    (BITS, &RISING),
+    (LISTS, &PAIR_RANKS),
+];
+
+/// The ranks of all lines.
+fn ranks(rt: &impl Abort, alloc: Global, lines: &[&[u32]]) -> Vec<u32> {
+    let mut all = Vec::new(alloc);
+    for line in lines {
+        all.extend_from_slice(line).expect(rt, "memory");
+    }
+    all
+}
+
+/// Whether this is told of whether the first value is less than the second.
+fn is_told(table: &TypeTable, of: u32, a: &Val, b: &Val, less: bool) -> bool {
     is_less(table, TypeId(of), a, b) == Some(less)
 }
 
-/// Whether all pairs of these values are told to compare as their octets do.
-fn are_told(rt: &impl Abort, alloc: Global, table: &TypeTable, of: u32, values: &Vals) -> bool {
-    for a in values {
-        for b in values {
-            if !is_told(rt, alloc, table, of, a, b) {
+/// Whether all pairs of these values are told to compare as their ranks do.
+fn are_ranked(table: &TypeTable, of: u32, values: &[Val], ranks: &[u32]) -> bool {
+    for (a, rank) in values.iter().zip(ranks.iter()) {
+        for (b, other) in values.iter().zip(ranks.iter()) {
+            if !is_told(table, of, a, b, rank < other) {
                 return false;
             }
         }
     }
-    true
+    values.len() <= ranks.len()
 }
 
-/// The types whose values are compared.
-const COMPARED: [u32; 9] = [
-    INTEGER, OCTETS, CHOICE, SEQUENCE, SET, LIST, OBJECT_ID, BITS, LISTS,
-];
+/// As `are_ranked`, by these lines of ranks.
+fn are_told(
+    rt: &impl Abort,
+    alloc: Global,
+    table: &TypeTable,
+    of: u32,
+    values: &[Val],
+    lines: &[&[u32]],
+) -> bool {
+    let ranks = ranks(rt, alloc, lines);
+    let are_so = are_ranked(table, of, values, ranks.as_slice());
+    drop(ranks);
+    are_so
+}
 
 /// Values of one of these types.
 fn values(rt: &impl Abort, alloc: Global, of: u32) -> Vals {
@@ -529,35 +616,52 @@ fn values(rt: &impl Abort, alloc: Global, of: u32) -> Vals {
     }
 }
 
-/// Whether all pairs of the values of a type are told so.
-fn are_all_told(rt: &impl Abort, alloc: Global, table: &TypeTable, of: u32) -> bool {
+/// Whether all pairs of the values of a type are told to compare as these ranks do.
+fn are_all_told(
+    rt: &impl Abort,
+    alloc: Global,
+    table: &TypeTable,
+    of: u32,
+    lines: &[&[u32]],
+) -> bool {
     let values = values(rt, alloc, of);
-    let are_so = are_told(rt, alloc, table, of, &values);
+    let are_so = are_told(rt, alloc, table, of, values.as_slice(), lines);
     drop(values);
     are_so
 }
 
-/// What is told agrees with what is written.
 #[test]
-fn values_compare_as_their_octets(rt: HostRuntime) {
+fn values_compare_as_their_ranks(rt: HostRuntime) {
     let alloc = rt.alloc();
     let table = table(&rt, alloc, &TABLE);
-    for of in &COMPARED {
-        assert!(rt; are_all_told(&rt, alloc, &table, *of));
+    for (of, lines) in &COMPARED {
+        assert!(rt; are_all_told(&rt, alloc, &table, *of, lines));
     }
     drop(table);
 }
 
-/// Values of the SEQUENCE, and others that are none.
+/// The value at this place of eight: records without parts, with a, and with all parts; two with a
+/// number in the place of c, without a and with it; x of the CHOICE; a number; nothing.
+fn odd_value(rt: &impl Abort, alloc: Global, place: u32) -> Option<Val> {
+    match place {
+        0 => Some(record(rt, alloc, None, None, 5)),
+        1 => Some(record(rt, alloc, Some(1), None, 5)),
+        2 => Some(record(rt, alloc, Some(300), Some(128), 1)),
+        3 => Some(parted(rt, alloc, None, None, Some(number(5)))),
+        4 => Some(parted(rt, alloc, Some(1), None, Some(number(5)))),
+        5 => Some(chosen_text(rt, alloc, &[1])),
+        6 => Some(number(5)),
+        7 => Some(Val { node: Node::Null }),
+        _ => None,
+    }
+}
+
+/// All lists, and these eight values.
 fn odd_values(rt: &impl Abort, alloc: Global) -> Vals {
-    let mut odd = records(rt, alloc);
-    odd.push(number(5)).expect(rt, "memory");
-    odd.push(list_of(numbers(rt, alloc, &[1, 2])))
-        .expect(rt, "memory");
-    odd.push(Val { node: Node::Null }).expect(rt, "memory");
-    for items in &ITEMS {
-        odd.push(list_of(numbers(rt, alloc, items)))
-            .expect(rt, "memory");
+    let mut odd = lists(rt, alloc);
+    for place in 0..8_u32 {
+        let value = odd_value(rt, alloc, place).expect(rt, "one of eight");
+        odd.push(value).expect(rt, "memory");
     }
     odd
 }
@@ -569,19 +673,40 @@ fn is_record(table: &TypeTable, value: Val) -> bool {
     fits
 }
 
-/// The types of which such values are compared.
-const ODDLY_COMPARED: [u32; 4] = [SEQUENCE, SET, CHOICE, LIST];
+/// The types of which such values are compared, and their ranks: of the nine lists, and of the
+/// others.
+const ODDLY_COMPARED: [(u32, Ranks); 4] = [
+    (
+        SEQUENCE,
+        &[&[0, 0, 0, 0, 0, 0, 0, 0, 0], &[0, 1, 2, 0, 1, 0, 0, 0]],
+    ),
+    (
+        SET,
+        &[&[0, 0, 0, 0, 0, 0, 0, 0, 0], &[0, 1, 2, 0, 1, 0, 0, 0]],
+    ),
+    (
+        CHOICE,
+        &[&[0, 0, 0, 0, 0, 0, 0, 0, 0], &[0, 0, 0, 0, 0, 1, 0, 0]],
+    ),
+    (
+        LIST,
+        &[&[0, 1, 2, 3, 4, 5, 6, 7, 8], &[0, 0, 0, 0, 0, 0, 0, 0]],
+    ),
+];
 
-/// A value whose parts stand in the wrong places has no form, and is compared all the same: what is
-/// told agrees with what is written.
+/// A value of another kind than its type has no form, and is compared all the same. X.690 says
+/// nothing of it; by `written`, the definition that the contract of `is_less` cites, it has the
+/// identifier of the type and no contents, and no octets at all where the type is a CHOICE. The
+/// ranks are of 30 00, 30 03 02 01 01 and 30 81 8D and more as a SEQUENCE, of the same behind 31 as
+/// a SET, of no octets and 04 01 01 as a CHOICE, and as in `lists` as a list.
 #[test]
 fn values_without_form_compare_too(rt: HostRuntime) {
     let alloc = rt.alloc();
     let table = table(&rt, alloc, &TABLE);
     let odd = odd_values(&rt, alloc);
     assert!(rt; !is_record(&table, number(5)));
-    for of in &ODDLY_COMPARED {
-        assert!(rt; are_told(&rt, alloc, &table, *of, &odd));
+    for (of, lines) in &ODDLY_COMPARED {
+        assert!(rt; are_told(&rt, alloc, &table, *of, odd.as_slice(), lines));
     }
     drop(odd);
     drop(table);

@@ -10,7 +10,7 @@ use crate::exchange::Word::{
 use crate::exchange::*;
 use Side::{A, B};
 use osi_base::Side;
-use session_subset::{Owed, SessionPhase, SessionRefusal, is_acceptable};
+use session_subset::{FunctionalUnits, Owed, SessionPhase, SessionRefusal, is_acceptable};
 use std::alloc::Global;
 use std::test::*;
 
@@ -28,13 +28,21 @@ const RELEASED: [Step; 8] = [
     Is(B, Phase(SessionPhase::Over)),
 ];
 
+/// Whether these are the functional units of 042A (8.3.1): 0002, 0008, 0020 and 0400.
+fn are_selected(units: FunctionalUnits) -> bool {
+    units.duplex
+        && units.minor_synchronize
+        && units.resynchronize
+        && units.typed_data
+        && !units.half_duplex
+        && !units.activity_management
+}
+
 #[test]
 fn opens_and_releases(rt: HostRuntime) {
     let mut both = direct(&rt, rt.alloc());
-    let units = both.a.state().units;
-    assert!(rt; units == both.b.state().units);
-    assert!(rt; units.duplex && units.resynchronize);
-    assert!(rt; !units.half_duplex && !units.activity_management);
+    assert!(rt; are_selected(both.a.state().units));
+    assert!(rt; are_selected(both.b.state().units));
     go(&rt, rt.alloc(), &mut both, "a release", &RELEASED);
     drop(both);
 }
