@@ -7,7 +7,7 @@ ghost use Rattle.std.specs.Prelude.{◌≤◌, length, List, ℕ};
 use crate::counts::count;
 use crate::stopped::Stopped;
 use std::alloc::Global;
-use stream_front::{Front, Scanner};
+use stream_front::{FirstValue, Scanner};
 
 /// An OCTET STRING of about so many octets, with a definite length.
 fn definite(alloc: Global, size: u64) -> Result<Vec<u8>, Stopped> {
@@ -44,7 +44,7 @@ fn indefinite(alloc: Global, size: u64) -> Result<Vec<u8>, Stopped> {
 fn whole_at(octets: &[u8]) -> usize {
     let mut scanner = Scanner::new();
     for end in 0..octets.len() {
-        if let Front::Whole(used) = scanner.front(&octets[..end + 1]) {
+        if let FirstValue::Whole(used) = scanner.front(&octets[..end + 1]) {
             return used;
         }
     }
