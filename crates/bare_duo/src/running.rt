@@ -17,8 +17,9 @@ use two_ends::run_events;
 /// feeds exactly them to the other end. A break comes to both ends.
 ///
 /// Where the ends have the same tables and the configurations of one `BareSetup`, the run is one by
-/// the rules from every world for which they stand, whatever they did before, and each end then stands
-/// for its own history with it. Where they have made no step, the run keeps the laws of two ends.
+/// the rules from every world for which they stand, whatever they did before, and each end then
+/// stands for its own history with it. Where they have made no step, the run keeps the laws of two
+/// ends.
 ///
 /// The only error is want of memory. The run ends there, and of the ends only that is known which
 /// `End::call` and `End::feed` say.
