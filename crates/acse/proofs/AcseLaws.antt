@@ -25,7 +25,7 @@ use Rattle.fixed_tables.proofs.Numbers.{natural_fits, number_fits, range_fits}
 use Rattle.passed_fields.specs.AllOctets.{all_at}
 use Rattle.passed_fields.proofs.Fronts.{all_found, all_only, all_first}
 use Rattle.acse.specs.Rows.{acse_row, acse_rows}
-use Rattle.acse.specs.Words.{external_in, external_value, said, value_of}
+use Rattle.acse.specs.Words.{external_in, external_value, apdu_in, value_of}
 use Rattle.acse.specs.Plain.{SpellsPlain, of_value}
 use Rattle.acse.specs.Fields.{any_apdu_at, AnyApdu, acse_at, SpellsAcse}
 use Rattle.acse.specs.Written.{is_id, can_carry, are_bits, diagnostic_number, can_write, written_acse, IsWritable}
@@ -34,8 +34,8 @@ use Rattle.acse.proofs.Added.{acse_sound}
 use Rattle.acse.proofs.Shapes.{Whatever, any_apdu_found, any_apdu_only, any_apdu_grows, any_apdu_inside}
 
 -- what is read of a value
-said_of : (r : Result Value units.PduFault) (a : apdus.Acse) → of_value r ≡ Ok a → (v : Value) × (r ≡ Ok v) × (said v ≡ a)
-said_of (Ok v) a e = (v, refl, (let same : said v ≡ a = cc in same))
+said_of : (r : Result Value units.PduFault) (a : apdus.Acse) → of_value r ≡ Ok a → (v : Value) × (r ≡ Ok v) × (apdu_in v ≡ a)
+said_of (Ok v) a e = (v, refl, (let same : apdu_in v ≡ a = cc in same))
 said_of (Err f) a e = absurd cc
 
 faulty : (r : Result Value units.PduFault) (f : units.PduFault) → of_value r ≡ Err f → r ≡ Err f
@@ -150,7 +150,7 @@ users_say (e ∷ es) h =
     let p = and_parts (can_carry e) (list_all can_carry es) h in
     ap (λ (x : externals.External). x ∷ map external_in (values_list (values_of (map external_value es)))) (external_says e p.0) ∙ ap (λ (x : List externals.External). e ∷ x) (users_say es p.1)
 
-pub writable_says : (a : apdus.Acse) → can_write a ≡ true → said (value_of a) ≡ a
+pub writable_says : (a : apdus.Acse) → can_write a ≡ true → apdu_in (value_of a) ≡ a
 writable_says (apdu.AssociateRequest None context []) h = refl
 writable_says (apdu.AssociateRequest None context (e ∷ es)) h =
     let p = and_parts (true && object_id_fits (object_id context)) (list_all can_carry (e ∷ es)) h in

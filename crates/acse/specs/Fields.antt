@@ -18,7 +18,7 @@ use Rattle.passed_fields.specs.Reading.{fielded_at}
 use Rattle.passed_fields.specs.Spelling.{FieldedIs}
 use Rattle.passed_fields.specs.AllOctets.{all_at}
 use Rattle.acse.specs.Rows.{acse_rows}
-use Rattle.acse.specs.Words.{said}
+use Rattle.acse.specs.Words.{apdu_in}
 use Rattle.acse.specs.Plain.{of_value}
 
 -- AARQ: version, context name, user information
@@ -99,4 +99,4 @@ pub record SpellsAcse (apdu : apdus.Acse) (octets : List ℕ) : Type 0 where
   pub value : Value
   pub spelled : AnyApdu false most_levels value octets
   pub within : length octets ≤ most_octets
-  pub says : said value ≡ apdu
+  pub says : apdu_in value ≡ apdu

@@ -3,7 +3,7 @@ use Rattle.std.specs.Prelude.{◌≡◌, ℕ, zero, suc, ◌≤◌, Bool, false,
 use Rattle.osi_base.specs.declared.acse_word.Acse as apdus
 use Rattle.osi_base.specs.Limits.{most_levels, most_octets}
 use Rattle.asn1_types.specs.Value.{Value, chosen}
-use Rattle.acse.specs.Words.{said}
+use Rattle.acse.specs.Words.{apdu_in}
 use Rattle.acse.specs.Fields.{request_fields, response_fields, release_fields, abort_fields, FieldsSpelled}
 
 abbrev pub KnownOfNumber : ℕ → Bool → ℕ → Value → List ℕ → Type 0
@@ -22,4 +22,4 @@ pub record SpellsKnown (apdu : apdus.Acse) (octets : List ℕ) : Type 0 where
   pub value : Value
   pub spelled : KnownApdu false most_levels value octets
   pub within : length octets ≤ most_octets
-  pub says : said value ≡ apdu
+  pub says : apdu_in value ≡ apdu

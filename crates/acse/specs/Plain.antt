@@ -6,14 +6,14 @@ use Rattle.asn1_types.specs.Value.{Value}
 use Rattle.ber_spelling.specs.Spelling.{Spells}
 use Rattle.fixed_tables.specs.declared.pdu.PduFault as units
 use Rattle.acse.specs.Rows.{acse_row, acse_rows}
-use Rattle.acse.specs.Words.{said}
+use Rattle.acse.specs.Words.{apdu_in}
 
 -- octets spell this APDU, and nothing in them is passed over
 pub record SpellsPlain (apdu : apdus.Acse) (octets : List ℕ) : Type 0 where
   pub value : Value
   pub spelled : Spells acse_rows acse_row false most_octets value octets
-  pub says : said value ≡ apdu
+  pub says : apdu_in value ≡ apdu
 
 abbrev pub of_value : Result Value units.PduFault → Result apdus.Acse units.PduFault
-of_value (Ok v) = Ok (said v)
+of_value (Ok v) = Ok (apdu_in v)
 of_value (Err e) = Err e

@@ -30,16 +30,16 @@ abbrev pub response_in : Option Value → apdus.Acse
 response_in v = apdu.AssociateResponse (arcs_in (part_in 0 v)) (octet_or (pos 0) (part_in 1 v)) (diagnostic_in (part_in 2 v)) (user_in (part_in 3 v))
 
 -- the APDU of an alternative with its value
-abbrev pub said_by : ℕ → Option Value → apdus.Acse
-said_by which v =
+abbrev pub apdu_by : ℕ → Option Value → apdus.Acse
+apdu_by which v =
     if which == 0 then request_in v
     else (if which == 1 then response_in v
     else (if which == 2 then apdu.ReleaseRequest (reason_in v)
     else (if which == 3 then apdu.ReleaseResponse (reason_in v)
     else apdu.Abort (octet_or (pos 0) (part_in 0 v)) (user_in (part_in 1 v)))))
 
-abbrev pub said : Value → apdus.Acse
-said v = said_by (alternative (Some v)) (inside (Some v))
+abbrev pub apdu_in : Value → apdus.Acse
+apdu_in v = apdu_by (alternative (Some v)) (inside (Some v))
 
 -- ---- the value that says it
 

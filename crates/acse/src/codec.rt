@@ -10,7 +10,7 @@ ghost use Rattle.acse.specs.Written.{written_acse};
 
 use crate::reading::front;
 use crate::table::{APDU, AcseTable};
-use crate::words::{said, value_of};
+use crate::words::{apdu_in, value_of};
 use asn1_types::{TypeTable, Val};
 use ber_writing::ber_octets;
 use fixed_tables::{PduFault, all_of, fault_of};
@@ -36,7 +36,7 @@ impl AcseTable {
         ensures { GivesWhole result (acse_at bytes.now) }
     {
         let value = whole(alloc, &self.types, bytes)?;
-        Ok(said(alloc, &value)?)
+        Ok(apdu_in(alloc, &value)?)
     }
 
     /// The octets of an APDU, in its one spelling: a reason stands also where it is 0, and user

@@ -3,7 +3,7 @@
 ghost use Rattle.std.specs.Prelude.{◌≡◌, ◌∷◌, [], IfOk};
 ghost use Rattle.std.specs.Option.{option_copied};
 ghost use Rattle.asn1_types.specs.ValueView.{parts_of};
-ghost use Rattle.acse.specs.Words.{external_in, user_in, diagnostic_in, request_in, response_in, said_by, said, external_value, user_part, diagnostic_value, value_of};
+ghost use Rattle.acse.specs.Words.{external_in, user_in, diagnostic_in, request_in, response_in, apdu_by, apdu_in, external_value, user_part, diagnostic_value, value_of};
 
 use asn1_types::Val;
 use fixed_tables::{
@@ -20,9 +20,9 @@ struct ExternalItems;
 impl InValue for ExternalItems {
     type Item = External;
 
-    ghost said = { external_in };
+    ghost item_in = { external_in };
 
-    ghost says = { external_value };
+    ghost item_value = { external_value };
 
     fn item(alloc: Global, value: &Val) -> Result<External, NoMemory> {
         Ok(External {
@@ -77,8 +77,8 @@ fn response_in(alloc: Global, value: Option<&Val>) -> Result<Acse, NoMemory>
 }
 
 /// The APDU that a value says.
-pub(crate) fn said(alloc: Global, value: &Val) -> Result<Acse, NoMemory>
-    ensures { IfOk result (λ x. x ≡ said value.now) }
+pub(crate) fn apdu_in(alloc: Global, value: &Val) -> Result<Acse, NoMemory>
+    ensures { IfOk result (λ x. x ≡ apdu_in value.now) }
 {
     let inner = chosen_in(Some(value));
     match alternative(Some(value)) {

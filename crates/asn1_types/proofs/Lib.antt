@@ -5,3 +5,4 @@ pub mod Names
 pub mod Adding
 pub mod FitLaws
 pub mod Behind
+pub mod Slots

@@ -1,6 +1,7 @@
 -- The tree that a node of the code stands for.
 use Rattle.std.specs.Prelude.{List, [], ◌∷◌, Option, Some, None}
 use Rattle.asn1_types.specs.Value.{Value, boolean, integer, null, octets, bits, object_id, text, parts, list, chosen, any, MaybeValues, no_parts, absent, present, Values, no_values, value}
+use Rattle.asn1_types.specs.declared.row.Part.{Part}
 use Rattle.asn1_types.specs.declared.value.Node.{Node}
 use Rattle.asn1_types.specs.declared.value.Node.TheVariants as node
 
@@ -25,3 +26,8 @@ value_of (node.Parts ps) = parts (parts_of ps.items)
 value_of (node.List vs) = list (values_of vs.items)
 value_of (node.Chosen which v) = chosen which v.value
 value_of (node.Any os) = any os
+
+-- a slot for each part, with no value in it
+abbrev pub empty_slots : List Part → List (Option Value)
+empty_slots [] = []
+empty_slots (p ∷ ps) = None ∷ empty_slots ps

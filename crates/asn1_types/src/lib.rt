@@ -23,5 +23,5 @@ pub use refusal::RowRefusal;
 pub use row::{Class, Item, Named, Part, Parts, Tag, TextKind, TypeId, TypeRow};
 pub use table::TypeTable;
 pub use text::{are_bits, are_octets, is_item, is_text};
-pub use value::{MaybeVals, Node, Val, Vals};
+pub use value::{MaybeVals, Node, Val, Vals, empty_slots};
 pub use whole::{behind_identifier, behind_whole, is_ended, is_marked, is_whole, number_256};

@@ -1,7 +1,9 @@
 //! Values of types.
 
-ghost use Rattle.std.specs.Prelude.{◌≡◌, IfOk};
+ghost use Rattle.std.specs.Prelude.{◌≡◌, length, IfOk};
+ghost use Rattle.asn1_types.specs.ValueView.{empty_slots};
 
+use crate::row::Part;
 use osi_base::{Copied, NoMemory, Octets, Oid};
 use std::alloc::Global;
 use std::marker::Model;
@@ -123,4 +125,17 @@ fn copied_list(alloc: Global, items: &[Val]) -> Result<Vals, NoMemory>
         copy.push(copied(alloc, value)?)?;
     }
     Ok(copy)
+}
+
+/// A slot for each part, with no value in it.
+#[tactic(auto, using(crate::proofs::Slots::empty_more, crate::proofs::Slots::empty_all, crate::proofs::Slots::empty_length))]
+pub fn empty_slots(alloc: Global, parts: &[Part]) -> Result<MaybeVals, NoMemory>
+    ensures empty { IfOk result (λ slots. slots.items ≡ empty_slots parts.now) }
+    ensures as_many { IfOk result (λ slots. length slots.items ≡ length parts.now) }
+{
+    let mut slots = Vec::new(alloc);
+    for _part in parts {
+        slots.push(None)?;
+    }
+    Ok(slots)
 }

@@ -19,7 +19,7 @@ use Rattle.association_end.specs.OneMessage.{AllMayStand, with_body, with_line, 
 use Rattle.association_words.specs.declared.words.Message.{Message}
 use Rattle.association_meaning.specs.association_intake.declared.front.Front as fronts
 use Rattle.association_meaning.specs.association_intake.Seen.{seen_front}
-use Rattle.association_end.specs.Progress.{Keeps, Goes}
+use Rattle.association_end.specs.Progress.{Keeps, ReadOneOrAll}
 use Rattle.association_end.proofs.Sent.{answers_stand}
 use Rattle.association_end.proofs.ReactionSteps.{reaction_read}
 
@@ -114,7 +114,7 @@ pub up_behind : (old mid : EndView) (front : fronts.Front) → TookFirst old mid
 up_behind old mid front t up = ap (λ (x : EndView). passes_over x.end.body.link.phase) t.new_is ∙ up
 
 pub next_read : (law : ReactionsAreSteps) (old mid new : EndView) (front : fronts.Front) (before later : List Indication) → TookFirst old mid front → passes_over old.end.body.link.phase ≡ false → (r : Result Bool NoMemory)
-    → MatchResult r (ReactionDone mid new (seen_front front) before later) (λ _. Keeps mid new) → MatchResult r (λ more. Goes more old new before later) (λ _. Keeps old new)
+    → MatchResult r (ReactionDone mid new (seen_front front) before later) (λ _. Keeps mid new) → MatchResult r (λ more. ReadOneOrAll more old new before later) (λ _. Keeps old new)
 next_read law old mid new front before later t up (Ok more) d = reaction_read law old mid new t.intake (seen_front front) before later more t.came up t.first t.new_is d
 next_read law old mid new front before later t up (Err x) k = kept_took old mid new front t k
 

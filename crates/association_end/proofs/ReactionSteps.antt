@@ -17,7 +17,7 @@ use Rattle.association_line.specs.Line.{Line, after, after_all, takes_first, fir
 use Rattle.association_line.specs.Feeding.{word_in, message_in, taking, failing, Reads, is_over, waits, passes, takes, fails, one_passed, one_taken, one_failed}
 use Rattle.association_line.specs.Reactions.{ReactionsAreSteps, IsTaken, IsFailed}
 use Rattle.association_end.specs.View.{EndView, base}
-use Rattle.association_end.specs.Progress.{ReadOne, ReadAll, Goes, count_in, messages_left}
+use Rattle.association_end.specs.Progress.{ReadOne, ReadAll, ReadOneOrAll, count_in, messages_left}
 use Rattle.association_end.specs.OneMessage as reacted
 use Rattle.association_end.specs.OneMessage.{ReactionDone, TookFirst, with_body, with_line, with_came, sending, size_of_front}
 use Rattle.association_end.specs.Sound.{IsMessage, AreMessages, HasMessages}
@@ -212,13 +212,13 @@ module _ (old : EndView) (intake : Intake) (came : old.end.line.came ≡ Some in
 
 -- as the code comes by it
 pub reaction_read : (law : ReactionsAreSteps) (old mid new : EndView) (intake : Intake) (front : Front) (before after : List Indication) (more : Bool) → old.end.line.came ≡ Some intake → passes_over old.end.body.link.phase ≡ false
-    → front ≡ first_in intake → mid ≡ with_came (Some (behind_first intake)) old → ReactionDone mid new front before after more → Goes more old new before after
+    → front ≡ first_in intake → mid ≡ with_came (Some (behind_first intake)) old → ReactionDone mid new front before after more → ReadOneOrAll more old new before after
 reaction_read law old mid new intake front before later more came up first is d =
     let there : ReactionDone (with_came (Some (behind_first intake)) old) new (first_in intake) before later more
     = subst (λ (m : EndView). ReactionDone m new (first_in intake) before later more) is (subst (λ (f : Front). ReactionDone mid new f before later more) first d) in
     go more there
   where
-    go : (k : Bool) → ReactionDone (with_came (Some (behind_first intake)) old) new (first_in intake) before later k → Goes k old new before later
+    go : (k : Bool) → ReactionDone (with_came (Some (behind_first intake)) old) new (first_in intake) before later k → ReadOneOrAll k old new before later
     go true (reacted.passes e n s) = passed_over old intake came up new before later e n s
     go true (reacted.takes left answers told e n s) = was_taken old intake came up law left answers told e new before later n s
     go false (reacted.fails f left aborts told e n s) = has_failed old intake came up law f left aborts told e new before later n s

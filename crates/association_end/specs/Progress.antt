@@ -52,9 +52,9 @@ pub record ReadAll (old new : EndView) (before after : List Indication) : Type 0
   pub begins_on : (more : List Step) → Begins (base old) (after_all (base old) old.end steps) more → Begins (base old) old.end (steps ++ more)
 
 -- one message was read and more may follow, or all was read
-abbrev pub Goes : Bool → EndView → EndView → List Indication → List Indication → Type 0
-Goes true old new before after = ReadOne old new before after
-Goes false old new before after = ReadAll old new before after
+abbrev pub ReadOneOrAll : Bool → EndView → EndView → List Indication → List Indication → Type 0
+ReadOneOrAll true old new before after = ReadOne old new before after
+ReadOneOrAll false old new before after = ReadAll old new before after
 
 -- reading was begun, and what waits is what waited and what is due for that
 pub record BeganReading (old new : EndView) : Type 0 where
@@ -76,9 +76,9 @@ pub record RestsAt (old new : EndView) : Type 0 where
   pub none : next_own (base old) old.end.body ≡ None
   pub same : new ≡ old
 
-abbrev pub OwnGoes : Bool → EndView → EndView → Type 0
-OwnGoes true old new = DidOne old new
-OwnGoes false old new = RestsAt old new
+abbrev pub DidOneOrRests : Bool → EndView → EndView → Type 0
+DidOneOrRests true old new = DidOne old new
+DidOneOrRests false old new = RestsAt old new
 
 -- all was done
 pub record DidOwn (old new : EndView) : Type 0 where

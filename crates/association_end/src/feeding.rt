@@ -9,7 +9,7 @@ ghost use Rattle.association_end.specs.View.{EndView, Stepped};
 ghost use Rattle.association_end.specs.Seen.{came_in};
 ghost use Rattle.association_end.specs.Sound.{IsMessage};
 ghost use Rattle.association_end.specs.Fed.{Fed, BeganFeed, DiedFed};
-ghost use Rattle.association_end.specs.Progress.{Keeps, Goes, ReadAll, BeganReading};
+ghost use Rattle.association_end.specs.Progress.{Keeps, ReadOneOrAll, ReadAll, BeganReading};
 
 use crate::end::End;
 use association_ground::passes_over;
@@ -47,7 +47,7 @@ impl<'t> End<'t> {
     /// Reads what stands first, and answers whether more may follow.
     fn read_next(&mut self, shown: &mut Indications) -> Result<bool, NoMemory>
         requires { passes_over self.old.end.body.link.phase ≡ false }
-        ensures { MatchResult result (λ more. Goes more self.old self.new shown.old shown.new)
+        ensures { MatchResult result (λ more. ReadOneOrAll more self.old self.new shown.old shown.new)
             (λ _. Keeps self.old self.new) }
     {
         reactions_are_steps();

@@ -11,7 +11,7 @@ ghost use Rattle.association_reacting.specs.association_state.Seen.{base_in, see
 ghost use Rattle.association_pieces.specs.Sending.{seen_queued, seen_transfer};
 ghost use Rattle.association_requests.specs.OwnActs.{seen_act};
 ghost use Rattle.association_end.specs.View.{base, Stepped};
-ghost use Rattle.association_end.specs.Progress.{Keeps, OwnGoes, DidOwn, BeganOwn};
+ghost use Rattle.association_end.specs.Progress.{Keeps, DidOneOrRests, DidOwn, BeganOwn};
 
 use crate::end::End;
 use association_line::own_acts_end;
@@ -173,7 +173,7 @@ impl<'t> End<'t> {
 
     /// Does one thing by itself, and answers whether there was one.
     fn do_next(&mut self) -> Result<bool, NoMemory>
-        ensures { MatchResult result (λ more. OwnGoes more self.old self.new)
+        ensures { MatchResult result (λ more. DidOneOrRests more self.old self.new)
             (λ _. Keeps self.old self.new) }
     {
         let next = self.next_act()?;

@@ -7,7 +7,7 @@ use Rattle.rose_roles.specs.declared.apdu_taken.RoseTaken.TheVariants as takens
 use Rattle.rose_roles.specs.Hearing.{heard_with}
 use Rattle.end_rules.specs.Base.{Base}
 use Rattle.end_rules.specs.State.{Calls}
-use Rattle.end_rules.specs.Hearing.{Heard, carried_in, value_in, told, rejected, unless_problem, opening, invoked, invoke_problem}
+use Rattle.end_rules.specs.Hearing.{Heard, carried_in, value_in, showing, rejected, unless_problem, opening, invoked, invoke_problem}
 
 value_same : (v : Option Val) → value_in (carried_in v) ≡ v
 value_same None = refl
@@ -28,5 +28,5 @@ module _ (base : Base) (calls : Calls) (context : ℕ) (id : ℤ) (linked : Opti
       → after ≡ opening base (record { own = false; id = id; operation = at; context = context; parent = linked }) calls
       → heard_with after (takens.Invoked id at linked argument) ≡ heard_at place
   right_heard place after at e none is =
-      (λ k. told (is k) (indications.Invoked id at linked (sym (value_same argument) k)))
+      (λ k. showing (is k) (indications.Invoked id at linked (sym (value_same argument) k)))
       ∙ sym (without_problem place at e none)

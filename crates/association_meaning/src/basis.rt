@@ -67,14 +67,14 @@ pub(crate) fn fault_at<T>(alloc: Global, layer: Layer, place: usize, reason: u8)
       layer = layer;
       place = place;
       reason = reason;
-      told = [];
+      shown_before = [];
     })) }
 {
     Err(Halt::Faulty(Fault {
         layer,
         place: place as u64,
         reason,
-        told: ListOf::new(alloc),
+        shown_before: ListOf::new(alloc),
     }))
 }
 
@@ -85,7 +85,7 @@ pub(crate) fn misplaced<T>(alloc: Global, unit: PresentationWord) -> Result<T, H
       layer = Layer.Presentation;
       place = 0;
       reason = 6;
-      told = [];
+      shown_before = [];
     })) }
 {
     drop(unit);

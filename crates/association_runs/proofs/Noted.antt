@@ -29,7 +29,7 @@ use Rattle.end_model.specs.end_rules.State.{Body, OpenCall, Calls, is_empty, is_
 use Rattle.end_model.specs.end_rules.Faults.{cut_of, cuts, losses}
 use Rattle.end_model.specs.end_rules.Writing.{is_recovering}
 use Rattle.end_model.specs.end_rules.Invoking.{carrier_in}
-use Rattle.end_model.specs.end_rules.Hearing.{Rejecting, Heard, rejected, told, unless_problem, first_problem, problem_if, is_right, invoke_problem, invoked, is_place, is_right_result, result_problem, hear_result_of, known_error_problem, error_problem, error_told, hear_error_of, is_of_invocation, hear_reject, hear, carried_in, code_returned, value_returned, value_in, head_of_apdu, sent_on, queued, with_reject, take_head, head_of, take_values}
+use Rattle.end_model.specs.end_rules.Hearing.{Rejecting, Heard, rejected, showing, unless_problem, first_problem, problem_if, is_right, invoke_problem, invoked, is_place, is_right_result, result_problem, hear_result_of, known_error_problem, error_problem, showing_error, hear_error_of, is_of_invocation, hear_reject, hear, carried_in, code_returned, value_returned, value_in, head_of_apdu, sent_on, queued, with_reject, take_head, head_of, take_values}
 use Rattle.end_model.specs.end_rules.Connecting.{is_refused, recovers_in, shown_opening}
 use Rattle.end_model.specs.end_rules.TakesAssociation.{aborted_by_peer, shown_of_association}
 use Rattle.end_model.specs.end_rules.TakesTransport.{shown_of_transport}
@@ -376,7 +376,7 @@ module _ (base : Base) (own made : List Invocation) (given : List ToldOutcome) w
     result-noted id (Some o) value e h =
         unless (result_problem base o.operation (operation_at base.tables o.operation) (code_returned value) (value_returned value))
         (rejected (close true id calls) (Some id) problems.Result)
-        (told (close true id calls) (indications.Result id (value_in (value_returned value))))
+        (showing (close true id calls) (indications.Result id (value_in (value_returned value))))
         (λ n. tt) (λ p. (
           subst (λ (v : Option Val). IsIn (returned id v) given × IsAllowed base.tables own (returned id v)) (sym (value-is value)) (
             h,
@@ -391,10 +391,10 @@ module _ (base : Base) (own made : List Invocation) (given : List ToldOutcome) w
     error-noted id (Some o) code parameter e h =
         unless (error_problem base (operation_at base.tables o.operation) (error_with base.tables code) (carried_in parameter))
         (rejected (close true id calls) (Some id) problems.Error)
-        (error_told (close true id calls) id (error_with base.tables code) (carried_in parameter))
+        (showing_error (close true id calls) id (error_with base.tables code) (carried_in parameter))
         (λ n. tt) (λ p. go (error_with base.tables code) refl p)
       where
-        go : (x : Option ℕ) → error_with base.tables code ≡ x → error_problem base (operation_at base.tables o.operation) x (carried_in parameter) ≡ None → Notes (error_told (close true id calls) id x (carried_in parameter))
+        go : (x : Option ℕ) → error_with base.tables code ≡ x → error_problem base (operation_at base.tables o.operation) x (carried_in parameter) ≡ None → Notes (showing_error (close true id calls) id x (carried_in parameter))
         go None f p = tt
         go (Some place) f p =
             let one : Some place ≡ Some h.place = sym f ∙ h.is_its in
@@ -412,7 +412,7 @@ module _ (base : Base) (own made : List Invocation) (given : List ToldOutcome) w
     reject-noted None problem = (tt, tt)
     reject-noted (Some id) problem = go (is_of_invocation problem.kind) (opened_with true id calls.opens) refl refl
       where
-        go : (k : Bool) (o : Option OpenCall) → is_of_invocation problem.kind ≡ k → opened_with true id calls.opens ≡ o → Notes (if k && is_some o then told (close true id calls) (indications.Rejected id problem) else told calls (indications.RejectTaken (Some id) problem))
+        go : (k : Bool) (o : Option OpenCall) → is_of_invocation problem.kind ≡ k → opened_with true id calls.opens ≡ o → Notes (if k && is_some o then showing (close true id calls) (indications.Rejected id problem) else showing calls (indications.RejectTaken (Some id) problem))
         go true (Some o) k e = (allowed-so asked calls id o (was_rejected id problem) m (found asked calls.made id calls.opens o once.own e) refl (λ row there. k), tt)
         go true None k e = (tt, tt)
         go false o k e = (tt, tt)

@@ -114,7 +114,7 @@ fn list_fault(
         layer: Layer::Presentation,
         place: 0,
         reason: 6,
-        told: list_differs(basis.alloc, kept, list)?,
+        shown_before: list_differs(basis.alloc, kept, list)?,
     }))
 }
 

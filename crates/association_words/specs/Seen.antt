@@ -58,7 +58,7 @@ seen_arrived (Raw id pair octets) = rules.Raw id pair octets
 -- ---- faults
 
 abbrev pub seen_fault : Fault → rules.Fault
-seen_fault fault = record { layer = fault.layer; place = fault.place; reason = fault.reason; told = fault.told }
+seen_fault fault = record { layer = fault.layer; place = fault.place; reason = fault.reason; shown_before = fault.shown_before }
 
 -- ---- messages
 

@@ -22,7 +22,7 @@ pub struct Fault {
     /// that of reliable transfer (X.228 9); else 0.
     pub reason: u8,
     /// What the user is told before all else.
-    pub told: Indications,
+    pub shown_before: Indications,
 }
 
 impl fmt::Display for Fault {
@@ -50,7 +50,7 @@ impl Fault {
             layer,
             place,
             reason,
-            told: ListOf::new(alloc),
+            shown_before: ListOf::new(alloc),
         }
     }
 }

@@ -20,8 +20,8 @@ use Rattle.dialogue.specs.declared.indication.Indication.TheVariants as indicati
 use Rattle.end_rules.specs.Base.{Base, Carried}
 use Rattle.end_rules.specs.State.{OpenCall, Calls, is_empty, opened_with, opens_of, close}
 use Rattle.end_rules.specs.Invoking.{is_linked_to, operation_of}
-use Rattle.end_rules.specs.Hearing.{Heard, rejected, told, unless_problem, first_problem, problem_if, is_right, value_in, carried_in, code_returned, value_returned, head_of_apdu, hear}
-use Rattle.end_rules.specs.Hearing.{is_silent_at, has_links, link_problem, argument_problem, invoke_problem, opening, invoked, is_place, result_problem, hear_result_of, known_error_problem, error_problem, error_told, hear_error_of}
+use Rattle.end_rules.specs.Hearing.{Heard, rejected, showing, unless_problem, first_problem, problem_if, is_right, value_in, carried_in, code_returned, value_returned, head_of_apdu, hear}
+use Rattle.end_rules.specs.Hearing.{is_silent_at, has_links, link_problem, argument_problem, invoke_problem, opening, invoked, is_place, result_problem, hear_result_of, known_error_problem, error_problem, showing_error, hear_error_of}
 use Rattle.run_laws.specs.Outcomes.{has_result, takes_parameter, has_error}
 use Rattle.bare_duo.specs.Allowed.{operation_in, may_link, may_be_invoked, may_invoke, may_return, may_result, may_error, may_take_apdu}
 
@@ -182,7 +182,7 @@ resulted : (base : Base) (calls : Calls) (id : ℤ) (o : Option OpenCall) (retur
 resulted base calls id None returned e h = absurd cc
 resulted base calls id (Some o) returned e h =
     let p : Option ℕ = result_problem base o.operation (operation_at base.tables o.operation) (code_returned returned) (value_returned returned) in
-    let u = unless p (close true id calls) (Some id) problems.Result (told (close true id calls) (indications.Result id (value_in (value_returned returned)))) h in
+    let u = unless p (close true id calls) (Some id) problems.Result (showing (close true id calls) (indications.Result id (value_in (value_returned returned)))) h in
     let r = returns-so base o.operation (operation_at base.tables o.operation) returned u.fine in
     record {
       allowed = ap (λ (x : Option OpenCall). may_result base.tables x returned) e ∙ r.allowed;
@@ -224,7 +224,7 @@ pub record Failed (base : Base) (calls : Calls) (id : ℤ) (place : Option ℕ) 
   pub allowed : may_error base.tables (operation_in base.tables (opened_with true id calls.opens)) place parameter ≡ true
   pub closes : Closes base.tables calls id (λ operation. has_error base.tables operation at parameter) heard
 
-told-calls : (calls : Calls) (id : ℤ) (place : Option ℕ) (carried : Carried) → (error_told calls id place carried).calls ≡ calls
+told-calls : (calls : Calls) (id : ℤ) (place : Option ℕ) (carried : Carried) → (showing_error calls id place carried).calls ≡ calls
 told-calls calls id None carried = refl
 told-calls calls id (Some place) carried = refl
 
@@ -233,7 +233,7 @@ failed : (base : Base) (calls : Calls) (id : ℤ) (o : Option OpenCall) (place :
 failed base calls id None place parameter e h = absurd cc
 failed base calls id (Some o) place parameter e h =
     let p : Option ℕ = error_problem base (operation_at base.tables o.operation) place (carried_in parameter) in
-    let u = unless p (close true id calls) (Some id) problems.Error (error_told (close true id calls) id place (carried_in parameter)) h in
+    let u = unless p (close true id calls) (Some id) problems.Error (showing_error (close true id calls) id place (carried_in parameter)) h in
     let f = fails-so base (operation_at base.tables o.operation) place parameter u.fine in
     record {
       at = f.at;

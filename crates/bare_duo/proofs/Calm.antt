@@ -18,7 +18,7 @@ use Rattle.dialogue.specs.declared.indication.Indication.TheVariants as indicati
 use Rattle.end_rules.specs.Base.{Base, Spellings, Item}
 use Rattle.end_rules.specs.Messages.{Message, Session}
 use Rattle.end_rules.specs.State.{Body, NoAnswer, Calls, OpenCall, passes_over, opened_with, close}
-use Rattle.end_rules.specs.Hearing.{Heard, Rejecting, Taken, hear, head_of_apdu, on_heard, then_taken, value_in, carried_in, code_returned, value_returned, unless_problem, rejected, told, invoked, invoke_problem, hear_result_of, result_problem, hear_error_of, error_problem, error_told}
+use Rattle.end_rules.specs.Hearing.{Heard, Rejecting, Taken, hear, head_of_apdu, on_heard, then_taken, value_in, carried_in, code_returned, value_returned, unless_problem, rejected, showing, invoked, invoke_problem, hear_result_of, result_problem, hear_error_of, error_problem, showing_error}
 use Rattle.end_rules.specs.Reacting.{Reaction, Passes, Takes, react}
 use Rattle.agreement.specs.Sets.{Role}
 use Rattle.agreement.specs.Sets.Role.{Initiator, Responder}
@@ -154,13 +154,13 @@ quiet_invoke base calls context id linked argument (Some n) place h = absurd cc
 quiet_invoke base calls context id linked argument None None h = absurd cc
 quiet_invoke base calls context id linked argument None (Some place) h = ap (λ (v : Option Val). indications.Invoked id place linked v ∷ []) (value_back argument)
 
-quiet_result : (calls : Calls) (id : ℤ) (returned : Option Returned) (p : Option ℕ) → (unless_problem p (rejected calls (Some id) problems.Result) (told calls (indications.Result id (value_in (value_returned returned))))).reject ≡ None
-    → (unless_problem p (rejected calls (Some id) problems.Result) (told calls (indications.Result id (value_in (value_returned returned))))).shown ≡ indications.Result id (value_of returned) ∷ []
+quiet_result : (calls : Calls) (id : ℤ) (returned : Option Returned) (p : Option ℕ) → (unless_problem p (rejected calls (Some id) problems.Result) (showing calls (indications.Result id (value_in (value_returned returned))))).reject ≡ None
+    → (unless_problem p (rejected calls (Some id) problems.Result) (showing calls (indications.Result id (value_in (value_returned returned))))).shown ≡ indications.Result id (value_of returned) ∷ []
 quiet_result calls id returned (Some n) h = absurd cc
 quiet_result calls id returned None h = ap (λ (v : Option Val). indications.Result id v ∷ []) (returned_back returned)
 
-quiet_error : (calls : Calls) (id : ℤ) (parameter : Option Val) (p place : Option ℕ) → (unless_problem p (rejected calls (Some id) problems.Error) (error_told calls id place (carried_in parameter))).reject ≡ None
-    → (unless_problem p (rejected calls (Some id) problems.Error) (error_told calls id place (carried_in parameter))).shown ≡ shown_error place id parameter
+quiet_error : (calls : Calls) (id : ℤ) (parameter : Option Val) (p place : Option ℕ) → (unless_problem p (rejected calls (Some id) problems.Error) (showing_error calls id place (carried_in parameter))).reject ≡ None
+    → (unless_problem p (rejected calls (Some id) problems.Error) (showing_error calls id place (carried_in parameter))).shown ≡ shown_error place id parameter
 quiet_error calls id parameter (Some n) place h = absurd cc
 quiet_error calls id parameter None None h = absurd cc
 quiet_error calls id parameter None (Some place) h = ap (λ (v : Option Val). indications.Error id place v ∷ []) (value_back parameter)

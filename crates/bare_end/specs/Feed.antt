@@ -46,9 +46,9 @@ pub record ReadAll (old new : EndView) (before after : List Indication) : Type 0
   pub few : length new.rest ≤ most_octets
 
 -- a message was taken and more may follow, or all was read
-abbrev pub Goes : Bool → EndView → EndView → List Indication → List Indication → Type 0
-Goes true old new before after = TookOne old new before after
-Goes false old new before after = ReadAll old new before after
+abbrev pub ReadOneOrAll : Bool → EndView → EndView → List Indication → List Indication → Type 0
+ReadOneOrAll true old new before after = TookOne old new before after
+ReadOneOrAll false old new before after = ReadAll old new before after
 
 -- the octets were fed: the indications are those that are shown, and the steps were made
 pub record Fed (old new : EndView) (octets : List ℕ) (shown : List Indication) : Type 0 where

@@ -11,7 +11,7 @@ use Rattle.end_rules.specs.Base.{Carried, HeardHead}
 use Rattle.end_rules.specs.State.{Calls}
 use Rattle.end_rules.specs.Messages.{Message}
 use Rattle.end_rules.specs.Hearing as rules
-use Rattle.end_rules.specs.Hearing.{data_on, hear, reject_apdu, told}
+use Rattle.end_rules.specs.Hearing.{data_on, hear, reject_apdu, showing}
 use Rattle.bare_end.specs.declared.hearing.Taken as takens
 use Rattle.bare_end.specs.declared.hearing.Taken.TheVariants as taken
 use Rattle.bare_end.specs.View.{EndView, base, body, with_calls, with_waiting}
@@ -22,7 +22,7 @@ HoldsOctets octets = IfSome octets AreOctets
 
 -- what becomes of an APDU: an indication, or a reject that is due
 abbrev pub heard_as : Calls → takens.Taken → rules.Heard
-heard_as calls (taken.Told indication) = told calls indication
+heard_as calls (taken.Told indication) = showing calls indication
 heard_as calls (taken.Rejects id problem) = record { calls = calls; shown = []; reject = Some (record { id = id; problem = problem }) }
 
 -- The end did what is heard in this head, and answers it.

@@ -12,7 +12,7 @@ ghost use Rattle.end_wire.specs.Values.{IsContent, content_at};
 ghost use Rattle.end_wire.specs.Bare.{first_at, Whole};
 ghost use Rattle.end_wire.specs.Line.{after};
 ghost use Rattle.bare_end.specs.View.{EndView, base, body, seen, Stepped, Keeps};
-ghost use Rattle.bare_end.specs.Feed.{TookOne, ReadAll, Goes, Fed, KeepsDue, DiedFed};
+ghost use Rattle.bare_end.specs.Feed.{TookOne, ReadAll, ReadOneOrAll, Fed, KeepsDue, DiedFed};
 ghost use Rattle.bare_end.specs.First.{IsFirst};
 
 use crate::end::End;
@@ -80,7 +80,7 @@ impl<'t> End<'t> {
     fn read(&mut self, front: FirstValue, shown: &mut Indications) -> Result<bool, NoMemory>
         requires first { IsFirst self.old.rest front }
         requires up { passes_over self.old.phase ≡ false }
-        ensures { MatchResult result (λ more. Goes more self.old self.new shown.old shown.new)
+        ensures { MatchResult result (λ more. ReadOneOrAll more self.old self.new shown.old shown.new)
             (λ _. Keeps self.old self.new) }
     {
         match front {
@@ -99,7 +99,7 @@ impl<'t> End<'t> {
     /// Reads what stands first, and answers whether more may follow.
     fn read_next(&mut self, shown: &mut Indications) -> Result<bool, NoMemory>
         requires { passes_over self.old.phase ≡ false }
-        ensures { MatchResult result (λ more. Goes more self.old self.new shown.old shown.new)
+        ensures { MatchResult result (λ more. ReadOneOrAll more self.old self.new shown.old shown.new)
             (λ _. Keeps self.old self.new) }
     {
         let front = self.front();

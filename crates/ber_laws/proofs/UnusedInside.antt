@@ -13,12 +13,12 @@ use Rattle.asn1_types.specs.Defaults.{is_default, kept}
 use Rattle.asn1_types.specs.Fits.{are_bits, is_text}
 use Rattle.asn1_types.specs.Rising.{is_less, placed, sorted}
 use Rattle.asn1_types.specs.Value.{Value, boolean, integer, null, octets, bits, object_id, text, parts, list, chosen, any, MaybeValues, no_parts, absent, present}
-use Rattle.asn1_types.specs.ValueView.{parts_of, values_of}
+use Rattle.asn1_types.specs.ValueView.{parts_of, values_of, empty_slots}
 use Rattle.asn1_types.specs.Writing.{written}
 use Rattle.ber_spelling.specs.declared.spot.StringKind.TheVariants.{OfOctets, OfBits}
 use Rattle.ber_spelling.specs.declared.spot.Gathered.{Gathered}
 use Rattle.ber_spelling.specs.Order.{Filled}
-use Rattle.ber_spelling.specs.Rules.{Guise, bare, plain, under, always, nothing, segment_rule, and_whole, whole_octets, whole_text, whole_bits, has_zero_bits, nothing_filled, no_parts_of, is_filled, settled, set_done, cleared}
+use Rattle.ber_spelling.specs.Rules.{Guise, bare, plain, under, always, nothing, segment_rule, and_whole, whole_octets, whole_text, whole_bits, has_zero_bits, nothing_filled, is_filled, settled, set_done, cleared}
 use Rattle.ber_spelling.specs.Spelling.{IsConstructed, Spelled, Steps, StringIs, PartIs, PartsAre, SequenceIs, ListStep, ListIs, SetItemStep, SetOfIs, SetStep, SetIs, ChoiceIs, OrExplicit, BooleanIs, IntegerIs, EnumeratedIs, NullIs, ObjectIdIs, AnyIs, RowIs, RowOr, SpelledBy}
 use Rattle.ber_spelling.specs.Laws.{HoldsUnused}
 use Rattle.ber_spelling.proofs.Around.{around, around_one, around_are}
@@ -386,7 +386,7 @@ module _ (os : List ℕ) (unused : ℕ) where
     hold_set (Some w ∷ found) (suc which) v (inl h) = inr (inl h)
     hold_set (Some w ∷ found) (suc which) v (inr h) = elim (hold_set found which v h) [ inl x ↦ inl x | inr x ↦ inr (inr x) ]
 
-    hold_nothing : (ps : List Part) → SlotsHold (no_parts_of ps) → ⊥
+    hold_nothing : (ps : List Part) → SlotsHold (empty_slots ps) → ⊥
     hold_nothing [] h = h
     hold_nothing (p ∷ ps) h = hold_nothing ps h
 

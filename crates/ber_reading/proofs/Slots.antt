@@ -15,32 +15,9 @@ use Rattle.ber_spelling.specs.declared.spot.Scope.{Scope}
 use Rattle.ber_spelling.specs.Reading.{Spot, Opened, Reading, ◌>>=◌, ended, refuse, FailsWith}
 use Rattle.ber_spelling.specs.Fields.{look_at}
 use Rattle.ber_spelling.specs.Order.{Filled}
-use Rattle.ber_spelling.specs.Rules.{Reader, items_at, no_parts_of, stands, is_filled, set_done, is_free, ordered_at, filled_by, fill_at, slot_at, bare, kept_of, settled, late_at, late_kind, alone, cut_behind}
+use Rattle.ber_spelling.specs.Rules.{Reader, items_at, stands, is_filled, set_done, is_free, ordered_at, filled_by, fill_at, slot_at, bare, kept_of, settled, late_at, late_kind, alone, cut_behind}
 use Rattle.ber_spelling.proofs.Steps.{FailsWith-bind, FailsWith-same}
 use Rattle.ber_spelling.proofs.Turns.{turn_is}
-
-none_next : (ps : List Part) (i : ℕ) → i < length ps → no_parts_of (drop i ps) ≡ None ∷ no_parts_of (drop (suc i) ps)
-none_next [] i lt = absurd (omega arith)
-none_next (p ∷ ps) zero lt = refl
-none_next (p ∷ ps) (suc i) lt = none_next ps i (omega arith)
-
-pub none_more : (front total : List (Option Value)) (ps : List Part) (i : ℕ) → i < length ps → front ++ no_parts_of (drop i ps) ≡ total → (front ++ None ∷ []) ++ no_parts_of (drop (i + 1) ps) ≡ total
-none_more front total ps i lt h =
-    rw (add-one) (append_assoc front (None ∷ []) (no_parts_of (drop (suc i) ps)) ∙ ap (λ (l : List (Option Value)). front ++ l) (sym (none_next ps i lt)) ∙ h)
-
-pub none_length : (ps : List Part) → length (no_parts_of ps) ≡ length ps
-none_length [] = refl
-none_length (p ∷ ps) = ap suc (none_length ps)
-
-pub none_end : (front total : List (Option Value)) (ps : List Part) (i : ℕ) → length ps ≡ i → front ++ no_parts_of (drop i ps) ≡ total → front ≡ total
-none_end front total ps i e h = sym (ap (λ (l : List (Option Value)). front ++ l) (by_end ps i e) ∙ append-nil front) ∙ h
-  where
-    by_end : (ps : List Part) (i : ℕ) → length ps ≡ i → no_parts_of (drop i ps) ≡ []
-    by_end ps i e = ap (λ (n : ℕ). no_parts_of (drop n ps)) (sym e) ∙ drop_all ps
-      where
-        drop_all : (ps : List Part) → no_parts_of (drop (length ps) ps) ≡ []
-        drop_all [] = refl
-        drop_all (q ∷ ps) = drop_all ps
 
 filled_next : (ps : List Part) (vs : List (Option Value)) (i : ℕ) (p : Part) (o : Option Value) → i < length ps → i < length vs → p ≡ get_or ps i p → o ≡ get_or vs i o
     → is_filled (drop i ps) (drop i vs) ≡ (stands p o && is_filled (drop (suc i) ps) (drop (suc i) vs))

@@ -3,13 +3,12 @@
 ghost use Rattle.std.specs.Prelude.{◌≡◌, false, true, length, Some, None, IfOk};
 ghost use Rattle.asn1_types.specs.Defaults.{may_be_absent, kept};
 ghost use Rattle.ber_spelling.specs.Reading.{Gives, spot_of, GoesOn};
-ghost use Rattle.ber_spelling.specs.Rules.{no_parts_of, is_free, stands, is_filled, kept_of, settled};
+ghost use Rattle.ber_spelling.specs.Rules.{is_free, stands, is_filled, kept_of, settled};
 ghost use Rattle.ber_reading.specs.Parts.{absent_at};
 
 use asn1_types::{MaybeVals, Part, Val, has_default_value, may_be_absent};
 use ber_spelling::{ReadFault, Spot, refusal};
-use osi_base::{Kind, NoMemory};
-use std::alloc::Global;
+use osi_base::Kind;
 
 /// The value of a part, unless it is the default's, for which the absent part stands.
 #[inline(always)]
@@ -39,17 +38,6 @@ pub(crate) fn absent<'a>(
     } else {
         Err(refusal(place, Kind::Missing))
     }
-}
-
-/// No part yet.
-pub(crate) fn none_of(alloc: Global, parts: &[Part]) -> Result<MaybeVals, NoMemory>
-    ensures { IfOk result (λ found. found.items ≡ no_parts_of parts.now) }
-{
-    let mut found = Vec::new(alloc);
-    for _part in parts {
-        found.push(None)?;
-    }
-    Ok(found)
 }
 
 pub(crate) fn is_free(slot: &Option<Val>) -> bool

@@ -7,18 +7,19 @@ ghost use Rattle.asn1_types.specs.Table.{IsRowOf};
 ghost use Rattle.asn1_types.specs.Value as tree;
 ghost use Rattle.asn1_types.specs.Writing.{written};
 ghost use Rattle.asn1_types.specs.Rising.{sorted};
-ghost use Rattle.asn1_types.specs.ValueView.{values_of, parts_of};
+ghost use Rattle.asn1_types.specs.ValueView.{values_of, parts_of, empty_slots};
 ghost use Rattle.asn1_types.specs.Tags.{rank};
 ghost use Rattle.ber_spelling.specs.Reading.{begun, Opens, Gives, FailsWith, spot_of, opened_of, GoesOn, IsBehind};
-ghost use Rattle.ber_spelling.specs.Rules.{all_items_at, list_item_at, list_done, list_at, set_item_at, set_of_done, set_of_at, sequence_at, choice_at, explicit_at, or_explicit, read_by, reads, no_parts_of, nothing_filled, is_free, is_filled, set_done, bare, under, late_at, ordered_at, slot_at, set_at};
+ghost use Rattle.ber_spelling.specs.Rules.{all_items_at, list_item_at, list_done, list_at, set_item_at, set_of_done, set_of_at, sequence_at, choice_at, explicit_at, or_explicit, read_by, reads, nothing_filled, is_free, is_filled, set_done, bare, under, late_at, ordered_at, slot_at, set_at};
 ghost use Rattle.ber_spelling.specs.Below.{ReadsBelow, ReadsPartsBelow};
 ghost use Rattle.ber_reading.specs.Parts.{found_at, part_from, parts_from};
 
 use crate::contents::{any_under, close, open};
-use crate::parts::{absent, is_filled, is_free, kept, none_of, settle};
+use crate::parts::{absent, is_filled, is_free, kept, settle};
 use crate::short_parts::{integer_ahead, parts_at_once, reach};
 use asn1_types::{
-    Class, MaybeVals, Node, Part, Parts, TypeId, TypeRow, TypeTable, Val, Vals, begins, text_number,
+    Class, MaybeVals, Node, Part, Parts, TypeId, TypeRow, TypeTable, Val, Vals, begins,
+    empty_slots, text_number,
 };
 use ber_spelling::{
     Ahead, Opened, ReadFault, Scope, Spot, Tag, bit_string, boolean, enumerated, expect_tag,
@@ -567,7 +568,7 @@ fn set<'a>(
 {
     expect_tag(tag, true, opened)?;
     let (inside, spot) = extent(scope, spot)?;
-    let found = none_of(alloc, parts.as_slice())?;
+    let found = empty_slots(alloc, parts.as_slice())?;
     let (found, after) = slots(alloc, table, of, parts.as_slice(), found, &inside, spot)?;
     Ok((
         Val {
@@ -590,7 +591,7 @@ fn slots<'a>(
 ) -> Result<(MaybeVals, Spot<'a>), ReadFault>
     requires reads { ReadsPartsBelow parts.now of.0 (length table.now) spot.place
         (length spot.rest.now) }
-    requires none { found.items ≡ no_parts_of parts.now }
+    requires none { found.items ≡ empty_slots parts.now }
     ensures gives { Gives (λ x. (tree.parts (parts_of x.0.items), spot_of x.1)) result
         (all_items_at (slot_at (begins table.now) (reads table.now) 0 parts.now)
         (set_done parts.now) (nothing_filled parts.now) scope.now (spot_of spot.entry)) }

@@ -12,13 +12,13 @@ use Rattle.asn1_types.specs.declared.row.TypeRow.TheVariants as row
 use Rattle.asn1_types.specs.Defaults.{has_default, may_be_absent, is_default, kept}
 use Rattle.asn1_types.specs.Rows.{of_row, along, text_number}
 use Rattle.asn1_types.specs.Value.{Value, boolean, integer, null, octets, bits, object_id, text, parts, list, chosen, any, MaybeValues, no_parts, absent, present}
-use Rattle.asn1_types.specs.ValueView.{parts_of, values_of}
+use Rattle.asn1_types.specs.ValueView.{parts_of, values_of, empty_slots}
 use Rattle.asn1_types.specs.Fits.{any_fits, part_fits, parts_fit, sequence_fits, values_fit, list_fits, alternative_fits, choice_fits, form_by, nothing_fits, has_form}
 use Rattle.ber_spelling.specs.Octets.{AreOctets}
 use Rattle.ber_spelling.specs.Order.{Filled}
 use Rattle.asn1_types.specs.declared.row.Tag as tags
 use Rattle.asn1_types.specs.Tags.{tag_or}
-use Rattle.ber_spelling.specs.Rules.{always, has_zero_bits, no_parts_of, nothing_filled, is_filled, Guise, bare, plain, under, settled}
+use Rattle.ber_spelling.specs.Rules.{always, has_zero_bits, nothing_filled, is_filled, Guise, bare, plain, under, settled}
 use Rattle.ber_spelling.specs.Spelling.{BooleanIs, IntegerIs, EnumeratedIs, NullIs, ObjectIdIs, AnyIs, Spelled, Steps, PartsAre, SequenceIs, ListStep, ListIs, SetStep, SetIs, ChoiceIs, OrExplicit, RowIs, RowOr, SpelledBy, Spells, IsOther, PartIs, SetItemStep, SetOfIs}
 use Rattle.ber_spelling.specs.Laws.{SpelledFits}
 use Rattle.ber_spelling.proofs.Steady.{octets_left, octets_right}
@@ -90,7 +90,7 @@ module _ (spell : ℕ → Value → List ℕ) (rel : ℕ → Spelled) (fit : ℕ
   slots_fit (p ∷ ps) (None ∷ os) = slots_fit ps os
   slots_fit (p ∷ ps) (Some v ∷ os) = fit p.inner.0 v && slots_fit ps os
 
-  none_fit : (ps : List Part) → slots_fit ps (no_parts_of ps) ≡ true
+  none_fit : (ps : List Part) → slots_fit ps (empty_slots ps) ≡ true
   none_fit [] = refl
   none_fit (p ∷ ps) = none_fit ps
 

@@ -15,7 +15,7 @@ use Rattle.asn1_types.specs.Tags.{tag_or, ranks, front_rank}
 use Rattle.asn1_types.specs.Defaults.{is_default}
 use Rattle.asn1_types.specs.Fits.{is_text}
 use Rattle.asn1_types.specs.Value.{Value, boolean, integer, null, octets, bits, object_id, text, parts, list, chosen, any, MaybeValues, no_parts, absent, present}
-use Rattle.asn1_types.specs.ValueView.{values_of, parts_of}
+use Rattle.asn1_types.specs.ValueView.{values_of, parts_of, empty_slots}
 use Rattle.asn1_types.specs.Rising.{behind_last, sorted, follows, rise_behind, rise}
 use Rattle.asn1_types.specs.Writing.{Writer, subidentifiers, definite, boolean_octet, boolean_contents, integer_contents, octets_contents, text_contents, bits_contents, object_id_contents, part_contents, parts_contents, sequence_contents, risen_parts, set_parts, values_contents, list_contents, alternative_written, choice_written, any_written, under, write_by, nothing_written, writes, written}
 use Rattle.ber_spelling.specs.declared.spot.StringKind.TheVariants.{OfOctets, OfBits}
@@ -23,7 +23,7 @@ use Rattle.ber_spelling.specs.Octets.{AreOctets}
 use Rattle.ber_spelling.specs.declared.spot.StringKind.{StringKind}
 use Rattle.ber_spelling.specs.declared.spot.Gathered.{Gathered}
 use Rattle.ber_spelling.specs.Order.{Filled}
-use Rattle.ber_spelling.specs.Rules.{Guise, bare, plain, under as guised, always, string_rule, whole_octets, whole_text, whole_bits, has_zero_bits, no_parts_of, nothing_filled, is_filled, settled}
+use Rattle.ber_spelling.specs.Rules.{Guise, bare, plain, under as guised, always, string_rule, whole_octets, whole_text, whole_bits, has_zero_bits, nothing_filled, is_filled, settled}
 use Rattle.ber_spelling.specs.Spelling.{Spelled, IsDefinite, IsPrimitive, IsIndefinite, IsConstructed, BooleanIs, IntegerIs, EnumeratedIs, NullIs, ObjectIdIs, AnyIs, Steps, ListStep, ListIs, SetItemStep, SetOfIs, SetStep, SetIs, StringIs, PartIs, PartsAre, SequenceIs, ChoiceIs, OrExplicit, IsOther, RowIs, RowOr, SpelledBy, Spells}
 use Rattle.ber_spelling.proofs.Steady.{octets_left, octets_right}
 use Rattle.ber_spelling.proofs.Written.{bits_ruled}
@@ -346,7 +346,7 @@ module _ (rel : ℕ → Spelled) (write : ℕ → Writer) (each : (m : ℕ) → 
       → Steps (λ a b s. SetStep rel ps a true levels b s) steps (nothing_filled ps) last c → c ≡ risen_parts write total 0 ps (parts_of (settled ps last.found))
   set_risen ps levels total below steps last c are p =
       let h = set_steps ps levels total below steps (nothing_filled ps) last c are (none_found write ps) p in
-      let none = none_risen write total 0 0 ps (no_parts_of ps) (omega arith) (none_found write ps) in
+      let none = none_risen write total 0 0 ps (empty_slots ps) (omega arith) (none_found write ps) in
       sym (h.1 ∙ ap (λ (x : List ℕ). x ++ c) none) ∙ ap (λ (l : List (Option Value)). risen_parts write total 0 ps (parts_of l)) (sym (settled_same write last.least ps last.found h.0))
 
   set_whole : (ps : List Part) (levels : ℕ) (steps : List (List ℕ × Filled)) (last : Filled) (c : List ℕ) → AreOctets c → Steps (λ a b s. SetStep rel ps a true levels b s) steps (nothing_filled ps) last c

@@ -6,9 +6,9 @@ use Rattle.asn1_types.specs.declared.row.Part.{Part}
 use Rattle.asn1_types.specs.Defaults.{is_default}
 use Rattle.asn1_types.specs.Tags.{front_rank}
 use Rattle.asn1_types.specs.Value.{Value}
-use Rattle.asn1_types.specs.ValueView.{parts_of}
+use Rattle.asn1_types.specs.ValueView.{parts_of, empty_slots}
 use Rattle.asn1_types.specs.Writing.{Writer, of_rank, parts_contents, risen_parts}
-use Rattle.ber_spelling.specs.Rules.{no_parts_of, settled}
+use Rattle.ber_spelling.specs.Rules.{settled}
 
 module _ (f : ℕ → Writer) where
   -- the parts found have ranks below one, and none is its default's value
@@ -19,7 +19,7 @@ module _ (f : ℕ → Writer) where
   Found least (p ∷ ps) (None ∷ os) = Found least ps os
   Found least (p ∷ ps) (Some v ∷ os) = (front_rank (f p.inner.0 None v) < least) × (is_default p.default v ≡ false) × Found least ps os
 
-  pub none_found : (ps : List Part) → Found 0 ps (no_parts_of ps)
+  pub none_found : (ps : List Part) → Found 0 ps (empty_slots ps)
   none_found [] = tt
   none_found (p ∷ ps) = none_found ps
 

@@ -10,9 +10,9 @@ use Rattle.asn1_types.specs.Defaults.{may_be_absent, is_default}
 use Rattle.asn1_types.specs.Rows.{Opening}
 use Rattle.asn1_types.specs.Table.{clash, agrees_later}
 use Rattle.asn1_types.specs.Value.{Value, parts, MaybeValues, no_parts, absent, present}
-use Rattle.asn1_types.specs.ValueView.{parts_of}
+use Rattle.asn1_types.specs.ValueView.{parts_of, empty_slots}
 use Rattle.ber_spelling.specs.Order.{Filled}
-use Rattle.ber_spelling.specs.Rules.{no_parts_of, nothing_filled, is_filled, bare, settled}
+use Rattle.ber_spelling.specs.Rules.{nothing_filled, is_filled, bare, settled}
 use Rattle.ber_spelling.specs.Spelling.{Spelled, Steps, SetStep, SetIs}
 use Rattle.asn1_types.specs.Writing.{Writer, parts_contents, of_rank, risen_parts, set_parts}
 use Rattle.asn1_types.specs.Tags.{rank, ranks, front_rank}
@@ -181,7 +181,7 @@ module _ (openings : ℕ → List Opening) (write : ℕ → Writer) (rel : ℕ �
               )
         ]
 
-    none_below : (ps : List Part) (vs : MaybeValues) → AllSpelled write rel strict levels ps vs → below 0 ps vs ≡ no_parts_of ps
+    none_below : (ps : List Part) (vs : MaybeValues) → AllSpelled write rel strict levels ps vs → below 0 ps vs ≡ empty_slots ps
     none_below [] no_parts h = refl
     none_below [] (absent vs) h = absurd h
     none_below [] (present v vs) h = absurd h

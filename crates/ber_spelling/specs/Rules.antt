@@ -12,7 +12,7 @@ use Rattle.asn1_types.specs.declared.row.TypeRow.{TypeRow}
 use Rattle.asn1_types.specs.declared.row.TypeRow.TheVariants as row
 use Rattle.asn1_types.specs.Rows.{along, begins, same_class, is_no_tag, text_number}
 use Rattle.asn1_types.specs.Value.{Value, boolean, integer, null, octets, bits, object_id, text, parts, list, chosen, any}
-use Rattle.asn1_types.specs.ValueView.{parts_of, values_of}
+use Rattle.asn1_types.specs.ValueView.{parts_of, values_of, empty_slots}
 use Rattle.asn1_types.specs.Whole.{is_marked}
 use Rattle.asn1_types.specs.Defaults.{is_item, may_be_absent, is_default, kept}
 use Rattle.asn1_types.specs.Fits.{is_text, are_bits}
@@ -345,13 +345,8 @@ sequence_at begins inner ps tag scope opened spot = do
 
 -- ---- SET (X.690 8.11)
 
--- no part stands yet
-abbrev pub no_parts_of : List Part → List (Option Value)
-no_parts_of [] = []
-no_parts_of (p ∷ ps) = None ∷ no_parts_of ps
-
 abbrev pub nothing_filled : List Part → Filled
-nothing_filled ps = record { found = no_parts_of ps; least = 0 }
+nothing_filled ps = record { found = empty_slots ps; least = 0 }
 
 abbrev pub stands : Part → Option Value → Bool
 stands p None = may_be_absent p

@@ -245,7 +245,7 @@ same-or false fault h = cc
 
 list-restored : (body : Body) (number : ℕ) (list : List RestoredItem) → list_fault body number (Some list) ≡ None → listed_seen list ≡ sets.listed (sets.newest (sets.below number (saved_seen body.saved)))
 list-restored body number list h =
-    list-same list (listed (restored_set body number)) (same-or (same_lists list (listed (restored_set body number))) (record { layer = Presentation; place = 0; reason = 6; told = RestoredListDiffers (restored_set body number) list ∷ [] }) h) ∙
+    list-same list (listed (restored_set body number)) (same-or (same_lists list (listed (restored_set body number))) (record { layer = Presentation; place = 0; reason = 6; shown_before = RestoredListDiffers (restored_set body number) list ∷ [] }) h) ∙
     restored-seen number body.saved
 
 restart-direct : (number : ℕ) (list : List RestoredItem) → Faultless Direct (OfMarks (Restart number (Some list))) (model_restart number (listed_seen list))

@@ -43,7 +43,7 @@ pub record Fault : Type 0 where
   pub layer : Layer
   pub place : ℕ
   pub reason : ℕ
-  pub told : List Indication
+  pub shown_before : List Indication
 
 -- what a transfer holds: an APDU, or octets on a context of the module that spell none
 pub data Arrived : Type 0 where

@@ -15,7 +15,7 @@ use Rattle.end_rules.specs.State.{Body, OpenCall, post_order, cut_all, in_phase}
 use Rattle.end_rules.specs.Writing.{rtse_context, session_abort, provider_abort, user_abort}
 
 abbrev pub fault_at : Layer → ℕ → ℕ → Fault
-fault_at layer place reason = record { layer = layer; place = place; reason = reason; told = [] }
+fault_at layer place reason = record { layer = layer; place = place; reason = reason; shown_before = [] }
 
 -- what no single field breaks has the place 0
 abbrev pub transport_fault : Fault
@@ -75,7 +75,7 @@ abbrev pub aborted_own : Fault → Indication
 aborted_own fault = indications.Aborted true fault.layer fault.place fault.reason
 
 abbrev pub shown_at_fault : Body → Fault → List Indication
-shown_at_fault body fault = fault.told ++ cuts body ++ aborted_own fault ∷ []
+shown_at_fault body fault = fault.shown_before ++ cuts body ++ aborted_own fault ∷ []
 
 -- ---- what is left
 

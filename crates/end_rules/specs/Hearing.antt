@@ -80,8 +80,8 @@ abbrev pub rejected : Calls → Option ℤ → ProblemKind → ℕ → Heard
 rejected calls id kind number =
     record { calls = calls; shown = []; reject = Some (record { id = id; problem = problem_with kind number }) }
 
-abbrev pub told : Calls → Indication → Heard
-told calls indication = record { calls = calls; shown = indication ∷ []; reject = None }
+abbrev pub showing : Calls → Indication → Heard
+showing calls indication = record { calls = calls; shown = indication ∷ []; reject = None }
 
 -- the problem, or what is done without one
 abbrev pub unless_problem : Option ℕ → (ℕ → Heard) → Heard → Heard
@@ -143,7 +143,7 @@ opening base o calls =
 abbrev pub invoked : Base → Calls → ℕ → ℤ → Option ℤ → Option ℕ → Carried → Heard
 invoked base calls context id linked None argument = rejected calls (Some id) problems.Invoke 1
 invoked base calls context id linked (Some place) argument =
-    told (opening base (record { own = false; id = id; operation = place; context = context; parent = linked }) calls)
+    showing (opening base (record { own = false; id = id; operation = place; context = context; parent = linked }) calls)
     (indications.Invoked id place linked (value_in argument))
 
 abbrev pub hear_invoke : Base → Calls → ℕ → ℤ → Option ℤ → Code → Carried → Heard
@@ -176,7 +176,7 @@ hear_result_of base calls id None code value = rejected calls (Some id) problems
 hear_result_of base calls id (Some o) code value =
     unless_problem (result_problem base o.operation (operation_at base.tables o.operation) code value)
     (rejected (close true id calls) (Some id) problems.Result)
-    (told (close true id calls) (indications.Result id (value_in value)))
+    (showing (close true id calls) (indications.Result id (value_in value)))
 
 -- error response unexpected (1), unrecognized error (2), unexpected error (3), mistyped parameter (4)
 abbrev pub known_error_problem : Base → Operation → Option ℕ → Carried → Option ℕ
@@ -193,16 +193,16 @@ error_problem base None place parameter = Some 1
 error_problem base (Some operation) place parameter =
     first_problem (problem_if (is_empty operation.errors) 1) (known_error_problem base operation place parameter)
 
-abbrev pub error_told : Calls → ℤ → Option ℕ → Carried → Heard
-error_told calls id None parameter = rejected calls (Some id) problems.Error 2
-error_told calls id (Some place) parameter = told calls (indications.Error id place (value_in parameter))
+abbrev pub showing_error : Calls → ℤ → Option ℕ → Carried → Heard
+showing_error calls id None parameter = rejected calls (Some id) problems.Error 2
+showing_error calls id (Some place) parameter = showing calls (indications.Error id place (value_in parameter))
 
 abbrev pub hear_error_of : Base → Calls → ℤ → Option OpenCall → Option ℕ → Carried → Heard
 hear_error_of base calls id None place parameter = rejected calls (Some id) problems.Error 0
 hear_error_of base calls id (Some o) place parameter =
     unless_problem (error_problem base (operation_at base.tables o.operation) place parameter)
     (rejected (close true id calls) (Some id) problems.Error)
-    (error_told (close true id calls) id place parameter)
+    (showing_error (close true id calls) id place parameter)
 
 -- ---- rejects: one of an invoke problem closes the own invocation that it names
 
@@ -211,17 +211,17 @@ is_of_invocation problems.Invoke = true
 is_of_invocation _ = false
 
 abbrev pub hear_reject : Calls → Option ℤ → Problem → Heard
-hear_reject calls None problem = told calls (indications.RejectTaken None problem)
+hear_reject calls None problem = showing calls (indications.RejectTaken None problem)
 hear_reject calls (Some id) problem =
     if is_of_invocation problem.kind && is_some (opened_with true id calls.opens)
-    then told (close true id calls) (indications.Rejected id problem)
-    else told calls (indications.RejectTaken (Some id) problem)
+    then showing (close true id calls) (indications.Rejected id problem)
+    else showing calls (indications.RejectTaken (Some id) problem)
 
 -- ---- an APDU on a context
 
 abbrev pub hear : Base → Calls → ℕ → HeardHead → Heard
 hear base calls context (General number) = rejected calls None problems.General number
-hear base calls context BadReject = told calls indications.BadReject
+hear base calls context BadReject = showing calls indications.BadReject
 hear base calls context (InvokeHead id linked code argument) = hear_invoke base calls context id linked code argument
 hear base calls context (ResultHead id code value) = hear_result_of base calls id (opened_with true id calls.opens) code value
 hear base calls context (ErrorHead id code parameter) =

@@ -51,7 +51,7 @@ abbrev pub list_fault : Body → ℕ → Option (List RestoredItem) → Option F
 list_fault body n None = None
 list_fault body n (Some list) =
     if same_lists list (listed (restored_set body n)) then None
-    else Some (record { layer = layers.Presentation; place = 0; reason = 6; told = indications.RestoredListDiffers (restored_set body n) list ∷ [] })
+    else Some (record { layer = layers.Presentation; place = 0; reason = 6; shown_before = indications.RestoredListDiffers (restored_set body n) list ∷ [] })
 
 -- The marks from n on, own alterations and open invocations are gone, and the token is at the initiator.
 abbrev pub restarted : Base → ℕ → Body → Body

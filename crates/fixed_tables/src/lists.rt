@@ -18,37 +18,37 @@ pub trait InValue {
     ghost use Rattle.asn1_types.specs.Value as tree;
 
     /// What a value says.
-    ghost said: { tree.Value → Self.Item };
+    ghost item_in: { tree.Value → Self.Item };
 
     /// The value that says an item.
-    ghost says: { Self.Item → tree.Value };
+    ghost item_value: { Self.Item → tree.Value };
 
     /// What a value says.
     fn item(alloc: Global, value: &Val) -> Result<Self::Item, NoMemory>
-        ensures { IfOk result (λ item. item ≡ said value.now) };
+        ensures { IfOk result (λ item. item ≡ item_in value.now) };
 
     /// The value that says an item.
     fn val(alloc: Global, item: &Self::Item) -> Result<Val, NoMemory>
-        ensures { IfOk result (λ v. v ≡ says item.now) };
+        ensures { IfOk result (λ v. v ≡ item_value item.now) };
 }
 
 /// The items that a SEQUENCE OF says; none where it doesn't stand.
 #[tactic(auto, using(crate::proofs::ListValues::values_back))]
 pub fn list_in<T: InValue>(alloc: Global, value: Option<&Val>) -> Result<ListOf<T::Item>, NoMemory>
-    ensures { IfOk result (λ items. items ≡ map T.said (items_in (option_copied value.entry))) }
+    ensures { IfOk result (λ items. items ≡ map T.item_in (items_in (option_copied value.entry))) }
 {
     let Some(value) = value else {
         return Ok(ListOf::new(alloc));
     };
     match &value.node {
-        Node::List(values) => said::<T>(alloc, values.as_slice()),
+        Node::List(values) => read_items::<T>(alloc, values.as_slice()),
         _ => Ok(ListOf::new(alloc)),
     }
 }
 
 /// What each value says.
-fn said<T: InValue>(alloc: Global, values: &[Val]) -> Result<ListOf<T::Item>, NoMemory>
-    ensures { IfOk result (λ items. items ≡ map T.said values.now) }
+fn read_items<T: InValue>(alloc: Global, values: &[Val]) -> Result<ListOf<T::Item>, NoMemory>
+    ensures { IfOk result (λ items. items ≡ map T.item_in values.now) }
 {
     let mut items = Vec::new(alloc);
     for value in values {
@@ -59,7 +59,7 @@ fn said<T: InValue>(alloc: Global, values: &[Val]) -> Result<ListOf<T::Item>, No
 
 /// The SEQUENCE OF that says these items.
 pub fn list_of<T: InValue>(alloc: Global, items: &[T::Item]) -> Result<Val, NoMemory>
-    ensures { IfOk result (λ v. v ≡ tree.list (values_of (map T.says items.now))) }
+    ensures { IfOk result (λ v. v ≡ tree.list (values_of (map T.item_value items.now))) }
 {
     let mut values = Vec::new(alloc);
     for item in items {

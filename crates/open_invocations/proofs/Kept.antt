@@ -199,7 +199,7 @@ module _ (base : Base) (c : Calls) (at : ℕ) where
   of_result id None code value = quiet c
   of_result id (Some o) code value = unless _ _ _ (λ n. quiet_closed true id c) (quiet_closed true id c)
 
-  error_told : (id : ℤ) (place : Option ℕ) (parameter : Carried) → Q (rules.error_told (ends.close true id c) id place parameter)
+  error_told : (id : ℤ) (place : Option ℕ) (parameter : Carried) → Q (rules.showing_error (ends.close true id c) id place parameter)
   error_told id None parameter = quiet_closed true id c
   error_told id (Some place) parameter = quiet_closed true id c
 
@@ -211,7 +211,7 @@ module _ (base : Base) (c : Calls) (at : ℕ) where
   of_reject None problem = quiet c
   of_reject (Some id) problem = by (rules.is_of_invocation problem.kind && is_some (opened_with true id c.opens))
     where
-      by : (b : Bool) → Q (cond b (rules.told (ends.close true id c) (indications.Rejected id problem)) (rules.told c (indications.RejectTaken (Some id) problem)))
+      by : (b : Bool) → Q (cond b (rules.showing (ends.close true id c) (indications.Rejected id problem)) (rules.showing c (indications.RejectTaken (Some id) problem)))
       by true = quiet_closed true id c
       by false = quiet c
 

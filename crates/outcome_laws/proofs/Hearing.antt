@@ -15,7 +15,7 @@ use Rattle.end_model.specs.end_rules.Base.{Base, Carried, HeardHead, General, Ba
 use Rattle.end_model.specs.end_rules.Messages.{DataValue}
 use Rattle.end_model.specs.end_rules.State.{Body, OpenCall, Calls, is_empty, opened_with, close}
 use Rattle.end_model.specs.end_rules.Invoking.{carrier_in}
-use Rattle.end_model.specs.end_rules.Hearing.{Rejecting, Heard, rejected, told, unless_problem, first_problem, problem_if, invoke_problem, invoked, is_right_result, result_problem, known_error_problem, hear_result_of, error_problem, error_told, hear_error_of, is_of_invocation, hear_reject, hear, value_in, Taken, sent_on, queued, with_reject, shown_first, on_heard, take_head, head_of, take_values}
+use Rattle.end_model.specs.end_rules.Hearing.{Rejecting, Heard, rejected, showing, unless_problem, first_problem, problem_if, invoke_problem, invoked, is_right_result, result_problem, known_error_problem, hear_result_of, error_problem, showing_error, hear_error_of, is_of_invocation, hear_reject, hear, value_in, Taken, sent_on, queued, with_reject, shown_first, on_heard, take_head, head_of, take_values}
 use Rattle.outcome_laws.specs.Exchanges.{Asked}
 use Rattle.outcome_laws.specs.Outcomes.{returns_at, has_error}
 use Rattle.outcome_laws.proofs.Shown.{notes_in}
@@ -59,11 +59,11 @@ hears-result base calls id None code value asked before h e = once-still base.ta
 hears-result base calls id (Some o) code value asked before h e =
     unless base asked before (result_problem base o.operation (operation_at base.tables o.operation) code value)
     (rejected (close true id calls) (Some id) problems.Result)
-    (told (close true id calls) (indications.Result id (value_in value)))
+    (showing (close true id calls) (indications.Result id (value_in value)))
     (λ n. once-still base.tables asked (close true id calls) before [] refl (once-close base.tables true id asked calls before h))
     (λ p. once-told base.tables id o asked calls before (indications.Result id (value_in value)) refl e (result-allowed base o.operation (operation_at base.tables o.operation) code value p) h)
 
-hears-error-told : (base : Base) (calls : Calls) (id : ℤ) (o : OpenCall) (place : Option ℕ) (value : Carried) (asked : List Asked) (before : List Indication) → Once base.tables asked calls before → opened_with true id calls.opens ≡ Some o → error_problem base (operation_at base.tables o.operation) place value ≡ None → Hears base asked before (error_told (close true id calls) id place value)
+hears-error-told : (base : Base) (calls : Calls) (id : ℤ) (o : OpenCall) (place : Option ℕ) (value : Carried) (asked : List Asked) (before : List Indication) → Once base.tables asked calls before → opened_with true id calls.opens ≡ Some o → error_problem base (operation_at base.tables o.operation) place value ≡ None → Hears base asked before (showing_error (close true id calls) id place value)
 hears-error-told base calls id o None value asked before h e p = once-still base.tables asked (close true id calls) before [] refl (once-close base.tables true id asked calls before h)
 hears-error-told base calls id o (Some place) value asked before h e p =
     once-told base.tables id o asked calls before (indications.Error id place (value_in value)) refl e (error-allowed base (operation_at base.tables o.operation) place value p) h
@@ -73,7 +73,7 @@ hears-error base calls id None place value asked before h e = once-still base.ta
 hears-error base calls id (Some o) place value asked before h e =
     unless base asked before (error_problem base (operation_at base.tables o.operation) place value)
     (rejected (close true id calls) (Some id) problems.Error)
-    (error_told (close true id calls) id place value)
+    (showing_error (close true id calls) id place value)
     (λ n. once-still base.tables asked (close true id calls) before [] refl (once-close base.tables true id asked calls before h))
     (λ p. hears-error-told base calls id o place value asked before h e p)
 
@@ -81,7 +81,7 @@ hears-reject : (base : Base) (calls : Calls) (id : Option ℤ) (problem : Proble
 hears-reject base calls None problem asked before h = once-still base.tables asked calls before (indications.RejectTaken None problem ∷ []) refl h
 hears-reject base calls (Some id) problem asked before h = go (is_of_invocation problem.kind) (opened_with true id calls.opens) refl refl
   where
-    go : (k : Bool) (o : Option OpenCall) → is_of_invocation problem.kind ≡ k → opened_with true id calls.opens ≡ o → Hears base asked before (if k && is_some o then told (close true id calls) (indications.Rejected id problem) else told calls (indications.RejectTaken (Some id) problem))
+    go : (k : Bool) (o : Option OpenCall) → is_of_invocation problem.kind ≡ k → opened_with true id calls.opens ≡ o → Hears base asked before (if k && is_some o then showing (close true id calls) (indications.Rejected id problem) else showing calls (indications.RejectTaken (Some id) problem))
     go true (Some o) k e = once-told base.tables id o asked calls before (indications.Rejected id problem) refl e k h
     go true None k e = once-still base.tables asked calls before (indications.RejectTaken (Some id) problem ∷ []) refl h
     go false o k e = once-still base.tables asked calls before (indications.RejectTaken (Some id) problem ∷ []) refl h

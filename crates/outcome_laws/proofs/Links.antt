@@ -15,7 +15,7 @@ use Rattle.end_model.specs.end_rules.Messages.{DataValue, Message, Transport, Se
 use Rattle.end_model.specs.end_rules.Messages.{ActivityWord, Start, Resume, End, EndAck, Interrupt, InterruptAck, Discard, DiscardAck}
 use Rattle.end_model.specs.end_rules.State.{Body, OpenCall, Calls, opens_of, opened_with, close}
 use Rattle.end_model.specs.end_rules.Invoking.{is_linked_to, operation_of}
-use Rattle.end_model.specs.end_rules.Hearing.{Rejecting, Heard, rejected, told, unless_problem, first_problem, problem_if, has_links, is_silent_at, link_problem, argument_problem, operation_problem, invoke_problem, invoked, result_problem, hear_result_of, error_problem, error_told, hear_error_of, is_of_invocation, hear_reject, hear, value_in, with_reject, take_head, head_of, take_values}
+use Rattle.end_model.specs.end_rules.Hearing.{Rejecting, Heard, rejected, showing, unless_problem, first_problem, problem_if, has_links, is_silent_at, link_problem, argument_problem, operation_problem, invoke_problem, invoked, result_problem, hear_result_of, error_problem, showing_error, hear_error_of, is_of_invocation, hear_reject, hear, value_in, with_reject, take_head, head_of, take_values}
 use Rattle.end_model.specs.end_rules.TakesTransport.{shown_of_transport}
 use Rattle.end_model.specs.end_rules.TakesAssociation.{shown_of_association}
 use Rattle.end_model.specs.end_rules.TakesData.{values_taken, shown_of_data}
@@ -97,10 +97,10 @@ result-links base asked calls id None code value = tt
 result-links base asked calls id (Some o) code value =
     unless base asked (result_problem base o.operation (operation_at base.tables o.operation) code value)
     (rejected (close true id calls) (Some id) problems.Result)
-    (told (close true id calls) (indications.Result id (value_in value)))
+    (showing (close true id calls) (indications.Result id (value_in value)))
     (λ n. tt) (λ p. tt)
 
-told-links : (base : Base) (asked : List Asked) (calls : Calls) (id : ℤ) (place : Option ℕ) (value : Carried) → Links base asked (error_told calls id place value)
+told-links : (base : Base) (asked : List Asked) (calls : Calls) (id : ℤ) (place : Option ℕ) (value : Carried) → Links base asked (showing_error calls id place value)
 told-links base asked calls id None value = tt
 told-links base asked calls id (Some place) value = tt
 
@@ -109,14 +109,14 @@ error-links base asked calls id None place value = tt
 error-links base asked calls id (Some o) place value =
     unless base asked (error_problem base (operation_at base.tables o.operation) place value)
     (rejected (close true id calls) (Some id) problems.Error)
-    (error_told (close true id calls) id place value)
+    (showing_error (close true id calls) id place value)
     (λ n. tt) (λ p. told-links base asked (close true id calls) id place value)
 
 reject-links : (base : Base) (asked : List Asked) (calls : Calls) (id : Option ℤ) (problem : Problem) → Links base asked (hear_reject calls id problem)
 reject-links base asked calls None problem = tt
 reject-links base asked calls (Some id) problem = go (is_of_invocation problem.kind && is_some (opened_with true id calls.opens))
   where
-    go : (b : Bool) → Links base asked (if b then told (close true id calls) (indications.Rejected id problem) else told calls (indications.RejectTaken (Some id) problem))
+    go : (b : Bool) → Links base asked (if b then showing (close true id calls) (indications.Rejected id problem) else showing calls (indications.RejectTaken (Some id) problem))
     go true = tt
     go false = tt
 

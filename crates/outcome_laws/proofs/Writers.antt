@@ -17,7 +17,7 @@ use Rattle.end_model.specs.end_rules.Base.{Base, Carried, HeardHead, is_reliable
 use Rattle.end_model.specs.end_rules.Messages.{ValueContent, Remote, DataValue, Message, Transport, Session, Word, OfAssociation, OfData, OfMarks, OfActivities, Values, AlterContext, AlterContextAck}
 use Rattle.end_model.specs.end_rules.State.{Body, OpenCall, Calls, opened_with, close}
 use Rattle.end_model.specs.end_rules.Invoking.{carrier_in}
-use Rattle.end_model.specs.end_rules.Hearing.{Rejecting, Heard, rejected, told, unless_problem, invoke_problem, invoked, result_problem, hear_result_of, error_problem, error_told, hear_error_of, is_of_invocation, hear_reject, hear, carried_in, code_returned, value_returned, value_in, head_of_apdu, Taken, sent_on, queued, with_reject, on_heard, take_head, head_of, take_values}
+use Rattle.end_model.specs.end_rules.Hearing.{Rejecting, Heard, rejected, showing, unless_problem, invoke_problem, invoked, result_problem, hear_result_of, error_problem, showing_error, hear_error_of, is_of_invocation, hear_reject, hear, carried_in, code_returned, value_returned, value_in, head_of_apdu, Taken, sent_on, queued, with_reject, on_heard, take_head, head_of, take_values}
 use Rattle.outcome_laws.specs.Exchanges.{reject_in, rejects_in}
 use Rattle.outcome_laws.specs.Outcomes.{IsIn, value_of, Answered, AreAnswers}
 use Rattle.outcome_laws.proofs.Shown.{in-later, each-on, each-append, each-quiet, notes_in, unnoted}
@@ -134,14 +134,14 @@ says-result base calls id None returned wrote h = tt
 says-result base calls id (Some o) returned wrote h =
     unless base.tables wrote (result_problem base o.operation (operation_at base.tables o.operation) (code_returned returned) (value_returned returned))
     (rejected (close true id calls) (Some id) problems.Result)
-    (told (close true id calls) (indications.Result id (value_in (value_returned returned))))
+    (showing (close true id calls) (indications.Result id (value_in (value_returned returned))))
     (λ n. tt) (record { apdu = apdus.Result id returned; written = h; tells = (refl, value-is returned) }, tt)
 
 carried-is : (parameter : Option Val) → value_in (carried_in parameter) ≡ parameter
 carried-is None = refl
 carried-is (Some value) = refl
 
-says-error-told : (tables : Tables) (calls : Calls) (id : ℤ) (code : Code) (parameter : Option Val) (place : Option ℕ) (wrote : List Apdu) → error_with tables code ≡ place → IsIn (apdus.Error id code parameter) wrote → HearsAnswers tables wrote (error_told calls id place (carried_in parameter))
+says-error-told : (tables : Tables) (calls : Calls) (id : ℤ) (code : Code) (parameter : Option Val) (place : Option ℕ) (wrote : List Apdu) → error_with tables code ≡ place → IsIn (apdus.Error id code parameter) wrote → HearsAnswers tables wrote (showing_error calls id place (carried_in parameter))
 says-error-told tables calls id code parameter None wrote e h = tt
 says-error-told tables calls id code parameter (Some place) wrote e h =
     (record { apdu = apdus.Error id code parameter; written = h; tells = (refl, e, carried-is parameter) }, tt)
@@ -151,14 +151,14 @@ says-error base calls id None code parameter wrote h = tt
 says-error base calls id (Some o) code parameter wrote h =
     unless base.tables wrote (error_problem base (operation_at base.tables o.operation) (error_with base.tables code) (carried_in parameter))
     (rejected (close true id calls) (Some id) problems.Error)
-    (error_told (close true id calls) id (error_with base.tables code) (carried_in parameter))
+    (showing_error (close true id calls) id (error_with base.tables code) (carried_in parameter))
     (λ n. tt) (says-error-told base.tables (close true id calls) id code parameter (error_with base.tables code) wrote refl h)
 
 says-reject : (tables : Tables) (calls : Calls) (id : Option ℤ) (problem : Problem) (wrote : List Apdu) → IsIn (apdus.Reject id problem) wrote → HearsAnswers tables wrote (hear_reject calls id problem)
 says-reject tables calls None problem wrote h = (tt, tt)
 says-reject tables calls (Some id) problem wrote h = go (is_of_invocation problem.kind && is_some (opened_with true id calls.opens))
   where
-    go : (b : Bool) → HearsAnswers tables wrote (if b then told (close true id calls) (indications.Rejected id problem) else told calls (indications.RejectTaken (Some id) problem))
+    go : (b : Bool) → HearsAnswers tables wrote (if b then showing (close true id calls) (indications.Rejected id problem) else showing calls (indications.RejectTaken (Some id) problem))
     go true = (record { apdu = apdus.Reject (Some id) problem; written = h; tells = (refl, refl) }, tt)
     go false = (tt, tt)
 

@@ -20,7 +20,7 @@ use Rattle.asn1_types.specs.ValueView.{parts_of, values_of}
 use Rattle.fixed_tables.specs.Values.{nth_part, natural_in, small_or, octet_of, maybe_octets, maybe_arcs, maybe_bits, values_list, items_in, bits_value}
 use Rattle.fixed_tables.specs.Pdvs.{content_value, content_in, pdv_value, pdv_in}
 use Rattle.presentation_pdus.specs.Items.{number_value, number_in, octet_in, name_in, list_value, some_list, definition_value, definition_in, answer_value, answer_in, restored_value, restored_in}
-use Rattle.presentation_pdus.specs.Words.{integer_in, contexts_in, said, connect_in, accept_in, reject_in}
+use Rattle.presentation_pdus.specs.Words.{integer_in, contexts_in, unit_in, connect_in, accept_in, reject_in}
 use Rattle.ppdu_laws.specs.Written.{is_short, is_small, all_of, definition_sized, answer_sized, restored_sized, pdv_sized, is_written_whole}
 use Rattle.ppdu_laws.proofs.BackValues.{connect_read, accept_read, reject_read, read_value}
 
@@ -190,7 +190,7 @@ reject_back r w =
     λ i. reject ((ap maybe_bits (nth_of os 0) ∙ bits_back r.version) i) ((ap maybe_octets (nth_of os 1) ∙ octets_back r.responding) i) ((ap (λ (v : Option Value). map answer_in (items_in v)) (nth_of os 2) ∙ answers_back r.results q.0) i)
     ((ap (option_map octet_in) (nth_of os 3) ∙ small_back r.default_result q.1) i) ((ap (option_map integer_in) (nth_of os 4) ∙ integer_back r.reason) i) ((ap (λ (v : Option Value). map pdv_in (items_in v)) (nth_of os 5) ∙ users_back r.user p.1) i)
 
-pub said_back : (word : units.PresentationWord) → is_written_whole word ≡ true → said (read_value word) ≡ word
+pub said_back : (word : units.PresentationWord) → is_written_whole word ≡ true → unit_in (read_value word) ≡ word
 said_back (unit.Connect c) w = ap (λ (x : connects.PresentationConnect). unit.Connect x) (connect_back c w)
 said_back (unit.Accept a) w = ap (λ (x : accepts.PresentationAccept). unit.Accept x) (accept_back a w)
 said_back (unit.Reject r) w = ap (λ (x : rejects.PresentationReject). unit.Reject x) (reject_back r w)

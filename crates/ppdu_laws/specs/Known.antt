@@ -12,7 +12,7 @@ use Rattle.presentation_pdus.specs.declared.place.PpduPlace.{PpduPlace}
 use Rattle.presentation_pdus.specs.Fields.{context_tag, sequence_tag, user_field, accept_fields, reject_fields, user_abort_fields, provider_abort_fields}
 use Rattle.presentation_pdus.specs.Selected.{Relation, SelectedIs}
 use Rattle.presentation_pdus.specs.Units.{ModeIs, Fielded, DataIs}
-use Rattle.presentation_pdus.specs.Words.{said}
+use Rattle.presentation_pdus.specs.Words.{unit_in}
 use Rattle.ppdu_laws.specs.Written.{carries}
 
 abbrev pub known_connect_fields : List known.Field
@@ -79,4 +79,4 @@ pub record SpellsKnown (carrier : PpduPlace) (word : units.PresentationWord) (oc
   pub carried : carries carrier word ≡ true
   pub spelled : KnownIs word false most_levels value octets
   pub within : length octets ≤ most_spelled
-  pub says : said (read_as word value) ≡ word
+  pub says : unit_in (read_as word value) ≡ word

@@ -6,7 +6,7 @@ use Rattle.asn1_types.specs.Value.{Value}
 use Rattle.ber_spelling.specs.Spelling.{Spells}
 use Rattle.presentation_pdus.specs.declared.place.PpduPlace.{PpduPlace}
 use Rattle.presentation_pdus.specs.Rows.{ppdu_rows}
-use Rattle.presentation_pdus.specs.Words.{said, row_of, value_of, written_ppdu}
+use Rattle.presentation_pdus.specs.Words.{unit_in, row_of, value_of, written_ppdu}
 use Rattle.presentation_pdus.specs.Units.{SpellsPpdu, ppdu_at}
 use Rattle.ppdu_laws.specs.Written.{carries, is_written_whole, IsWritable}
 use Rattle.ppdu_laws.specs.Known.{read_as, SpellsKnown}
@@ -28,4 +28,4 @@ KnownPpduIsSpelled = (carrier : PpduPlace) (word : units.PresentationWord) (octe
 -- and a value of the table's row that says it
 abbrev pub KnownPpduIsValue : Type 0
 KnownPpduIsValue = (carrier : PpduPlace) (word : units.PresentationWord) (octets : List ℕ) → SpellsKnown carrier word octets
-    → (value : Value) × (said (read_as word value) ≡ word) × Spells ppdu_rows (row_of word) false most_spelled value octets
+    → (value : Value) × (unit_in (read_as word value) ≡ word) × Spells ppdu_rows (row_of word) false most_spelled value octets

@@ -41,7 +41,7 @@ use Rattle.presentation_pdus.specs.declared.place.PpduFault.TheVariants as fault
 use Rattle.presentation_pdus.specs.Rows.{ppdu_rows}
 use Rattle.presentation_pdus.specs.Fields.{context_tag, sequence_tag, set_tag, user_tag, pdv_row, mode_row, connect_fields, connect_passed, accept_fields, accept_passed, reject_fields, alter_fields, alter_ack_fields, restart_fields, user_abort_fields, provider_abort_fields}
 use Rattle.presentation_pdus.specs.Selected.{Run, Relation, selected_at, SelectedIs}
-use Rattle.presentation_pdus.specs.Words.{said}
+use Rattle.presentation_pdus.specs.Words.{unit_in}
 use Rattle.presentation_pdus.specs.Units.{unit_at, data_at, ppdu_run, reason_of, of_value, UnitIs, ModeIs, Fielded, DataIs, PpduIs}
 use Rattle.presentation_pdus.specs.Laws.{PpduIsSpelled, SpelledPpduIsRead, PpduFaultIsFirst}
 use Rattle.presentation_pdus.proofs.Added.{ppdu_sound}
@@ -273,8 +273,8 @@ ppdu_inside place.Ra = fielded_inside 6 restart_fields sequence_tag
 
 -- ---- the laws
 
-said_of : (r : Result Value plain_faults.PduFault) (word : units.PresentationWord) → of_value r ≡ Ok word → (v : Value) × (r ≡ Ok v) × (said v ≡ word)
-said_of (Ok v) word e = (v, refl, (let same : said v ≡ word = cc in same))
+said_of : (r : Result Value plain_faults.PduFault) (word : units.PresentationWord) → of_value r ≡ Ok word → (v : Value) × (r ≡ Ok v) × (unit_in v ≡ word)
+said_of (Ok v) word e = (v, refl, (let same : unit_in v ≡ word = cc in same))
 said_of (Err f) word e = absurd cc
 
 pub ppdu_is_spelled : PpduIsSpelled

@@ -26,7 +26,7 @@ use Rattle.presentation_pdus.specs.declared.place.PpduFault.TheVariants as fault
 use Rattle.presentation_pdus.specs.Rows.{ppdu_rows}
 use Rattle.presentation_pdus.specs.Fields.{context_tag, sequence_tag, user_tag, pdv_row, mode_row, connect_fields, connect_passed, accept_fields, accept_passed, reject_fields, alter_fields, alter_ack_fields, restart_fields, user_abort_fields, provider_abort_fields}
 use Rattle.presentation_pdus.specs.Selected.{Run, Relation, selected_at, SelectedIs}
-use Rattle.presentation_pdus.specs.Words.{said}
+use Rattle.presentation_pdus.specs.Words.{unit_in}
 
 -- ---- reading
 
@@ -86,7 +86,7 @@ of_fault (plain_fault.At at kind) = fault.At at kind (reason_of at kind)
 of_fault plain_fault.NoMemory = fault.NoMemory
 
 abbrev pub of_value : Result Value plain_faults.PduFault → Result units.PresentationWord faults.PpduFault
-of_value (Ok v) = Ok (said v)
+of_value (Ok v) = Ok (unit_in v)
 of_value (Err e) = Err (of_fault e)
 
 -- the unit that all of these octets are, or their first fault
@@ -136,4 +136,4 @@ pub record SpellsPpdu (carrier : PpduPlace) (word : units.PresentationWord) (oct
   pub value : Value
   pub spelled : PpduIs carrier false most_levels value octets
   pub within : length octets ≤ most_spelled
-  pub says : said value ≡ word
+  pub says : unit_in value ≡ word

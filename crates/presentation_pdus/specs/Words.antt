@@ -66,8 +66,8 @@ reject_in v = record {
 }
 
 -- the unit of a number with its value; that of CP and CPA stands behind the mode selector
-abbrev pub said_by : ℕ → Option Value → units.PresentationWord
-said_by which v =
+abbrev pub unit_by : ℕ → Option Value → units.PresentationWord
+unit_by which v =
     if which == 0 then unit.Connect (connect_in (part_in 1 v))
     else (if which == 1 then unit.Accept (accept_in (part_in 1 v))
     else (if which == 2 then unit.Reject (reject_in v)
@@ -79,8 +79,8 @@ said_by which v =
     else (if which == 8 then unit.ProviderAbort (option_map integer_in (part_in 0 v)) (option_map integer_in (part_in 1 v))
     else unit.Data (users_in v)))))))))
 
-abbrev pub said : Value → units.PresentationWord
-said v = said_by (alternative (Some v)) (inside (Some v))
+abbrev pub unit_in : Value → units.PresentationWord
+unit_in v = unit_by (alternative (Some v)) (inside (Some v))
 
 -- normal mode (X.226 8.2.1)
 abbrev pub normal_mode : Value

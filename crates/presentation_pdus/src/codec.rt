@@ -11,7 +11,7 @@ ghost use Rattle.presentation_pdus.specs.Words.{written_ppdu};
 use crate::place::{PpduFault, PpduPlace};
 use crate::reading::front;
 use crate::table::PpduTable;
-use crate::words::{row_of, said, value_of};
+use crate::words::{row_of, unit_in, value_of};
 use asn1_types::{TypeTable, Val};
 use ber_writing::ber_octets;
 use fixed_tables::{PduFault, all_of, fault_of};
@@ -61,7 +61,7 @@ impl PpduTable {
         ensures { GivesPpdu result (ppdu_at place bytes.now) }
     {
         match whole(alloc, &self.types, place, bytes) {
-            Ok(value) => Ok(said(alloc, &value)?),
+            Ok(value) => Ok(unit_in(alloc, &value)?),
             Err(fault) => Err(of_fault(fault)),
         }
     }

@@ -20,9 +20,9 @@ pub(crate) struct Identifiers;
 impl InValue for Identifiers {
     type Item = u32;
 
-    ghost said = { number_in };
+    ghost item_in = { number_in };
 
-    ghost says = { number_value };
+    ghost item_value = { number_value };
 
     fn item(_alloc: Global, value: &Val) -> Result<u32, NoMemory> {
         Ok(small_number_or(Some(value), 0))
@@ -39,9 +39,9 @@ pub(crate) struct Deletions;
 impl InValue for Deletions {
     type Item = u8;
 
-    ghost said = { octet_in };
+    ghost item_in = { octet_in };
 
-    ghost says = { number_value };
+    ghost item_value = { number_value };
 
     fn item(_alloc: Global, value: &Val) -> Result<u8, NoMemory> {
         Ok(octet_or(Some(value), 0))
@@ -58,9 +58,9 @@ pub(crate) struct Names;
 impl InValue for Names {
     type Item = Oid;
 
-    ghost said = { name_in };
+    ghost item_in = { name_in };
 
-    ghost says = { tree.object_id };
+    ghost item_value = { tree.object_id };
 
     fn item(alloc: Global, value: &Val) -> Result<Oid, NoMemory> {
         oid_in(alloc, Some(value))
@@ -77,9 +77,9 @@ pub(crate) struct Definitions;
 impl InValue for Definitions {
     type Item = Proposal;
 
-    ghost said = { definition_in };
+    ghost item_in = { definition_in };
 
-    ghost says = { definition_value };
+    ghost item_value = { definition_value };
 
     fn item(alloc: Global, value: &Val) -> Result<Proposal, NoMemory> {
         Ok(Proposal {
@@ -126,9 +126,9 @@ pub(crate) struct Results;
 impl InValue for Results {
     type Item = AddAnswer;
 
-    ghost said = { answer_in };
+    ghost item_in = { answer_in };
 
-    ghost says = { answer_value };
+    ghost item_value = { answer_value };
 
     fn item(alloc: Global, value: &Val) -> Result<AddAnswer, NoMemory> {
         Ok(AddAnswer {
@@ -154,9 +154,9 @@ pub(crate) struct Restored;
 impl InValue for Restored {
     type Item = RestoredItem;
 
-    ghost said = { restored_in };
+    ghost item_in = { restored_in };
 
-    ghost says = { restored_value };
+    ghost item_value = { restored_value };
 
     fn item(alloc: Global, value: &Val) -> Result<RestoredItem, NoMemory> {
         Ok(RestoredItem {
@@ -180,9 +180,9 @@ pub(crate) struct DataValues;
 impl InValue for DataValues {
     type Item = Pdv;
 
-    ghost said = { pdv_in };
+    ghost item_in = { pdv_in };
 
-    ghost says = { pdv_value };
+    ghost item_value = { pdv_value };
 
     fn item(alloc: Global, value: &Val) -> Result<Pdv, NoMemory> {
         pdv_in(alloc, value)
@@ -198,7 +198,7 @@ pub(crate) fn some_list<T: InValue>(
     alloc: Global,
     items: &[T::Item],
 ) -> Result<Option<Val>, NoMemory>
-    ensures { IfOk result (λ part. part ≡ some_list T.says items.now) }
+    ensures { IfOk result (λ part. part ≡ some_list T.item_value items.now) }
 {
     match items {
         [] => Ok(None),
@@ -211,7 +211,7 @@ pub(crate) fn maybe_list<T: InValue>(
     alloc: Global,
     list: &Option<ListOf<T::Item>>,
 ) -> Result<Option<Val>, NoMemory>
-    ensures { IfOk result (λ part. part ≡ option_map (list_value T.says) list.now) }
+    ensures { IfOk result (λ part. part ≡ option_map (list_value T.item_value) list.now) }
 {
     match list {
         Some(list) => Ok(Some(list_of::<T>(alloc, list.as_slice())?)),

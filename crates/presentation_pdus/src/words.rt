@@ -3,7 +3,7 @@
 ghost use Rattle.std.specs.Prelude.{◌≡◌, IfOk, option_map};
 ghost use Rattle.std.specs.Option.{option_copied};
 ghost use Rattle.asn1_types.specs.Value as tree;
-ghost use Rattle.presentation_pdus.specs.Words.{integer_in, contexts_in, connect_in, accept_in, reject_in, said_by, said, normal_mode, with_mode, connect_value, accept_value, reject_value, row_of, value_of};
+ghost use Rattle.presentation_pdus.specs.Words.{integer_in, contexts_in, connect_in, accept_in, reject_in, unit_by, unit_in, normal_mode, with_mode, connect_value, accept_value, reject_value, row_of, value_of};
 
 use crate::items::{
     DataValues, Definitions, Deletions, Identifiers, Restored, Results, maybe_list, octet_part,
@@ -80,8 +80,8 @@ fn reject_in(alloc: Global, value: Option<&Val>) -> Result<PresentationReject, N
 }
 
 /// The unit of a number with its value.
-fn said_by(alloc: Global, which: u32, v: Option<&Val>) -> Result<PresentationWord, NoMemory>
-    ensures { IfOk result (λ x. x ≡ said_by which (option_copied v.entry)) }
+fn unit_by(alloc: Global, which: u32, v: Option<&Val>) -> Result<PresentationWord, NoMemory>
+    ensures { IfOk result (λ x. x ≡ unit_by which (option_copied v.entry)) }
 {
     match which {
         0 => Ok(PresentationWord::Connect(connect_in(alloc, part_in(1, v))?)),
@@ -118,10 +118,10 @@ fn said_by(alloc: Global, which: u32, v: Option<&Val>) -> Result<PresentationWor
 }
 
 /// The unit that a value says.
-pub(crate) fn said(alloc: Global, value: &Val) -> Result<PresentationWord, NoMemory>
-    ensures { IfOk result (λ x. x ≡ said value.now) }
+pub(crate) fn unit_in(alloc: Global, value: &Val) -> Result<PresentationWord, NoMemory>
+    ensures { IfOk result (λ x. x ≡ unit_in value.now) }
 {
-    said_by(alloc, alternative(Some(value)), chosen_in(Some(value)))
+    unit_by(alloc, alternative(Some(value)), chosen_in(Some(value)))
 }
 
 fn octets_part(alloc: Global, string: &Option<Octets>) -> Result<Option<Val>, NoMemory>

@@ -15,8 +15,8 @@ use Rattle.end_model.specs.end_rules.State.{Body, OpenCall, Calls, Queued, Piece
 use Rattle.end_model.specs.end_rules.State.{is_key, opened_with, orphaned, closed, close, from_mark, up_to, newest_set, highest, pieces_of, confirmed_of}
 use Rattle.end_model.specs.end_rules.State.{resumed_set, on_transfer, on_current}
 use Rattle.end_model.specs.end_rules.Invoking.{is_on_module}
-use Rattle.end_model.specs.end_rules.Hearing.{is_silent_at, opening, Heard, told, Rejecting, unless_problem, invoked, invoke_problem}
-use Rattle.end_model.specs.end_rules.Hearing.{result_problem, hear_result_of, error_problem, error_told, hear_error_of, is_of_invocation, hear_reject, hear}
+use Rattle.end_model.specs.end_rules.Hearing.{is_silent_at, opening, Heard, showing, Rejecting, unless_problem, invoked, invoke_problem}
+use Rattle.end_model.specs.end_rules.Hearing.{result_problem, hear_result_of, error_problem, showing_error, hear_error_of, is_of_invocation, hear_reject, hear}
 use Rattle.end_model.specs.end_rules.Hearing.{with_reject, take_head, take_values}
 use Rattle.end_model.specs.end_rules.Requesting.{begun, resumed}
 use Rattle.end_model.specs.end_rules.TakesActivities.{values_arrived}
@@ -157,7 +157,7 @@ module _ (name : List ℕ) (first : List SetItem) (base : Base) (calls : Calls) 
   result-loose id None code value = loose
   result-loose id (Some o) code value = unless-loose (result_problem base o.operation (operation_at base.tables o.operation) code value) _ _ (λ n. close-loose true id) (close-loose true id)
 
-  told-loose : (id : ℤ) (place : Option ℕ) (parameter : Carried) → HeardLoose name first (error_told (close true id calls) id place parameter)
+  told-loose : (id : ℤ) (place : Option ℕ) (parameter : Carried) → HeardLoose name first (showing_error (close true id calls) id place parameter)
   told-loose id None parameter = close-loose true id
   told-loose id (Some place) parameter = close-loose true id
 
@@ -169,7 +169,7 @@ module _ (name : List ℕ) (first : List SetItem) (base : Base) (calls : Calls) 
   reject-loose None problem = loose
   reject-loose (Some id) problem = go (is_of_invocation problem.kind && is_some (opened_with true id calls.opens))
     where
-      go : (b : Bool) → HeardLoose name first (if b then told (close true id calls) (indications.Rejected id problem) else told calls (indications.RejectTaken (Some id) problem))
+      go : (b : Bool) → HeardLoose name first (if b then showing (close true id calls) (indications.Rejected id problem) else showing calls (indications.RejectTaken (Some id) problem))
       go true = close-loose true id
       go false = loose
 

@@ -141,12 +141,12 @@ module _ (base : Base) (es : List Entry) (own : Invoking) (performed : Kept) (mi
     shut_error code e = sym (ap (λ (o : Option ends.OpenCall). rules.hear_error_of base calls id o (error_with base.tables code) v) (none_open the_open (matches None e)))
 
     result_by_found : (p : Option ℕ) (j : values_or_problems.ValueOrProblem) → of_apdus.IsValueOrProblem p (rules.value_in v) j
-        → heard_with (ends.close true id calls) (result_taken id j) ≡ rules.unless_problem p (rules.rejected (ends.close true id calls) (Some id) problems.Result) (rules.told (ends.close true id calls) (indications.Result id (rules.value_in v)))
+        → heard_with (ends.close true id calls) (result_taken id j) ≡ rules.unless_problem p (rules.rejected (ends.close true id calls) (Some id) problems.Result) (rules.showing (ends.close true id calls) (indications.Result id (rules.value_in v)))
     result_by_found p (value_or_problem.Right w) h =
-        sym (ap (λ (x : Option ℕ). rules.unless_problem x (rules.rejected (ends.close true id calls) (Some id) problems.Result) (rules.told (ends.close true id calls) (indications.Result id (rules.value_in v)))) h.0
-        ∙ ap (λ (x : Option Val). rules.told (ends.close true id calls) (indications.Result id x)) (sym h.1))
+        sym (ap (λ (x : Option ℕ). rules.unless_problem x (rules.rejected (ends.close true id calls) (Some id) problems.Result) (rules.showing (ends.close true id calls) (indications.Result id (rules.value_in v)))) h.0
+        ∙ ap (λ (x : Option Val). rules.showing (ends.close true id calls) (indications.Result id x)) (sym h.1))
     result_by_found p (value_or_problem.Wrong n) h =
-        sym (ap (λ (x : Option ℕ). rules.unless_problem x (rules.rejected (ends.close true id calls) (Some id) problems.Result) (rules.told (ends.close true id calls) (indications.Result id (rules.value_in v)))) h)
+        sym (ap (λ (x : Option ℕ). rules.unless_problem x (rules.rejected (ends.close true id calls) (Some id) problems.Result) (rules.showing (ends.close true id calls) (indications.Result id (rules.value_in v)))) h)
 
     pub heard_result : (t : Tables) → base.tables ≡ t → (c : InvokedWith) → called id own.kept ≡ Some c → (code : Option Code) (j : values_or_problems.ValueOrProblem)
         → of_apdus.IsValueOrProblem (of_apdus.result_problem t c.operation (operation_at t c.operation) code v) (rules.value_in v) j
@@ -159,14 +159,14 @@ module _ (base : Base) (es : List Entry) (own : Invoking) (performed : Kept) (mi
         result_by_found _ j h3 ∙ sym (ap (λ (o : Option ends.OpenCall). rules.hear_result_of base calls id o code v) m.1)
 
     error_by_found : (error : Option ℕ) (p : Option ℕ) (j : values_or_problems.ValueOrProblem) → of_apdus.IsValueOrProblem p (rules.value_in v) j
-        → heard_with (ends.close true id calls) (error_taken id error j) ≡ rules.unless_problem p (rules.rejected (ends.close true id calls) (Some id) problems.Error) (rules.error_told (ends.close true id calls) id error v)
+        → heard_with (ends.close true id calls) (error_taken id error j) ≡ rules.unless_problem p (rules.rejected (ends.close true id calls) (Some id) problems.Error) (rules.showing_error (ends.close true id calls) id error v)
     error_by_found None p (value_or_problem.Right w) h =
-        sym (ap (λ (x : Option ℕ). rules.unless_problem x (rules.rejected (ends.close true id calls) (Some id) problems.Error) (rules.error_told (ends.close true id calls) id None v)) h.0)
+        sym (ap (λ (x : Option ℕ). rules.unless_problem x (rules.rejected (ends.close true id calls) (Some id) problems.Error) (rules.showing_error (ends.close true id calls) id None v)) h.0)
     error_by_found (Some error) p (value_or_problem.Right w) h =
-        sym (ap (λ (x : Option ℕ). rules.unless_problem x (rules.rejected (ends.close true id calls) (Some id) problems.Error) (rules.error_told (ends.close true id calls) id (Some error) v)) h.0
-        ∙ ap (λ (x : Option Val). rules.told (ends.close true id calls) (indications.Error id error x)) (sym h.1))
+        sym (ap (λ (x : Option ℕ). rules.unless_problem x (rules.rejected (ends.close true id calls) (Some id) problems.Error) (rules.showing_error (ends.close true id calls) id (Some error) v)) h.0
+        ∙ ap (λ (x : Option Val). rules.showing (ends.close true id calls) (indications.Error id error x)) (sym h.1))
     error_by_found error p (value_or_problem.Wrong n) h =
-        sym (ap (λ (x : Option ℕ). rules.unless_problem x (rules.rejected (ends.close true id calls) (Some id) problems.Error) (rules.error_told (ends.close true id calls) id error v)) h)
+        sym (ap (λ (x : Option ℕ). rules.unless_problem x (rules.rejected (ends.close true id calls) (Some id) problems.Error) (rules.showing_error (ends.close true id calls) id error v)) h)
 
     pub heard_error : (t : Tables) → base.tables ≡ t → (c : InvokedWith) → called id own.kept ≡ Some c → (code : Code) (error : Option ℕ) → error ≡ error_with t code → (j : values_or_problems.ValueOrProblem)
         → of_apdus.IsValueOrProblem (of_apdus.error_problem t (operation_at t c.operation) error v) (rules.value_in v) j
@@ -184,16 +184,16 @@ module _ (base : Base) (es : List Entry) (own : Invoking) (performed : Kept) (mi
       → heard_with (ends.close true id calls) (taken.Rejected id problem) ≡ rules.hear base calls context (RejectHead (Some id) problem)
   heard_rejected problem c e f =
       let m = one_open the_open c (matches (Some c) f) in
-      sym (λ k. cond (e k && is_some (m.1 k)) (rules.told (ends.close true id calls) (indications.Rejected id problem)) (rules.told calls (indications.RejectTaken (Some id) problem)))
+      sym (λ k. cond (e k && is_some (m.1 k)) (rules.showing (ends.close true id calls) (indications.Rejected id problem)) (rules.showing calls (indications.RejectTaken (Some id) problem)))
 
   pub heard_of_other : (problem : Problem) → rules.is_of_invocation problem.kind ≡ false → heard_with calls (taken.RejectTaken (Some id) problem) ≡ rules.hear base calls context (RejectHead (Some id) problem)
   heard_of_other problem e =
-      sym (ap (λ (b : Bool). cond (b && is_some the_open) (rules.told (ends.close true id calls) (indications.Rejected id problem)) (rules.told calls (indications.RejectTaken (Some id) problem))) e)
+      sym (ap (λ (b : Bool). cond (b && is_some the_open) (rules.showing (ends.close true id calls) (indications.Rejected id problem)) (rules.showing calls (indications.RejectTaken (Some id) problem))) e)
 
   pub heard_of_shut : (problem : Problem) → rules.is_of_invocation problem.kind ≡ true → called id own.kept ≡ None → heard_with calls (taken.RejectTaken (Some id) problem) ≡ rules.hear base calls context (RejectHead (Some id) problem)
   heard_of_shut problem e f =
       let n = none_open the_open (matches None f) in
-      sym (λ k. cond (e k && is_some (n k)) (rules.told (ends.close true id calls) (indications.Rejected id problem)) (rules.told calls (indications.RejectTaken (Some id) problem)))
+      sym (λ k. cond (e k && is_some (n k)) (rules.showing (ends.close true id calls) (indications.Rejected id problem)) (rules.showing calls (indications.RejectTaken (Some id) problem)))
 
 pub heard_other : (base : Base) (es : List Entry) (own : Invoking) (performed : Kept) (mine : AreOpen true es own.kept) (context : ℕ) (id : Option ℤ) (problem : Problem) → rules.is_of_invocation problem.kind ≡ false
     → heard_with (calls_of es own performed) (taken.RejectTaken id problem) ≡ rules.hear base (calls_of es own performed) context (RejectHead id problem)

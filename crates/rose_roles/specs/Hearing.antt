@@ -11,7 +11,7 @@ use Rattle.end_wire.specs.apdu_codec.declared.fault.HeadFault.TheVariants as fau
 use Rattle.dialogue.specs.declared.indication.Indication.TheVariants as indications
 use Rattle.end_wire.specs.end_rules.Base.{Base, Carried, HeardHead}
 use Rattle.end_wire.specs.end_rules.State as ends
-use Rattle.end_wire.specs.end_rules.Hearing.{Heard, told, hear, problem_with}
+use Rattle.end_wire.specs.end_rules.Hearing.{Heard, showing, hear, problem_with}
 use Rattle.rose_roles.specs.declared.apdu_taken.RoseTaken as takens
 use Rattle.rose_roles.specs.declared.apdu_taken.RoseTaken.TheVariants as taken
 use Rattle.rose_roles.specs.declared.apdu_problems.ValueOrProblem as values_or_problems
@@ -20,12 +20,12 @@ use Rattle.rose_roles.specs.Heads.{HeadCarries, said_by}
 
 -- an answer as an indication, or as the reject that is due
 abbrev pub heard_with : ends.Calls → takens.RoseTaken → Heard
-heard_with calls (taken.Invoked id operation linked argument) = told calls (indications.Invoked id operation linked argument)
-heard_with calls (taken.Result id value) = told calls (indications.Result id value)
-heard_with calls (taken.Error id error parameter) = told calls (indications.Error id error parameter)
-heard_with calls (taken.Rejected id problem) = told calls (indications.Rejected id problem)
-heard_with calls (taken.RejectTaken id problem) = told calls (indications.RejectTaken id problem)
-heard_with calls taken.BadReject = told calls indications.BadReject
+heard_with calls (taken.Invoked id operation linked argument) = showing calls (indications.Invoked id operation linked argument)
+heard_with calls (taken.Result id value) = showing calls (indications.Result id value)
+heard_with calls (taken.Error id error parameter) = showing calls (indications.Error id error parameter)
+heard_with calls (taken.Rejected id problem) = showing calls (indications.Rejected id problem)
+heard_with calls (taken.RejectTaken id problem) = showing calls (indications.RejectTaken id problem)
+heard_with calls taken.BadReject = showing calls indications.BadReject
 heard_with calls (taken.Reject id problem) = record { calls = calls; shown = []; reject = Some (record { id = id; problem = problem }) }
 
 -- The answer, with the open invocations afterwards, is what an end with these tables hears in a head that carries this.

@@ -17,7 +17,7 @@ use Rattle.fixed_tables.specs.Whole.{whole_at}
 use Rattle.fixed_tables.proofs.Numbers.{natural_fits, number_fits}
 use Rattle.fixed_tables.proofs.WholeLaws.{whole_is_spelled, spelled_is_whole}
 use Rattle.rtse_apdus.specs.Rows.{rtse_row, rtse_rows}
-use Rattle.rtse_apdus.specs.Words.{said, value_of}
+use Rattle.rtse_apdus.specs.Words.{apdu_in, value_of}
 use Rattle.rtse_apdus.specs.Reading.{SpellsRtse, limit_of, of_value, rtse_at}
 use Rattle.rtse_apdus.specs.Written.{are_octets, can_write, written_rtse, IsWritable}
 use Rattle.rtse_apdus.specs.Laws.{RtseIsSpelled, SpelledRtseIsRead, WrittenRtseIsRead}
@@ -80,7 +80,7 @@ natural_is n lt = rw (lt-ltb n (2 ^ 32) lt) refl
 small_is : (n : ℕ) → nat_lt n 256 ≡ true → natural_in (pos n) ≡ n
 small_is n h = let lt = ltb-true n 256 h in natural_is n (omega arith)
 
-pub writable_says : (a : apdus.Rtse) → can_write a ≡ true → said (value_of a) ≡ a
+pub writable_says : (a : apdus.Rtse) → can_write a ≡ true → apdu_in (value_of a) ≡ a
 writable_says (apdu.OpenRequest checkpoint window mode (connection.Open value)) h =
     let p = and_parts (nat_lt checkpoint 256 && nat_lt window 256 && is_number mode) (is_whole value) h in
     let q = and_parts (nat_lt checkpoint 256 && nat_lt window 256) (is_number mode) p.0 in

@@ -7,7 +7,7 @@ use Rattle.ber_spelling.specs.Spelling.{Spells}
 use Rattle.fixed_tables.specs.declared.pdu.PduFault as units
 use Rattle.fixed_tables.specs.Whole.{whole_at}
 use Rattle.rtse_apdus.specs.Rows.{rtse_row, rtse_rows}
-use Rattle.rtse_apdus.specs.Words.{said}
+use Rattle.rtse_apdus.specs.Words.{apdu_in}
 
 -- A part of a transfer, an OCTET STRING, may fill a transport unit; other APDUs have at most 262,144 octets.
 abbrev pub limit_of : List ℕ → ℕ
@@ -17,10 +17,10 @@ limit_of octets = if slice_index octets 0 == 4 || slice_index octets 0 == 36 the
 pub record SpellsRtse (apdu : apdus.Rtse) (octets : List ℕ) : Type 0 where
   pub value : Value
   pub spelled : Spells rtse_rows rtse_row false (limit_of octets) value octets
-  pub says : said value ≡ apdu
+  pub says : apdu_in value ≡ apdu
 
 abbrev pub of_value : Result Value units.PduFault → Result apdus.Rtse units.PduFault
-of_value (Ok v) = Ok (said v)
+of_value (Ok v) = Ok (apdu_in v)
 of_value (Err e) = Err e
 
 -- the APDU that all of these octets spell, or their first fault

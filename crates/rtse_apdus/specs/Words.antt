@@ -21,16 +21,16 @@ abbrev pub accept_in : Option Value → apdus.Rtse
 accept_in v = apdu.OpenAccept (small_or (pos 0) (part_in 0 v)) (small_or (pos 3) (part_in 1 v)) (data_in (part_in 2 v))
 
 -- the APDU of an alternative with its value
-abbrev pub said_by : ℕ → Option Value → apdus.Rtse
-said_by which v =
+abbrev pub apdu_by : ℕ → Option Value → apdus.Rtse
+apdu_by which v =
     if which == 0 then request_in v
     else (if which == 1 then accept_in v
     else (if which == 2 then apdu.OpenReject (reason_in v)
     else (if which == 3 then apdu.Abort (reason_in v)
     else (if which == 4 then apdu.TurnPlease (small_or (pos 0) v) else apdu.Transfer (octets_in v)))))
 
-abbrev pub said : Value → apdus.Rtse
-said v = said_by (alternative (Some v)) (inside (Some v))
+abbrev pub apdu_in : Value → apdus.Rtse
+apdu_in v = apdu_by (alternative (Some v)) (inside (Some v))
 
 -- ---- the value that says it: all fields stand, those with their defaults too
 

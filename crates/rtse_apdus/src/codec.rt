@@ -6,7 +6,7 @@ ghost use Rattle.rtse_apdus.specs.Reading.{limit_of, rtse_at};
 ghost use Rattle.rtse_apdus.specs.Written.{written_rtse};
 
 use crate::table::{APDU, RtseTable};
-use crate::words::{said, value_of};
+use crate::words::{apdu_in, value_of};
 use ber_writing::ber_octets;
 use fixed_tables::{PduFault, whole};
 use osi_base::{NoMemory, Octets, Rtse};
@@ -29,7 +29,7 @@ impl RtseTable {
         ensures { GivesWhole result (rtse_at bytes.now) }
     {
         let value = whole(alloc, &self.types, APDU, bytes, limit_of(bytes))?;
-        Ok(said(alloc, &value)?)
+        Ok(apdu_in(alloc, &value)?)
     }
 
     /// The octets of an APDU, in its one spelling: all fields stand, those with their defaults too.

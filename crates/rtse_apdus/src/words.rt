@@ -2,7 +2,7 @@
 
 ghost use Rattle.std.specs.Prelude.{◌≡◌, IfOk};
 ghost use Rattle.std.specs.Option.{option_copied};
-ghost use Rattle.rtse_apdus.specs.Words.{data_in, request_in, accept_in, said_by, said, data_value, value_of};
+ghost use Rattle.rtse_apdus.specs.Words.{data_in, request_in, accept_in, apdu_by, apdu_in, data_value, value_of};
 
 use asn1_types::Val;
 use fixed_tables::{
@@ -47,8 +47,8 @@ fn accept_in(alloc: Global, value: Option<&Val>) -> Result<Rtse, NoMemory>
 }
 
 /// The APDU that a value says.
-pub(crate) fn said(alloc: Global, value: &Val) -> Result<Rtse, NoMemory>
-    ensures { IfOk result (λ x. x ≡ said value.now) }
+pub(crate) fn apdu_in(alloc: Global, value: &Val) -> Result<Rtse, NoMemory>
+    ensures { IfOk result (λ x. x ≡ apdu_in value.now) }
 {
     let inner = chosen_in(Some(value));
     match alternative(Some(value)) {

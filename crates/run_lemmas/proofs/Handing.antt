@@ -18,7 +18,7 @@ use Rattle.dialogue.specs.declared.indication.Indication.TheVariants as indicati
 use Rattle.end_rules.specs.Base.{Base, HeardHead, General, BadReject, InvokeHead, ResultHead, ErrorHead, RejectHead, Carried}
 use Rattle.end_rules.specs.State.{OpenCall, Calls, opened_with, close}
 use Rattle.end_rules.specs.Invoking.{result_apdu, error_apdu, returned_with}
-use Rattle.end_rules.specs.Hearing.{Heard, told, unless_problem, invoke_problem, invoked, opening, is_silent_at, result_problem, hear_result_of, error_problem, error_told, hear_error_of, is_of_invocation, hear_reject, hear, head_of_apdu, carried_in, code_returned, value_returned}
+use Rattle.end_rules.specs.Hearing.{Heard, showing, unless_problem, invoke_problem, invoked, opening, is_silent_at, result_problem, hear_result_of, error_problem, showing_error, hear_error_of, is_of_invocation, hear_reject, hear, head_of_apdu, carried_in, code_returned, value_returned}
 use Rattle.end_rules.specs.Requesting.{result_for, error_for}
 use Rattle.outcome_laws.specs.Outcomes.{value_of}
 use Rattle.run_laws.specs.Outcomes.{Invocation, ToldOutcome, returned, failed, IsIn}
@@ -87,7 +87,7 @@ result-made : (base : Base) (calls : Calls) (id : ℤ) (o : Option OpenCall) (co
 result-made base calls id None code value = refl
 result-made base calls id (Some o) code value = unless-made calls (result_problem base o.operation (operation_at base.tables o.operation) code value) _ _ (λ n. refl) refl
 
-told-made : (calls : Calls) (id : ℤ) (place : Option ℕ) (parameter : Carried) → (error_told calls id place parameter).calls.made ≡ calls.made
+told-made : (calls : Calls) (id : ℤ) (place : Option ℕ) (parameter : Carried) → (showing_error calls id place parameter).calls.made ≡ calls.made
 told-made calls id None parameter = refl
 told-made calls id (Some place) parameter = refl
 
@@ -99,7 +99,7 @@ reject-made : (calls : Calls) (id : Option ℤ) (problem : Problem) → (hear_re
 reject-made calls None problem = refl
 reject-made calls (Some id) problem = go (is_of_invocation problem.kind && is_some (opened_with true id calls.opens))
   where
-    go : (b : Bool) → (if b then told (close true id calls) (indications.Rejected id problem) else told calls (indications.RejectTaken (Some id) problem)).calls.made ≡ calls.made
+    go : (b : Bool) → (if b then showing (close true id calls) (indications.Rejected id problem) else showing calls (indications.RejectTaken (Some id) problem)).calls.made ≡ calls.made
     go true = refl
     go false = refl
 
@@ -133,7 +133,7 @@ hear-ids base calls context (apdus.Result id value) = go (opened_with true id ca
     go (Some o) = unless-ids [] (result_problem base o.operation (operation_at base.tables o.operation) (code_returned value) (value_returned value)) _ _ (λ n. refl) (inl refl)
 hear-ids base calls context (apdus.Error id code parameter) = go (opened_with true id calls.opens)
   where
-    by-place : (place : Option ℕ) → IsOneOf (invoked_ids (error_told (close true id calls) id place (carried_in parameter)).shown) []
+    by-place : (place : Option ℕ) → IsOneOf (invoked_ids (showing_error (close true id calls) id place (carried_in parameter)).shown) []
     by-place None = inl refl
     by-place (Some place) = inl refl
 
@@ -143,6 +143,6 @@ hear-ids base calls context (apdus.Error id code parameter) = go (opened_with tr
 hear-ids base calls context (apdus.Reject None problem) = inl refl
 hear-ids base calls context (apdus.Reject (Some id) problem) = go (is_of_invocation problem.kind && is_some (opened_with true id calls.opens))
   where
-    go : (b : Bool) → IsOneOf (invoked_ids (if b then told (close true id calls) (indications.Rejected id problem) else told calls (indications.RejectTaken (Some id) problem)).shown) []
+    go : (b : Bool) → IsOneOf (invoked_ids (if b then showing (close true id calls) (indications.Rejected id problem) else showing calls (indications.RejectTaken (Some id) problem)).shown) []
     go true = inl refl
     go false = inl refl

@@ -23,7 +23,7 @@ use Rattle.end_rules.specs.Sets.{Alteration, Saved, carrier, may_send, lowest_wi
 use Rattle.osi_base.specs.SetPlaces.{pair_of, without_context}
 use Rattle.end_rules.specs.State.{Body, Calls, OpenCall, opened_with, close, is_free, is_current, is_ending}
 use Rattle.end_rules.specs.Policy.{policy, is_faulty_proposal}
-use Rattle.end_rules.specs.Hearing.{Heard, told, unless_problem, invoked, invoke_problem, hear, hear_result_of, result_problem, hear_error_of, error_problem, error_told, hear_reject, is_of_invocation, head_of_apdu, carried_in, code_returned, value_returned}
+use Rattle.end_rules.specs.Hearing.{Heard, showing, unless_problem, invoked, invoke_problem, hear, hear_result_of, result_problem, hear_error_of, error_problem, showing_error, hear_reject, is_of_invocation, head_of_apdu, carried_in, code_returned, value_returned}
 use Rattle.agreement.specs.Sets.{IsRising}
 use Rattle.agreement.proofs.Order.{rising-put, rising-remove}
 use Rattle.end_model.specs.Seen.{pair_seen, set_seen}
@@ -187,7 +187,7 @@ module _ (name : List ℕ) (first : List SetItem) (base : Base) (calls : Calls) 
   result-loose id None code value = loose
   result-loose id (Some o) code value = unless-loose (result_problem base o.operation (operation_at base.tables o.operation) code value) _ _ (λ n. close-loose true id) (close-loose true id)
 
-  told-loose : (id : ℤ) (place : Option ℕ) (parameter : Carried) → HeardLoose name first (error_told (close true id calls) id place parameter)
+  told-loose : (id : ℤ) (place : Option ℕ) (parameter : Carried) → HeardLoose name first (showing_error (close true id calls) id place parameter)
   told-loose id None parameter = close-loose true id
   told-loose id (Some place) parameter = close-loose true id
 
@@ -199,7 +199,7 @@ module _ (name : List ℕ) (first : List SetItem) (base : Base) (calls : Calls) 
   reject-loose None problem = loose
   reject-loose (Some id) problem = go (is_of_invocation problem.kind && is_some (opened_with true id calls.opens))
     where
-      go : (b : Bool) → HeardLoose name first (if b then told (close true id calls) (indications.Rejected id problem) else told calls (indications.RejectTaken (Some id) problem))
+      go : (b : Bool) → HeardLoose name first (if b then showing (close true id calls) (indications.Rejected id problem) else showing calls (indications.RejectTaken (Some id) problem))
       go true = close-loose true id
       go false = loose
 

@@ -15,7 +15,7 @@ use Rattle.stub_tables.specs.Lookup.{operation_at, operation_with, error_at, err
 use Rattle.end_model.specs.end_rules.Base.{Base, Carried}
 use Rattle.end_model.specs.end_rules.State.{Calls, OpenCall, opened_with, opens_of, is_empty, close}
 use Rattle.end_model.specs.end_rules.Invoking.{is_linked_to, operation_of}
-use Rattle.end_model.specs.end_rules.Hearing.{Heard, Rejecting, reject_apdu, rejected, told, unless_problem, first_problem, problem_if, problem_with, is_silent_at, has_links, is_right, is_right_result, link_problem, argument_problem, operation_problem, invoke_problem, invoked, result_problem, known_error_problem, error_problem, error_told, hear_result_of, hear_error_of, hear_reject, is_of_invocation, hear, head_of_apdu, value_in, carried_in, code_returned, value_returned}
+use Rattle.end_model.specs.end_rules.Hearing.{Heard, Rejecting, reject_apdu, rejected, showing, unless_problem, first_problem, problem_if, problem_with, is_silent_at, has_links, is_right, is_right_result, link_problem, argument_problem, operation_problem, invoke_problem, invoked, result_problem, known_error_problem, error_problem, showing_error, hear_result_of, hear_error_of, hear_reject, is_of_invocation, hear, head_of_apdu, value_in, carried_in, code_returned, value_returned}
 use Rattle.dialogue.specs.declared.indication.Indication.TheVariants as indications
 use Rattle.end_model.specs.OpenInvocations.{IsNumber, IsProper}
 use Rattle.reliable_model.specs.Codecs.{IsTransferable}
@@ -83,7 +83,7 @@ module _ (base : Base) where
   result-right calls id None code value i = right id problems.Result 0 i (omega arith)
   result-right calls id (Some o) code value i =
       unless-right (result_problem base o.operation (operation_at base.tables o.operation) code value) (close true id calls) id problems.Result
-      (told (close true id calls) (indications.Result id (value_in value))) i (result-small o.operation (operation_at base.tables o.operation) code value) tt
+      (showing (close true id calls) (indications.Result id (value_in value))) i (result-small o.operation (operation_at base.tables o.operation) code value) tt
 
   known-small : (operation : Operation) (place : Option ℕ) (parameter : Carried) → IsSmall (known_error_problem base operation place parameter)
   known-small operation None parameter = omega arith
@@ -100,7 +100,7 @@ module _ (base : Base) where
   error-small (Some operation) place parameter =
       first-small (problem_if (is_empty operation.errors) 1) (known_error_problem base operation place parameter) (if-small (is_empty operation.errors) 1 (omega arith)) (known-small operation place parameter)
 
-  told-right : (calls : Calls) (id : ℤ) (place : Option ℕ) (parameter : Carried) → IsNumber id → IsRight base (error_told calls id place parameter).reject
+  told-right : (calls : Calls) (id : ℤ) (place : Option ℕ) (parameter : Carried) → IsNumber id → IsRight base (showing_error calls id place parameter).reject
   told-right calls id None parameter i = right id problems.Error 2 i (omega arith)
   told-right calls id (Some place) parameter i = tt
 
@@ -108,7 +108,7 @@ module _ (base : Base) where
   error-right calls id None place parameter i = right id problems.Error 0 i (omega arith)
   error-right calls id (Some o) place parameter i =
       unless-right (error_problem base (operation_at base.tables o.operation) place parameter) (close true id calls) id problems.Error
-      (error_told (close true id calls) id place parameter) i (error-small (operation_at base.tables o.operation) place parameter) (told-right (close true id calls) id place parameter i)
+      (showing_error (close true id calls) id place parameter) i (error-small (operation_at base.tables o.operation) place parameter) (told-right (close true id calls) id place parameter i)
 
   -- ---- rejects bring none
 
@@ -116,7 +116,7 @@ module _ (base : Base) where
   reject-right calls None problem = tt
   reject-right calls (Some id) problem = go (is_of_invocation problem.kind && is_some (opened_with true id calls.opens))
     where
-      go : (b : Bool) → IsRight base (if b then told (close true id calls) (indications.Rejected id problem) else told calls (indications.RejectTaken (Some id) problem)).reject
+      go : (b : Bool) → IsRight base (if b then showing (close true id calls) (indications.Rejected id problem) else showing calls (indications.RejectTaken (Some id) problem)).reject
       go true = tt
       go false = tt
 

@@ -35,7 +35,7 @@ digits_read a (d ∷ ds) below lt =
     let ge = number_after_ge 10 (a * 10 + d) ds (omega arith) in
     let low : ltb (d + 48) 48 ≡ false = le-ltb _ _ (omega arith) in
     let high : ltb 57 (d + 48) ≡ false = le-ltb _ _ (omega arith) in
-    let room : ltb 99999 a ≡ false = le-ltb _ _ (omega (arith, ge, lt)) in
+    let room : ltb 999999 (10 * a + (d + 48 - 48)) ≡ false = le-ltb _ _ (omega (arith, ge, lt)) in
     let same : 10 * a + (d + 48 - 48) ≡ a * 10 + d = omega arith in
     rw (low, high, room, same) (digits_read (a * 10 + d) ds below.1 lt)
 

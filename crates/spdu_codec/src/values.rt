@@ -3,6 +3,9 @@
 ghost use Rattle.std.specs.Prelude.{◌≡◌, ◌≤◌, IfSome};
 ghost use Rattle.spdu_codec.specs.Values.{octet_of, pair_of, number_of, mark_of};
 
+/// The last number of an activity.
+const LAST_NUMBER: u32 = 999_999;
+
 /// The octet of a value that has one.
 pub(crate) fn octet_of(value: &[u8]) -> Option<u8>
     ensures { result ≡ octet_of value.now }
@@ -34,10 +37,13 @@ pub(crate) fn number_of(value: &[u8]) -> Option<u32>
     let mut number = 0;
     let mut digits = value;
     while let [digit, rest @ ..] = digits {
-        if *digit < b'0' || *digit > b'9' || number > 99_999 {
+        if *digit < b'0' || *digit > b'9' {
             return None;
         }
         number = 10 * number + u32::from(*digit - b'0');
+        if number > LAST_NUMBER {
+            return None;
+        }
         digits = rest;
     }
     Some(number)

@@ -9,12 +9,12 @@ use Rattle.asn1_types.specs.Fits.{part_fits, parts_fit}
 use Rattle.asn1_types.specs.Rows.{rows_of_parts}
 use Rattle.asn1_types.specs.Table.{parts_agree, agrees_later}
 use Rattle.asn1_types.specs.Value.{Value, parts, MaybeValues, no_parts, absent, present}
-use Rattle.asn1_types.specs.ValueView.{parts_of}
+use Rattle.asn1_types.specs.ValueView.{parts_of, empty_slots}
 use Rattle.value_text.specs.Numbers.{kept_below}
 use Rattle.value_text.specs.Printed.{comma, parts_text, sequence_text}
 use Rattle.value_reading.specs.Found.{Found, Reader}
 use Rattle.value_reading.specs.Words.{word, behind_word, after_spaces, behind_sign, after_comma, closed_by, after_brace}
-use Rattle.value_reading.specs.Typed.{Slots, place_from, place_of, is_free, may_stand, part_at, kept_slot, kept_slots, closed_parts, behind_part, with_part, named_part, parts_at, no_slots, first_part, braced, sequence_at}
+use Rattle.value_reading.specs.Typed.{Slots, place_from, place_of, is_free, may_stand, part_at, kept_slot, kept_slots, closed_parts, behind_part, with_part, named_part, parts_at, first_part, braced, sequence_at}
 use Rattle.text_laws.specs.Laws.{may_follow, is_name, are_named}
 use Rattle.text_laws.proofs.Tests.{both_true, not_true}
 use Rattle.text_laws.proofs.Words.{word_is, behind_is}
@@ -101,7 +101,7 @@ module _ (fit : ℕ → Value → Bool) (text : ℕ → Value → List ℕ) (rea
   none_text first (p ∷ ps) (absent vs) s = none_text first ps vs s
   none_text first (p ∷ ps) (present v vs) s = absurd (let no : ⊥ = cc in no)
 
-  none_slots : (ps : List Part) (vs : MaybeValues) → parts_fit fit ps vs ≡ true → has_some vs ≡ false → slots_of vs ≡ no_slots ps
+  none_slots : (ps : List Part) (vs : MaybeValues) → parts_fit fit ps vs ≡ true → has_some vs ≡ false → slots_of vs ≡ empty_slots ps
   none_slots [] no_parts f s = refl
   none_slots [] (absent vs) f s = absurd (let no : ⊥ = cc in no)
   none_slots [] (present v vs) f s = absurd (let no : ⊥ = cc in no)
@@ -149,29 +149,29 @@ module _ (fit : ℕ → Value → Bool) (text : ℕ → Value → List ℕ) (rea
   -- behind a part: another one, or the brace
   go_on : (t : Bool) (ordered : Bool) (ps : List Part) (vs : MaybeValues) (all : List Part) (done : Slots) (left : ℕ) (v : Value) (rest : List ℕ) → has_some vs ≡ t
       → parts_fit fit ps vs ≡ true → list_all (λ (p : Part). is_name p.name) ps ≡ true
-      → (has_some vs ≡ true → parts_at read ordered all left ((done ++ Some v ∷ []) ++ no_slots ps) (length done + 1) (parts_text text true ps vs ++ 125 ∷ rest) ≡ closed_parts all ((done ++ Some v ∷ []) ++ slots_of vs) rest)
+      → (has_some vs ≡ true → parts_at read ordered all left ((done ++ Some v ∷ []) ++ empty_slots ps) (length done + 1) (parts_text text true ps vs ++ 125 ∷ rest) ≡ closed_parts all ((done ++ Some v ∷ []) ++ slots_of vs) rest)
       → (let behind = parts_text text false ps vs ++ 125 ∷ rest in
-      behind_part all (parts_at read ordered all left) (done ++ Some v ∷ no_slots ps) (length done + 1) (after_comma behind) (after_brace behind)) ≡ closed_parts all (done ++ Some v ∷ slots_of vs) rest
+      behind_part all (parts_at read ordered all left) (done ++ Some v ∷ empty_slots ps) (length done + 1) (after_comma behind) (after_brace behind)) ≡ closed_parts all (done ++ Some v ∷ slots_of vs) rest
   go_on true ordered ps vs all done left v rest t f n more =
       let next = parts_at read ordered all left in
       let goes = parts_text text true ps vs ++ 125 ∷ rest in
       let text_is : parts_text text false ps vs ++ 125 ∷ rest ≡ 44 ∷ 32 ∷ goes = ap (λ x. x ++ 125 ∷ rest) (with_comma ps vs f t) in
       let kept : after_spaces goes ≡ goes = spaces_kept (parts_text text true ps vs) (125 ∷ rest) (starts_parts ps vs rest f t n) in
-      ap (λ x. behind_part all next (done ++ Some v ∷ no_slots ps) (length done + 1) (after_comma x) (after_brace x)) text_is
-      ∙ ap (next (done ++ Some v ∷ no_slots ps) (length done + 1)) kept
-      ∙ ap (λ (xs : Slots). next xs (length done + 1) goes) (sym (append_assoc done (Some v ∷ []) (no_slots ps)))
+      ap (λ x. behind_part all next (done ++ Some v ∷ empty_slots ps) (length done + 1) (after_comma x) (after_brace x)) text_is
+      ∙ ap (next (done ++ Some v ∷ empty_slots ps) (length done + 1)) kept
+      ∙ ap (λ (xs : Slots). next xs (length done + 1) goes) (sym (append_assoc done (Some v ∷ []) (empty_slots ps)))
       ∙ more t ∙ ap (λ (xs : Slots). closed_parts all xs rest) (append_assoc done (Some v ∷ []) (slots_of vs))
   go_on false ordered ps vs all done left v rest t f n more =
       let next = parts_at read ordered all left in
       let text_is : parts_text text false ps vs ++ 125 ∷ rest ≡ 125 ∷ rest = ap (λ x. x ++ 125 ∷ rest) (none_text false ps vs t) in
-      ap (λ x. behind_part all next (done ++ Some v ∷ no_slots ps) (length done + 1) (after_comma x) (after_brace x)) text_is
+      ap (λ x. behind_part all next (done ++ Some v ∷ empty_slots ps) (length done + 1) (after_comma x) (after_brace x)) text_is
       ∙ ap (λ (xs : Slots). closed_parts all (done ++ Some v ∷ xs) rest) (sym (none_slots ps vs f t))
 
   -- the parts from here on, of which one at least is there
   parts_go : (ordered : Bool) (ps : List Part) (vs : MaybeValues) (all : List Part) (done : Slots) (left least : ℕ) (rest : List ℕ)
       → Behind all (length done) ps → least ≤ length done → how_many vs ≤ left → has_some vs ≡ true → parts_fit fit ps vs ≡ true
       → list_all (λ (p : Part). is_name p.name) ps ≡ true → Inners ps → agrees_later parts_agree all ≡ false → length all < 2 ^ 32
-      → parts_at read ordered all left (done ++ no_slots ps) least (parts_text text true ps vs ++ 125 ∷ rest) ≡ closed_parts all (done ++ slots_of vs) rest
+      → parts_at read ordered all left (done ++ empty_slots ps) least (parts_text text true ps vs ++ 125 ∷ rest) ≡ closed_parts all (done ++ slots_of vs) rest
   parts_go ordered [] no_parts all done left least rest b low few s f n inner apart short = absurd (let no : ⊥ = cc in no)
   parts_go ordered [] (absent vs) all done left least rest b low few s f n inner apart short = absurd (let no : ⊥ = cc in no)
   parts_go ordered [] (present v vs) all done left least rest b low few s f n inner apart short = absurd (let no : ⊥ = cc in no)
@@ -182,7 +182,7 @@ module _ (fit : ℕ → Value → Bool) (text : ℕ → Value → List ℕ) (rea
       let l = longer done None in
       let behind : Behind all (length (done ++ None ∷ [])) ps = subst (λ k. Behind all k ps) (sym l) (next_behind all (length done) p ps b) in
       let low2 : least ≤ length (done ++ None ∷ []) = omega (arith, l) in
-      ap (λ (xs : Slots). parts_at read ordered all left xs least (parts_text text true ps vs ++ 125 ∷ rest)) (sym (append_assoc done (None ∷ []) (no_slots ps)))
+      ap (λ (xs : Slots). parts_at read ordered all left xs least (parts_text text true ps vs ++ 125 ∷ rest)) (sym (append_assoc done (None ∷ []) (empty_slots ps)))
       ∙ parts_go ordered ps vs all (done ++ None ∷ []) left least rest behind low2 few s fs ns inner.1 apart short
       ∙ ap (λ (xs : Slots). closed_parts all xs rest) (append_assoc done (None ∷ []) (slots_of vs))
   parts_go ordered (p ∷ ps) (present v vs) all done zero least rest b low few s f n inner apart short = absurd (omega arith)
@@ -200,8 +200,8 @@ module _ (fit : ℕ → Value → Bool) (text : ℕ → Value → List ℕ) (rea
       let next : Behind all (length (done ++ Some v ∷ [])) ps = subst (λ k. Behind all k ps) (sym l) (next_behind all (length done) p ps b) in
       let low2 : length done + 1 ≤ length (done ++ Some v ∷ []) = omega (arith, l) in
       let few2 : how_many vs ≤ left = omega arith in
-      ap (parts_at read ordered all (suc left) (done ++ None ∷ no_slots ps) least) same
-      ∙ one_part ordered all left done (no_slots ps) least p v behind low at (found_place all (length done) p apart short at) ns.0 inner.0 vf (follows_parts ps vs rest)
+      ap (parts_at read ordered all (suc left) (done ++ None ∷ empty_slots ps) least) same
+      ∙ one_part ordered all left done (empty_slots ps) least p v behind low at (found_place all (length done) p apart short at) ns.0 inner.0 vf (follows_parts ps vs rest)
       ∙ go_on (has_some vs) ordered ps vs all done left v rest refl pf.1 ns.1
       (λ t. parts_go ordered ps vs all (done ++ Some v ∷ []) left (length done + 1) rest next low2 few2 t pf.1 ns.1 inner.1 apart short)
 

@@ -12,9 +12,10 @@ use Rattle.asn1_types.specs.Value.{Value}
 use Rattle.asn1_types.specs.Writing.{written}
 use Rattle.asn1_types.proofs.Along.{settled}
 use Rattle.asn1_types.proofs.Sound.{is_down}
+use Rattle.asn1_types.specs.ValueView.{empty_slots}
 use Rattle.value_reading.specs.Found.{Found, Reader}
 use Rattle.value_reading.specs.Words.{word, behind_word, after_spaces, behind_sign, closed_by}
-use Rattle.value_reading.specs.Typed.{Slots, place_of, may_stand, part_at, closed_parts, with_part, named_part, parts_at, no_slots, first_part, braced, sequence_at, list_at, as_read, chosen_at, alternative_at, named_alternative, choice_at, read_by, unread, read_as}
+use Rattle.value_reading.specs.Typed.{Slots, place_of, may_stand, part_at, closed_parts, with_part, named_part, parts_at, first_part, braced, sequence_at, list_at, as_read, chosen_at, alternative_at, named_alternative, choice_at, read_by, unread, read_as}
 
 module _ (f g : ℕ → Reader) where
   Same : List Part → Type 0
@@ -40,7 +41,7 @@ module _ (f g : ℕ → Reader) where
   first_same : (ordered : Bool) (ps : List Part) → AllByRecursion (λ m. f m ≡ g m) (rows_of_parts ps) → (inside : List ℕ) (closed : Option (List ℕ))
       → first_part f ordered ps inside closed ≡ first_part g ordered ps inside closed
   first_same ordered ps h inside (Some rest) = refl
-  first_same ordered ps h inside None = λ i. parts_same ordered ps h (length ps) i (no_slots ps) 0 inside
+  first_same ordered ps h inside None = λ i. parts_same ordered ps h (length ps) i (empty_slots ps) 0 inside
 
   braced_same : (ordered : Bool) (ps : List Part) → AllByRecursion (λ m. f m ≡ g m) (rows_of_parts ps) → (inside : Option (List ℕ))
       → braced f ordered ps inside ≡ braced g ordered ps inside

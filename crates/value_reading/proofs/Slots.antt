@@ -5,7 +5,7 @@ use Rattle.std.proofs.Math.ListN.{drop_of_length-le}
 use Rattle.asn1_types.specs.declared.row.Item.{Item}
 use Rattle.asn1_types.specs.declared.row.Part.{Part}
 use Rattle.asn1_types.specs.Value.{integer}
-use Rattle.value_reading.specs.Typed.{Slots, item_named, place_from, no_slots, kept_slot, kept_slots}
+use Rattle.value_reading.specs.Typed.{item_named, place_from, kept_slot, kept_slots}
 
 dropped : {X : Type 0} (xs : List X) (i : ℕ) (d : X) → i < length xs → drop i xs ≡ get_or xs i d ∷ drop (i + 1) xs
 dropped xs i d h = rw (add-one, drop-cons xs i d) refl
@@ -31,14 +31,3 @@ place_past parts i d name h e = let one : i + 1 ≡ suc i = omega arith in rw (d
 
 pub no_place : (parts : List Part) (i : ℕ) (name : List ℕ) → length parts ≤ i → place_from i (drop i parts) name ≡ None
 no_place parts i name h = rw (drop_of_length-le parts h) refl
-
-each_empty : (parts : List Part) (i : ℕ) → i < length parts → no_slots (drop i parts) ≡ None ∷ no_slots (drop (i + 1) parts)
-each_empty [] i h = absurd (omega arith)
-each_empty (p ∷ parts) i h = ap no_slots (dropped (p ∷ parts) i p h)
-
-pub empty_more : (parts : List Part) (i : ℕ) (slots : Slots) → i < length parts
-    → slots ++ no_slots (drop i parts) ≡ (slots ++ None ∷ []) ++ no_slots (drop (i + 1) parts)
-empty_more parts i slots h = rw (each_empty parts i h) (sym (append_assoc slots (None ∷ []) (no_slots (drop (i + 1) parts))))
-
-pub empty_all : (parts : List Part) (i : ℕ) (slots : Slots) → length parts ≤ i → slots ++ no_slots (drop i parts) ≡ slots
-empty_all parts i slots h = rw (drop_of_length-le parts h) (append-nil slots)

@@ -11,7 +11,7 @@ use Rattle.asn1_types.specs.Fits.{fits}
 use Rattle.asn1_types.specs.Rising.{sorted}
 use Rattle.asn1_types.specs.Writing.{written}
 use Rattle.asn1_types.specs.Value.{Value, integer, parts, list, chosen}
-use Rattle.asn1_types.specs.ValueView.{parts_of, values_of}
+use Rattle.asn1_types.specs.ValueView.{parts_of, values_of, empty_slots}
 use Rattle.value_text.specs.Numbers.{kept_below}
 use Rattle.value_reading.specs.Found.{Found, Reader, found_before, Listed}
 use Rattle.value_reading.specs.Words.{word, behind_word, after_spaces, behind_sign, after_comma, closed_by, after_brace}
@@ -87,13 +87,10 @@ parts_at inner ordered ps zero slots least text = None
 parts_at inner ordered ps (suc left) slots least text =
     named_part inner ordered ps (parts_at inner ordered ps left) slots least (place_of ps (word text)) (behind_word text)
 
-abbrev pub no_slots : List Part → Slots
-no_slots ps = map (λ (p : Part). None) ps
-
 -- inside the braces: nothing, or parts
 abbrev pub first_part : (ℕ → Reader) → Bool → List Part → List ℕ → Option (List ℕ) → Option Found
-first_part inner ordered ps inside (Some rest) = closed_parts ps (no_slots ps) rest
-first_part inner ordered ps inside None = parts_at inner ordered ps (length ps) (no_slots ps) 0 inside
+first_part inner ordered ps inside (Some rest) = closed_parts ps (empty_slots ps) rest
+first_part inner ordered ps inside None = parts_at inner ordered ps (length ps) (empty_slots ps) 0 inside
 
 abbrev pub braced : (ℕ → Reader) → Bool → List Part → Option (List ℕ) → Option Found
 braced inner ordered ps None = None

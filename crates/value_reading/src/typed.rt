@@ -6,9 +6,10 @@ ghost use Rattle.asn1_types.specs.Rows.{rows_of_parts};
 ghost use Rattle.asn1_types.specs.Table.{IsRowOf};
 ghost use Rattle.asn1_types.specs.Rising.{sorted};
 ghost use Rattle.asn1_types.specs.Writing.{written};
+ghost use Rattle.asn1_types.specs.ValueView.{empty_slots};
 ghost use Rattle.value_reading.specs.Found.{found, found_before, listed};
 ghost use Rattle.value_reading.specs.Words.{word, behind_word, behind_sign};
-ghost use Rattle.value_reading.specs.Typed.{item_named, place_from, place_of, may_stand, part_at, kept_slot, kept_slots, no_slots, closed_parts, first_part, parts_at, sequence_at, items_at, braced_items, list_at, as_read, named_alternative, choice_at, read_by, read_as, value_at};
+ghost use Rattle.value_reading.specs.Typed.{item_named, place_from, place_of, may_stand, part_at, kept_slot, kept_slots, closed_parts, first_part, parts_at, sequence_at, items_at, braced_items, list_at, as_read, named_alternative, choice_at, read_by, read_as, value_at};
 
 use crate::form::read_form;
 use crate::value_and_rest::{Items, ValueAndRest};
@@ -16,7 +17,8 @@ use crate::word::{
     after_brace, after_comma, after_spaces, behind_sign, behind_word, closed_by, word,
 };
 use asn1_types::{
-    Item, MaybeVals, Node, Part, Parts, TypeId, TypeRow, TypeTable, Val, has_default_value,
+    Item, MaybeVals, Node, Part, Parts, TypeId, TypeRow, TypeTable, Val, empty_slots,
+    has_default_value,
 };
 use ber_writing::{fits, in_order};
 use osi_base::NoMemory;
@@ -161,18 +163,6 @@ fn may_stand(in_order: bool, least: usize, slots: &[Option<Val>], place: usize) 
     }
 }
 
-/// A slot for each part, all empty.
-#[tactic(auto, using(crate::proofs::Slots::empty_more, crate::proofs::Slots::empty_all))]
-fn no_slots(alloc: Global, parts: &[Part]) -> Result<MaybeVals, NoMemory>
-    ensures { IfOk result (λ slots. slots.items ≡ no_slots parts.now) }
-{
-    let mut slots = Vec::new(alloc);
-    for _part in parts {
-        slots.push(None)?;
-    }
-    Ok(slots)
-}
-
 /// Puts a part's value into its slot.
 fn put_slot(slots: &mut MaybeVals, place: usize, value: Val)
     requires { place < length slots.old.items }
@@ -262,7 +252,7 @@ fn read_sequence<'a>(
     let Some(inside) = behind_sign(text, b'{') else {
         return Ok(None);
     };
-    let slots = no_slots(alloc, parts.as_slice())?;
+    let slots = empty_slots(alloc, parts.as_slice())?;
     match closed_by(inside) {
         Some(rest) => closed_parts(alloc, parts, slots, rest),
         None => read_parts(alloc, table, of, parts, in_order, slots, inside),

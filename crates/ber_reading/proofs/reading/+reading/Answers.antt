@@ -8,10 +8,11 @@ use Rattle.asn1_types.specs.declared.row.TypeRow.TheVariants.{Sequence, Sequence
 use Rattle.asn1_types.specs.declared.row.Part.{Part}
 use Rattle.asn1_types.specs.Rows.{begins}
 use Rattle.ber_reading.specs.Parts.{parts_from, parts_behind}
+use Rattle.asn1_types.proofs.Slots.{empty_length}
 use Rattle.asn1_types.proofs.Sound.{each_part, down_as, choice_few, later_parts}
 use Rattle.ber_spelling.specs.Reading.{opened_of, spot_of, ahead_of, LiesIn}
 use Rattle.ber_spelling.specs.Rules.{items_at, list_item_at, list_done, set_item_at, set_of_done, reads, slot_at, set_done, is_free, is_filled, plain, bare}
-use Rattle.ber_reading.proofs.Slots.{none_length, set_length, slot_taken, slot_fails, slot_gives, set_full, set_lacks, turns_lack, late_fails}
+use Rattle.ber_reading.proofs.Slots.{set_length, slot_taken, slot_fails, slot_gives, set_full, set_lacks, turns_lack, late_fails}
 use Rattle.ber_reading.proofs.Rows.{reads_at}
 use Rattle.ber_reading.proofs.ShortParts.{reads_it, lower}
 use Rattle.ber_reading.specs.ShortParts.{integer_opened, behind}
@@ -222,7 +223,7 @@ slots-loop-turn-init t c =
     let one : length c.args.spot.rest.now + 1 - 0 ≡ suc (length c.args.spot.rest.now) = omega arith in
     record {
       onward = record { whole = refl; onward = omega arith };
-      slots = ap length c.requires.none ∙ none_length c.args.parts.now;
+      slots = ap length c.requires.none ∙ empty_length c.args.parts.now;
       so_far = ap (λ n. items_at (slot_at (begins c.args.table.now) (reads c.args.table.now) 0 c.args.parts.now) (set_done c.args.parts.now) n (record { found = c.args.found.items; least = 0 }) c.args.scope.now (spot_of c.args.spot)) one
           ∙ ap (λ found. items_at (slot_at (begins c.args.table.now) (reads c.args.table.now) 0 c.args.parts.now) (set_done c.args.parts.now) (suc (length c.args.spot.rest.now)) (record { found = found; least = 0 }) c.args.scope.now (spot_of c.args.spot)) c.requires.none;
     }

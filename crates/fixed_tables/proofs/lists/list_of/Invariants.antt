@@ -3,4 +3,4 @@ use Rattle.std.specs.Prelude.{map}
 use Rattle.fixed_tables.proofs.lists.list_of.Given as goal
 
 abbrev pub invariant-loop-item : goal.invariant-loop-item
-invariant-loop-item g l = l.values.items ≡ map g.T.InValue.says (take l.item-index l.items)
+invariant-loop-item g l = l.values.items ≡ map g.T.InValue.item_value (take l.item-index l.items)

@@ -3,7 +3,7 @@ use Rattle.std.specs.Prelude.{MatchResult}
 use Rattle.end_rules.specs.State.{passes_over}
 use Rattle.bare_end.specs.First.{IsFirst}
 use Rattle.bare_end.specs.View.{EndView, Keeps}
-use Rattle.bare_end.specs.Feed.{Goes}
+use Rattle.bare_end.specs.Feed.{ReadOneOrAll}
 use Rattle.bare_end.proofs.end.End.read_next.Goals as goal
 
 pub read-requires-clause-first : goal.read-requires-clause-first
@@ -14,4 +14,4 @@ read-requires-clause-up c = ap (λ (e : EndView). passes_over e.phase) c.front-f
 
 pub returns : goal.returns
 returns c =
-    subst (λ (e : EndView). MatchResult c.read.result (λ (more : Bool). Goes more e c.read.new.self c.args.shown.now c.read.new.shown) (λ _. Keeps e c.read.new.self)) c.front-front.ensures.same c.read.ensures
+    subst (λ (e : EndView). MatchResult c.read.result (λ (more : Bool). ReadOneOrAll more e c.read.new.self c.args.shown.now c.read.new.shown) (λ _. Keeps e c.read.new.self)) c.front-front.ensures.same c.read.ensures

@@ -14,5 +14,5 @@ pub returns-in_ok-admit-in-Some-clause-performed : goal.returns-in_ok-admit-in-S
 returns-in_ok-admit-in-Some-clause-performed c = λ base own carried same arg.
     let a = c.in_ok-admit-in-Some.ensures.admitted base own same in
     ap (heard_with (calls_of c.admit.new.forest own c.admit.new.self.kept)) c.invoked.ensures
-    ∙ (λ k. rules.told (a k) (indications.Invoked c.args.id.now c.in-Some.operation c.args.linked (arg k)))
+    ∙ (λ k. rules.showing (a k) (indications.Invoked c.args.id.now c.in-Some.operation c.args.linked (arg k)))
     ∙ (λ k. rules.invoked base (calls_of c.args.forest.now own c.args.self.now.kept) c.args.self.now.context c.args.id.now c.args.linked (sym c.in-Some.is k) carried)
