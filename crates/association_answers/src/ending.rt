@@ -47,15 +47,15 @@ fn aborts(
 fn shown_at(
     alloc: Global,
     body: &Body,
-    told: Indications,
+    shown_before: Indications,
     layer: Layer,
     place: u64,
     reason: u8,
 ) -> Result<Indications, NoMemory>
-    ensures { IfOk result (λ shown. shown ≡ (told ++ cuts (seen body.now)) ++ indications.Aborted
-        true layer place reason ∷ []) }
+    ensures { IfOk result (λ shown. shown ≡ (shown_before ++ cuts (seen body.now))
+        ++ indications.Aborted true layer place reason ∷ []) }
 {
-    let mut shown = told;
+    let mut shown = shown_before;
     push_cuts(alloc, body, &mut shown)?;
     shown.push(Indication::Aborted {
         own: true,
@@ -81,10 +81,10 @@ pub fn fail_association(
         layer,
         place,
         reason,
-        told,
+        shown_before,
     } = fault;
     let messages = aborts(basis.alloc, body, accepted, layer, reason)?;
-    let shown = shown_at(basis.alloc, body, told, layer, place, reason)?;
+    let shown = shown_at(basis.alloc, body, shown_before, layer, place, reason)?;
     end_association(body);
     Ok(Reaction::Fails {
         fault: Fault::at(basis.alloc, layer, place, reason),
