@@ -1,5 +1,5 @@
 -- A slot for each part, as a loop goes over the parts.
-use Rattle.std.proofs.Common.{◌≡◌, ℕ, ◌+◌, ◌<◌, ◌≤◌, List, [], ◌∷◌, ◌++◌, length, drop, get_or, Option, None, refl, sym, ap, arith, drop-cons, add-one, append-nil, append_assoc}
+use Rattle.std.proofs.Common.{◌≡◌, ℕ, suc, ◌+◌, ◌<◌, ◌≤◌, List, [], ◌∷◌, ◌++◌, length, drop, get_or, Option, None, refl, sym, ap, arith, drop-cons, add-one, append-nil, append_assoc}
 use Rattle.std.proofs.Math.ListN.{drop_of_length-le}
 use Rattle.asn1_types.specs.declared.row.Part.{Part}
 use Rattle.asn1_types.specs.Value.{Value}
@@ -21,4 +21,4 @@ empty_all parts i slots h = rw (drop_of_length-le parts h) (append-nil slots)
 
 pub empty_length : (parts : List Part) → length (empty_slots parts) ≡ length parts
 empty_length [] = refl
-empty_length (p ∷ parts) = ap (λ (n : ℕ). n + 1) (empty_length parts)
+empty_length (p ∷ parts) = ap suc (empty_length parts)

@@ -1,4 +1,4 @@
-use Rattle.std.proofs.Common.{◌≡◌, ◌≤◌, ◌×◌, length}
+use Rattle.std.proofs.Common.{◌≡◌, ◌≤◌, length}
 use Rattle.osi_base.specs.Limits.{last_activity}
 use Rattle.spdu_codec.specs.Values.{more_digits}
 use Rattle.spdu_codec.proofs.values.number_of.Given as goal
