@@ -1,6 +1,6 @@
 -- Reliable mode: what goes down from the end that leads, as the other end takes it, until all is at rest.
 use Rattle.std.proofs.Common.{◌≡◌, suc, ◌≤◌, length, Bool, true, false, List, [], ◌∷◌, ◌++◌, refl, sym, ap, true≢false, subst, append_assoc}
-use Rattle.agreement.specs.Sets.{Role, ContextSet, Result, Fits, altered, AreDistinct, identifiers}
+use Rattle.agreement.specs.Sets.{Role, ContextSet, Result, AnswersEach, altered, AreDistinct, identifiers}
 use Rattle.agreement.specs.Sets.Role.{Initiator}
 use Rattle.agreement.specs.Messages.{ModelSetup, Message}
 use Rattle.agreement.specs.Messages.Message.{Alter, AlterAnswer, Mark, MarkAnswer, Start, Resume, Chunk, End, EndAnswer, Interrupt, InterruptAnswer, Discard, DiscardAnswer, GiveAnswer, Please, Release, UserAbort}
@@ -38,7 +38,7 @@ abbrev pub Down : ModelSetup → Role → Goal → List Message → Follower →
 Down setup from R [] y up = R.rests up y
 Down setup from R (Alter items ∷ down) y up =
     AreSound from y.held items × AreDistinct (identifiers items) ×
-    ((results : List Result) → Fits items results → Down setup from R down (record y { held = altered items results y.held }) (up ++ (AlterAnswer results ∷ [])))
+    ((results : List Result) → AnswersEach items results → Down setup from R down (record y { held = altered items results y.held }) (up ++ (AlterAnswer results ∷ [])))
 Down setup from R (Mark n ∷ down) y up =
     (y.incoming.active ≡ true) × ((n ≡ suc (highest y.incoming.pieces)) × (n ≤ setup.most_marks)) ×
     Down setup from R down (record y { incoming = record y.incoming { pieces = Marked n y.held ∷ y.incoming.pieces } }) (up ++ (MarkAnswer n ∷ []))
@@ -49,7 +49,7 @@ Down setup from R (Resume k n ∷ down) y up =
     (y.incoming.active ≡ false) × MayResumeAt y.incoming k n × AllQuiet up ×
     Down setup from R down (record y { incoming = resumed_in k n y.incoming; inter = y.held; held = resumed_set n y.incoming.pieces y.held }) up
 Down setup from R (Chunk o ∷ down) y up =
-    ((y.incoming.active ≡ true) × (length (joined y.incoming.pieces ++ o) ≤ setup.most_octets)) ×
+    ((y.incoming.active ≡ true) × (length (joined y.incoming.pieces ++ o) ≤ setup.most_transferred)) ×
     Down setup from R down (record y { incoming = record y.incoming { pieces = Octets o ∷ y.incoming.pieces } }) up
 Down setup from R (End n ∷ down) y up =
     (y.incoming.active ≡ true) × (n ≡ suc (highest y.incoming.pieces)) × AllQuiet down ×

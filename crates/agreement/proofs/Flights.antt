@@ -2,7 +2,7 @@
 use Rattle.std.proofs.Common.{◌≡◌, ℕ, suc, ◌≤◌, ◌%◌, Bool, true, false, List, [], ◌∷◌, ◌++◌, refl, sym, ap, ◌∙◌, arith, true≢false, subst}
 use Rattle.std.specs.Prelude.{Some, None, is_some}
 use Rattle.std.proofs.lemmas.Bool.Decides.{nat_tests}
-use Rattle.agreement.specs.Sets.{Role, other, parity, Pair, ContextSet, Item, Result, Fits, changed, altered, lookup, IsRising, AreDistinct, identifier_of, identifiers, Saved, below, next_number}
+use Rattle.agreement.specs.Sets.{Role, other, parity, Pair, ContextSet, Item, Result, AnswersEach, changed, altered, lookup, IsRising, AreDistinct, identifier_of, identifiers, Saved, below, next_number}
 use Rattle.agreement.specs.Sets.Role.{Initiator, Responder}
 use Rattle.agreement.specs.Sets.Item.{Addition, Deletion}
 use Rattle.agreement.specs.Sets.Result.{Rejected, AcceptedAs, Accepted, Kept}
@@ -57,9 +57,9 @@ ReadsFlight from held own (AValue at k p ∷ flight) shared =
     (lookup held k ≡ Some p) × (lookup at k ≡ Some p) × ReadsFlight from held own flight shared
 ReadsFlight from held own (AnAsk at items ∷ flight) shared =
     AreSound from held items × AreDistinct (identifiers items) × AllApart own items ×
-    ((results : List Result) → Fits items results → ReadsFlight from (altered items results held) own flight (altered items results shared))
+    ((results : List Result) → AnswersEach items results → ReadsFlight from (altered items results held) own flight (altered items results shared))
 ReadsFlight from held own (AnAnswer results ∷ flight) shared =
-    OnFirst (λ items. Fits items results) own × ReadsFlight from (altered_first own results held) (later own) flight shared
+    OnFirst (λ items. AnswersEach items results) own × ReadsFlight from (altered_first own results held) (later own) flight shared
 ReadsFlight from held own (AMark at number ∷ flight) shared = (held ≡ at) × ReadsFlight from held own flight shared
 ReadsFlight from held own (AGive ∷ flight) shared = ReadsFlight from held own flight shared
 ReadsFlight from held own (ARelease ∷ flight) shared = (from ≡ Initiator) × ReadsFlight from held own flight shared
@@ -150,7 +150,7 @@ pub rejections : List Item → List Result
 rejections [] = []
 rejections (item ∷ items) = rejection item ∷ rejections items
 
-pub rejections-fit : (items : List Item) → Fits items (rejections items)
+pub rejections-fit : (items : List Item) → AnswersEach items (rejections items)
 unfolding rejections rejection
 rejections-fit [] = tt
 rejections-fit (Addition k o ∷ items) = (tt, rejections-fit items)
@@ -241,11 +241,11 @@ unanswered-all_untouched flight own [] u = tt
 unanswered-all_untouched flight own (i ∷ is) u = (unanswered-untouched flight own (identifier_of i) u.0, unanswered-all_untouched flight own is u.1)
 
 -- an answer joins the flight to the end that asked for these items
-answer-ends : (own : List (List Item)) (held shared : ContextSet) (items : List Item) (more : List (List Item)) (results : List Result) → own ≡ items ∷ more → held ≡ shared → Fits items results → OnFirst (λ is. Fits is results) own × (altered_first own results held ≡ altered items results shared)
+answer-ends : (own : List (List Item)) (held shared : ContextSet) (items : List Item) (more : List (List Item)) (results : List Result) → own ≡ items ∷ more → held ≡ shared → AnswersEach items results → OnFirst (λ is. AnswersEach is results) own × (altered_first own results held ≡ altered items results shared)
 answer-ends own held shared items more results e h fits =
-    subst (λ (o : List (List Item)). OnFirst (λ is. Fits is results) o × (altered_first o results held ≡ altered items results shared)) (sym e) (fits, ap (altered items results) h)
+    subst (λ (o : List (List Item)). OnFirst (λ is. AnswersEach is results) o × (altered_first o results held ≡ altered items results shared)) (sym e) (fits, ap (altered items results) h)
 
-pub push-answer : (from : Role) (held : ContextSet) (own : List (List Item)) (flight : List Entry) (shared : ContextSet) (items : List Item) (more : List (List Item)) (results : List Result) → ReadsFlight from held own flight shared → IsRising shared → unanswered flight own ≡ items ∷ more → Fits items results → ReadsFlight from held own (flight ++ (AnAnswer results ∷ [])) (altered items results shared)
+pub push-answer : (from : Role) (held : ContextSet) (own : List (List Item)) (flight : List Entry) (shared : ContextSet) (items : List Item) (more : List (List Item)) (results : List Result) → ReadsFlight from held own flight shared → IsRising shared → unanswered flight own ≡ items ∷ more → AnswersEach items results → ReadsFlight from held own (flight ++ (AnAnswer results ∷ [])) (altered items results shared)
 push-answer from held own [] shared items more results h r e fits = answer-ends own held shared items more results e h fits
 push-answer from held own (AValue bt j q ∷ flight) shared items more results h r e fits = (h.0, h.1, push-answer from held own flight shared items more results h.2 r e fits)
 push-answer from held own (AnAsk bt asks ∷ flight) shared items more results h r e fits = (

@@ -1,7 +1,7 @@
 -- Reliable mode: an end that leads, one that follows, and what goes between them.
 use Rattle.std.proofs.Common.{◌≡◌, ℕ, suc, ◌≤◌, Bool, true, false, List, [], ◌∷◌, ◌++◌, refl, ap, true≢false, ◌⊎◌}
 use Rattle.std.specs.Prelude.{Option, Some, None}
-use Rattle.agreement.specs.Sets.{Role, ContextSet, Item, Fits, lookup, Saved}
+use Rattle.agreement.specs.Sets.{Role, ContextSet, Item, AnswersEach, lookup, Saved}
 use Rattle.agreement.specs.Messages.{Value, ModelSetup, Message}
 use Rattle.agreement.specs.Messages.Message.{Alter, AlterAnswer, MarkAnswer, Start, Resume, EndAnswer, Interrupt, InterruptAnswer, Discard, DiscardAnswer, Please, UserAbort}
 use Rattle.agreement.specs.State.{Awaited, Piece, Progress, Transfer, Incoming, Sets, highest, joined}
@@ -46,7 +46,7 @@ Ups stage k h own held inter [] there = (own ≡ []) × (held ≡ there) × IsRe
 Ups stage k h own held inter (Please priority ∷ up) there = Ups stage k h own held inter up there
 Ups stage k h own held inter (UserAbort ∷ up) there = Ups stage k h own held inter up there
 Ups stage k h own held inter (AlterAnswer results ∷ up) there =
-    OnFirst (λ items. Fits items results) own × Ups stage k h (later own) (altered_first own results held) inter up there
+    OnFirst (λ items. AnswersEach items results) own × Ups stage k h (later own) (altered_first own results held) inter up there
 Ups stage k h own held inter (MarkAnswer n ∷ up) there =
     IsMarking stage × (n ≡ suc k) × (suc k ≤ h) × Ups stage (suc k) h own held inter up there
 Ups stage k h own held inter (EndAnswer n ∷ up) there =

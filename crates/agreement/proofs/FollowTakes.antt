@@ -1,7 +1,7 @@
 -- Reliable mode: each message that the end that follows takes, and what it sends of itself.
 use Rattle.std.proofs.Common.{◌≡◌, ℕ, suc, ◌≤◌, Bool, true, false, List, [], ◌∷◌, ◌++◌, refl, sym, ap, ◌∙◌, arith, true≢false, subst, inl, inr, ◌⊎◌}
 use Rattle.std.specs.Prelude.{Option, Some, None}
-use Rattle.agreement.specs.Sets.{Role, ContextSet, Item, Result, Fits, altered, Saved}
+use Rattle.agreement.specs.Sets.{Role, ContextSet, Item, Result, AnswersEach, altered, Saved}
 use Rattle.agreement.specs.Messages.{ModelSetup, Message}
 use Rattle.agreement.specs.Messages.Message.{Alter, AlterAnswer, Mark, MarkAnswer, Start, Resume, Chunk, End, EndAnswer, Interrupt, InterruptAnswer, Discard, DiscardAnswer, GiveAnswer, Please, UserAbort}
 use Rattle.agreement.specs.State.{Awaited, Progress, Transfer, Incoming, Sets, up_to, highest}
@@ -22,7 +22,7 @@ numbered-of setup None marks s = tt
 numbered-of setup (Some t) marks s = s.0
 
 -- an alteration
-pub follows_alter : (setup : ModelSetup) (from : Role) (l : Leader) (lin : Incoming) (y : Follower) (yc : ℕ) (yt : Option Transfer) (items : List Item) (results : List Result) (down up : List Message) (set mid : ContextSet) (mine theirs : List Saved) → Fits items results → Flow setup from l lin y yc yt (Alter items ∷ down) up set mid mine theirs → Flow setup from l lin (record y { held = altered items results y.held }) yc yt down (up ++ (AlterAnswer results ∷ [])) (altered items results set) mid mine theirs
+pub follows_alter : (setup : ModelSetup) (from : Role) (l : Leader) (lin : Incoming) (y : Follower) (yc : ℕ) (yt : Option Transfer) (items : List Item) (results : List Result) (down up : List Message) (set mid : ContextSet) (mine theirs : List Saved) → AnswersEach items results → Flow setup from l lin y yc yt (Alter items ∷ down) up set mid mine theirs → Flow setup from l lin (record y { held = altered items results y.held }) yc yt down (up ++ (AlterAnswer results ∷ [])) (altered items results set) mid mine theirs
 follows_alter setup from l lin y yc yt items results down up set mid mine theirs f n =
     record {
       runs = n.runs.2 results f;

@@ -1,7 +1,7 @@
 -- Reliable mode: what the end that leads takes and passes over.
 use Rattle.std.proofs.Common.{◌≡◌, ℕ, suc, ◌≤◌, Bool, true, false, List, [], ◌∷◌, ◌++◌, refl, sym, ap, ◌∙◌, true≢false, subst, inl, inr, ◌⊎◌}
 use Rattle.std.specs.Prelude.{Option, Some, None}
-use Rattle.agreement.specs.Sets.{Role, ContextSet, Item, Result, Fits, altered, lookup, Saved}
+use Rattle.agreement.specs.Sets.{Role, ContextSet, Item, Result, AnswersEach, altered, lookup, Saved}
 use Rattle.agreement.specs.Messages.{Value, ModelSetup, Message}
 use Rattle.agreement.specs.Messages.Message.{Alter, AlterAnswer, Mark, MarkAnswer, Start, Resume, Chunk, End, EndAnswer, Interrupt, InterruptAnswer, Discard, DiscardAnswer, GiveAnswer, Please, Release, UserAbort}
 use Rattle.agreement.specs.State.{Awaited, Progress, Transfer, Incoming, Sets, up_to, highest}
@@ -28,11 +28,11 @@ abbrev pub answered : Sets → List Result → Sets
 answered sets results = record sets { held = altered_first sets.own results sets.held; own = later sets.own }
 
 -- its alteration's answer
-answer-rest : (sets : Sets) (c : ℕ) (t : Option Transfer) (results : List Result) (us : List Message) (z : Follower) → RestOf (calm sets c t) (AlterAnswer results ∷ us) z → OnFirst (λ items. Fits items results) sets.own × RestOf (calm (answered sets results) c t) us z
+answer-rest : (sets : Sets) (c : ℕ) (t : Option Transfer) (results : List Result) (us : List Message) (z : Follower) → RestOf (calm sets c t) (AlterAnswer results ∷ us) z → OnFirst (λ items. AnswersEach items results) sets.own × RestOf (calm (answered sets results) c t) us z
 answer-rest sets c None results us z r = (r.0.0.0, ((r.0.0.1, r.0.1, r.0.2), r.1, r.2))
 answer-rest sets c (Some t) results us z r = go t.progress r.0
   where
-    go : (p : Progress) → RestIn p t (calm sets c (Some t)) (AlterAnswer results ∷ us) z → OnFirst (λ items. Fits items results) sets.own × (RestIn p t (calm (answered sets results) c (Some t)) us z × (z.inter ≡ sets.inter) × (z.gave ≡ false))
+    go : (p : Progress) → RestIn p t (calm sets c (Some t)) (AlterAnswer results ∷ us) z → OnFirst (λ items. AnswersEach items results) sets.own × (RestIn p t (calm (answered sets results) c (Some t)) us z × (z.inter ≡ sets.inter) × (z.gave ≡ false))
     go Suspended h = (h.0.0, ((h.0.1, h.1, h.2), r.1, r.2))
     go Running h = (h.0.0, ((h.0.1, h.1, h.2, h.3), r.1, r.2))
     go Ending h = (h.0.0, ((h.0.1, h.1, h.2, h.3), r.1, r.2))
@@ -47,7 +47,7 @@ value-answered (Some t) sets results v = go t.progress t.value v
     go Ending value v = tt
     go Suspended value v = tt
 
-pub takes_answer : (setup : ModelSetup) (from : Role) (sets : Sets) (c : ℕ) (t : Option Transfer) (results : List Result) (lin : Incoming) (y : Follower) (yc : ℕ) (yt : Option Transfer) (down up : List Message) (set mid : ContextSet) (mine theirs : List Saved) → Flow setup from (calm sets c t) lin y yc yt down (AlterAnswer results ∷ up) set mid mine theirs → OnFirst (λ items. Fits items results) sets.own × Flow setup from (calm (answered sets results) c t) lin y yc yt down up set mid mine theirs
+pub takes_answer : (setup : ModelSetup) (from : Role) (sets : Sets) (c : ℕ) (t : Option Transfer) (results : List Result) (lin : Incoming) (y : Follower) (yc : ℕ) (yt : Option Transfer) (down up : List Message) (set mid : ContextSet) (mine theirs : List Saved) → Flow setup from (calm sets c t) lin y yc yt down (AlterAnswer results ∷ up) set mid mine theirs → OnFirst (λ items. AnswersEach items results) sets.own × Flow setup from (calm (answered sets results) c t) lin y yc yt down up set mid mine theirs
 takes_answer setup from sets c t results lin y yc yt down up set mid mine theirs n =
     let a = at-rest setup from (Rest (calm sets c t)) down y (AlterAnswer results ∷ up) n.runs in (
       (answer-rest sets c t results (up ++ a.more) a.last a.rests).0,

@@ -2,7 +2,7 @@
 use Rattle.std.proofs.Common.{◌≡◌, ℕ, zero, suc, ◌≤◌, length, Bool, true, false, List, [], ◌∷◌, ◌++◌, refl, sym, ap, ◌∙◌, arith, true≢false, subst, inl, inr, ap₂}
 use Rattle.std.specs.Prelude.{Option, Some, None}
 use Rattle.std.proofs.lemmas.Bool.Decides.{nat_tests}
-use Rattle.agreement.specs.Sets.{Role, ContextSet, Item, Result, Fits, altered, AreDistinct, identifier_of, identifiers, named, lookup, Saved}
+use Rattle.agreement.specs.Sets.{Role, ContextSet, Item, Result, AnswersEach, altered, AreDistinct, identifier_of, identifiers, named, lookup, Saved}
 use Rattle.agreement.specs.Sets.Role.{Initiator}
 use Rattle.agreement.specs.Messages.{Value, ModelSetup, Message}
 use Rattle.agreement.specs.Messages.Message.{Alter, AlterAnswer, Mark, MarkAnswer, Start, Resume, Chunk, End, EndAnswer, Interrupt, InterruptAnswer, Discard, DiscardAnswer, Please, Release, UserAbort}
@@ -68,7 +68,7 @@ ups-end k h held inter (MarkAnswer m ∷ up) there x u e = (tt, u.1, u.2, ups-en
 ups-end k h held inter (EndAnswer m ∷ up) there x u e = absurd u.0
 ups-end k h held inter (m ∷ up) there x u e = absurd u
 
-ups-alter : (stage : Doing) (k h : ℕ) (own : List (List Item)) (held inter : ContextSet) (up : List Message) (there : ContextSet) (items : List Item) (results : List Result) → (IsClosing stage → ⊥) → Fits items results → Ups stage k h own held inter up there → Ups stage k h (own ++ (items ∷ [])) held inter (up ++ (AlterAnswer results ∷ [])) (altered items results there)
+ups-alter : (stage : Doing) (k h : ℕ) (own : List (List Item)) (held inter : ContextSet) (up : List Message) (there : ContextSet) (items : List Item) (results : List Result) → (IsClosing stage → ⊥) → AnswersEach items results → Ups stage k h own held inter up there → Ups stage k h (own ++ (items ∷ [])) held inter (up ++ (AlterAnswer results ∷ [])) (altered items results there)
 ups-alter stage k h own held inter [] there items results n f u =
     subst (λ (o : List (List Item)). Ups stage k h (o ++ (items ∷ [])) held inter (AlterAnswer results ∷ []) (altered items results there)) (sym u.0) (f, (refl, ap (altered items results) u.1, u.2))
 ups-alter stage k h own held inter (Please p ∷ up) there items results n f u = ups-alter stage k h own held inter up there items results n f u
@@ -157,12 +157,12 @@ none-final : (b : Bool) (A : Type 0) → b ≡ false → b ≡ true → A
 none-final b A f t = absurd (true≢false (sym t ∙ f))
 
 -- a part of the transfer is sent
-pub sends_chunk : (setup : ModelSetup) (from : Role) (sets : Sets) (c : ℕ) (t : Transfer) (v : Value) (o : List ℕ) (lin : Incoming) (y : Follower) (yc : ℕ) (yt : Option Transfer) (down up : List Message) (set mid : ContextSet) (mine theirs : List Saved) → length (joined t.pieces ++ o) ≤ setup.most_octets → Flow setup from (going sets c (record t { value = Some v })) lin y yc yt down up set mid mine theirs → Flow setup from (going sets c (record t { value = Some v; pieces = Octets o ∷ t.pieces })) lin y yc yt (down ++ (Chunk o ∷ [])) up set mid mine theirs
+pub sends_chunk : (setup : ModelSetup) (from : Role) (sets : Sets) (c : ℕ) (t : Transfer) (v : Value) (o : List ℕ) (lin : Incoming) (y : Follower) (yc : ℕ) (yt : Option Transfer) (down up : List Message) (set mid : ContextSet) (mine theirs : List Saved) → length (joined t.pieces ++ o) ≤ setup.most_transferred → Flow setup from (going sets c (record t { value = Some v })) lin y yc yt down up set mid mine theirs → Flow setup from (going sets c (record t { value = Some v; pieces = Octets o ∷ t.pieces })) lin y yc yt (down ++ (Chunk o ∷ [])) up set mid mine theirs
 sends_chunk setup from sets c t v o lin y yc yt down up set mid mine theirs within n =
     record {
       runs =
           push-in setup from (Rest (going sets c (record t { value = Some v }))) (Rest (going sets c (record t { value = Some v; pieces = Octets o ∷ t.pieces }))) (Chunk o) down y up
-          (λ us z r. r.0.1) (λ us z r. ((r.0.1, subst (λ (p : List Piece). length (joined p ++ o) ≤ setup.most_octets) (sym r.0.3) within), ((r.0.0, r.0.1, r.0.2, ap (λ (p : List Piece). Octets o ∷ p) r.0.3), r.1, r.2))) n.runs;
+          (λ us z r. r.0.1) (λ us z r. ((r.0.1, subst (λ (p : List Piece). length (joined p ++ o) ≤ setup.most_transferred) (sym r.0.3) within), ((r.0.0, r.0.1, r.0.2, ap (λ (p : List Piece). Octets o ∷ p) r.0.3), r.1, r.2))) n.runs;
       asks = λ e. asks-more down (Chunk o) (unanswered_in up sets.own) refl (n.asks e);
       begins = begins-append c t.confirmed down (Chunk o ∷ []) n.begins tt;
       waits = waits-append NoAnswer t.confirmed down (Chunk o ∷ []) n.waits tt;
@@ -533,7 +533,7 @@ open-rest t l us z items o r u = go t o r
 abbrev pub asking : Option Transfer → ℕ → ContextSet → ContextSet → List (List Item) → Leader
 asking t c held inter own = record { awaits = NoAnswer; sets = record { held = held; inter = inter; own = own }; started = c; transfer = t }
 
-alters-rest : (t : Option Transfer) (c : ℕ) (held inter : ContextSet) (own : List (List Item)) (items : List Item) (results : List Result) (us : List Message) (z : Follower) → IsOpen NoAnswer t → Fits items results → RestOf (asking t c held inter own) us z → RestOf (asking t c held inter (own ++ (items ∷ []))) (us ++ (AlterAnswer results ∷ [])) (record z { held = altered items results z.held })
+alters-rest : (t : Option Transfer) (c : ℕ) (held inter : ContextSet) (own : List (List Item)) (items : List Item) (results : List Result) (us : List Message) (z : Follower) → IsOpen NoAnswer t → AnswersEach items results → RestOf (asking t c held inter own) us z → RestOf (asking t c held inter (own ++ (items ∷ []))) (us ++ (AlterAnswer results ∷ [])) (record z { held = altered items results z.held })
 alters-rest None c held inter own items results us z o f r =
     ((ups-alter Resting 0 0 own held inter us z.held items results (λ x. x) f r.0.0, r.0.1, r.0.2), r.1, r.2)
 alters-rest (Some t) c held inter own items results us z o f r = go t.progress o r.0

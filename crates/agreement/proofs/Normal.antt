@@ -2,7 +2,7 @@
 use Rattle.std.proofs.Common.{◌≡◌, ℕ, ◌≤◌, ◌%◌, Bool, true, false, List, [], ◌∷◌, ◌++◌, refl, sym, ap, ◌∙◌, arith, true≢false, subst, inl, inr, ◌⊎◌, ap₂, nat_lt}
 use Rattle.std.specs.Prelude.{Some, None}
 use Rattle.std.proofs.lemmas.Bool.Decides.{nat_tests}
-use Rattle.agreement.specs.Sets.{Role, other, parity, Pair, ContextSet, Item, Result, Fits, changed, altered, lookup, remove, IsRising, AreDistinct, identifiers, named, is_among, Saved, below, newest, next_number, is_initiator}
+use Rattle.agreement.specs.Sets.{Role, other, parity, Pair, ContextSet, Item, Result, AnswersEach, changed, altered, lookup, remove, IsRising, AreDistinct, identifiers, named, is_among, Saved, below, newest, next_number, is_initiator}
 use Rattle.agreement.specs.Sets.Role.{Initiator, Responder}
 use Rattle.agreement.specs.Sets.Item.{Addition, Deletion}
 use Rattle.agreement.specs.Sets.Result.{Rejected, AcceptedAs, Accepted, Kept}
@@ -240,7 +240,7 @@ all-absent role set [] items results held h a = tt
 all-absent role set (o ∷ own) items results held h a = (stays-absent role set o items results held h a.0, all-absent role set own items results held h a.1)
 
 -- an alteration is taken and answered
-pub takes_ask : (most : ℕ) (role : Role) (me peer : Core) (at : ContextSet) (items : List Item) (results : List Result) (f g : List Entry) (s : ContextSet) (v : List Saved) → Normal most role me peer (AnAsk at items ∷ f) g s v → Fits items results → Normal most role (record me { held = altered items results me.held }) peer f (g ++ (AnAnswer results ∷ [])) (altered items results s) v
+pub takes_ask : (most : ℕ) (role : Role) (me peer : Core) (at : ContextSet) (items : List Item) (results : List Result) (f g : List Entry) (s : ContextSet) (v : List Saved) → Normal most role me peer (AnAsk at items ∷ f) g s v → AnswersEach items results → Normal most role (record me { held = altered items results me.held }) peer f (g ++ (AnAnswer results ∷ [])) (altered items results s) v
 takes_ask most role me peer at items results f g s v n fits =
     let h = n.reads_me in
     record {

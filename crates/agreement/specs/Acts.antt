@@ -197,7 +197,7 @@ MayAct setup role state (Sends octets) =
       by_transfers : setup.mode ≡ Reliable;
       leads : Leads state;
       is_next : OnRunning (λ sent all. (rest : List ℕ) × ((sent ++ octets) ++ rest ≡ all)) setup.codec state.outgoing.transfer;
-      is_within : length (joined (pieces_of state.outgoing.transfer) ++ octets) ≤ setup.most_octets;
+      is_within : length (joined (pieces_of state.outgoing.transfer) ++ octets) ≤ setup.most_transferred;
     }
 MayAct setup role state EndsActivity =
     record {

@@ -1,5 +1,6 @@
 -- Worked cases: short lists of events, whose outcome the definitions compute.
 use Rattle.std.specs.Prelude.{◌≡◌, ℕ, zero, suc, Bool, true, false, nat_eq, nat_lt, ◌&&◌, ◌||◌, if◌then◌else◌, ◌++◌, List, [], ◌∷◌, Option, Some, None}
+use Rattle.osi_base.specs.Limits.{most_marks, most_transferred, most_open}
 use Rattle.agreement.specs.Sets.{Pair, Context, ContextSet, Role, lookup}
 use Rattle.agreement.specs.Sets.Role.{Initiator, Responder}
 use Rattle.agreement.specs.Sets.Item.{Addition, Deletion}
@@ -131,9 +132,9 @@ case_setup mode faithful =
       allows = has_outcome;
       problem = problem_of;
       bare_context = record { identifier = 0; pair = record { abstract_syntax = 2 ∷ 999 ∷ 7 ∷ 1 ∷ []; transfer_syntax = ber } };
-      most_marks = 4096;
-      most_octets = 262400;
-      most_open = 4096;
+      most_marks = most_marks;
+      most_transferred = most_transferred;
+      most_open = most_open;
     }
 
 abbrev pub module_in : List ℕ → Pair

@@ -66,7 +66,7 @@ pub record ModelSetup : Type 0 where
   pub problem : Calls → Apdu → Problem
   pub bare_context : Context
   pub most_marks : ℕ
-  pub most_octets : ℕ
+  pub most_transferred : ℕ
   pub most_open : ℕ
 
 pub data Message : Type 0 where

@@ -86,22 +86,22 @@ altered [] results set = set
 altered (item ∷ items) [] set = set
 altered (item ∷ items) (result ∷ results) set = altered items results (changed item result set)
 
-abbrev pub FitsItem : Item → Result → Type 0
-FitsItem (Addition k offers) Rejected = Unit {0}
-FitsItem (Addition k offers) (AcceptedAs p) = Contains offers p
-FitsItem (Addition k offers) Accepted = ⊥
-FitsItem (Addition k offers) Kept = ⊥
-FitsItem (Deletion k) Accepted = Unit {0}
-FitsItem (Deletion k) Kept = Unit {0}
-FitsItem (Deletion k) Rejected = ⊥
-FitsItem (Deletion k) (AcceptedAs p) = ⊥
+abbrev pub AnswersItem : Item → Result → Type 0
+AnswersItem (Addition k offers) Rejected = Unit {0}
+AnswersItem (Addition k offers) (AcceptedAs p) = Contains offers p
+AnswersItem (Addition k offers) Accepted = ⊥
+AnswersItem (Addition k offers) Kept = ⊥
+AnswersItem (Deletion k) Accepted = Unit {0}
+AnswersItem (Deletion k) Kept = Unit {0}
+AnswersItem (Deletion k) Rejected = ⊥
+AnswersItem (Deletion k) (AcceptedAs p) = ⊥
 
 -- the results answer the items, one for one, in their order (X.226 8.4.3)
-abbrev pub Fits : List Item → List Result → Type 0
-Fits [] [] = Unit {0}
-Fits [] (result ∷ results) = ⊥
-Fits (item ∷ items) [] = ⊥
-Fits (item ∷ items) (result ∷ results) = FitsItem item result × Fits items results
+abbrev pub AnswersEach : List Item → List Result → Type 0
+AnswersEach [] [] = Unit {0}
+AnswersEach [] (result ∷ results) = ⊥
+AnswersEach (item ∷ items) [] = ⊥
+AnswersEach (item ∷ items) (result ∷ results) = AnswersItem item result × AnswersEach items results
 
 -- each accepted addition has a transfer syntax that the ends know
 abbrev pub IsKnown : (List ℕ → Bool) → Result → Type 0

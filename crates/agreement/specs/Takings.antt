@@ -1,6 +1,6 @@
 -- What an end may take, what it passes over, what it answers, and its state afterwards (X.225 7, X.226 6, X.228 8).
 use Rattle.std.specs.Prelude.{◌≡◌, ℕ, suc, ◌≤◌, ◌⊎◌, Bool, true, false, not, ◌&&◌, ◌||◌, nat_eq, nat_lt, if◌then◌else◌, ◌++◌, length, List, [], ◌∷◌, Option, Some, None}
-use Rattle.agreement.specs.Sets.{IsRising, AreKnown, IsKnownSet, Role, is_initiator, other, ContextSet, Item, Result, Fits, AllMayBeAsked, AreDistinct, altered, identifiers, lookup, listed, below, newest, next_number}
+use Rattle.agreement.specs.Sets.{IsRising, AreKnown, IsKnownSet, Role, is_initiator, other, ContextSet, Item, Result, AnswersEach, AllMayBeAsked, AreDistinct, altered, identifiers, lookup, listed, below, newest, next_number}
 use Rattle.agreement.specs.Sets.Role.{Initiator, Responder}
 use Rattle.agreement.specs.Sets.Item.{Addition, Deletion}
 use Rattle.agreement.specs.Messages.{Apdu, Calls, Value, Mode, ModelSetup, Message, Choice}
@@ -128,7 +128,7 @@ MayTake setup role state (Alter items) =
       may_be_asked : AllMayBeAsked (other role) state.sets.held items;
     }
 MayTake setup role state (AlterAnswer results) =
-    record { is_up : state.phase ≡ Up; fits : OnFirst (λ items. Fits items results) state.sets.own; is_known : AreKnown setup.knows results }
+    record { is_up : state.phase ≡ Up; fits : OnFirst (λ items. AnswersEach items results) state.sets.own; is_known : AreKnown setup.knows results }
 MayTake setup role state (Mark number) =
     record { is_up : state.phase ≡ Up; in_mode : MayMarkFrom setup setup.mode state number }
 MayTake setup role state (MarkAnswer number) =
@@ -170,7 +170,7 @@ MayTake setup role state (Chunk octets) =
       is_up : state.phase ≡ Up;
       lacks_turn : state.turn ≡ false;
       is_active : state.incoming.active ≡ true;
-      is_within : length (joined state.incoming.pieces ++ octets) ≤ setup.most_octets;
+      is_within : length (joined state.incoming.pieces ++ octets) ≤ setup.most_transferred;
     }
 MayTake setup role state (End number) =
     record {
@@ -211,7 +211,7 @@ IsChoice setup state Connect Refusing = Unit {0}
 IsChoice setup state Recover (Accepting set) =
     record { has_it : state.phase ≡ Broken; is_set : IsRising set; is_known : IsKnownSet setup.knows set }
 IsChoice setup state Recover Refusing = Unit {0}
-IsChoice setup state (Alter items) (Results results) = record { fits : Fits items results; is_known : AreKnown setup.knows results }
+IsChoice setup state (Alter items) (Results results) = record { fits : AnswersEach items results; is_known : AreKnown setup.knows results }
 IsChoice setup state Connect choice = ⊥
 IsChoice setup state Recover choice = ⊥
 IsChoice setup state (Alter items) choice = ⊥

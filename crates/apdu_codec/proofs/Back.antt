@@ -7,7 +7,7 @@ use Rattle.asn1_types.specs.Value.{Value, boolean, integer, null, object_id, par
 use Rattle.asn1_types.specs.ValueView.{parts_of}
 use Rattle.stub_tables.specs.declared.operation.Code.{Code}
 use Rattle.stub_tables.specs.declared.operation.Code.TheVariants.{Local, Global}
-use Rattle.apdu_spelling.specs.Heads.{Outcome, Head, invoke, result, error, reject, carried, or_none}
+use Rattle.apdu_spelling.specs.Heads.{ReturnedOctets, Head, invoke, result, error, reject, carried, or_none}
 use Rattle.apdu_spelling.specs.Values.{code_value, linked_part, rejected_value, problem_value, kind_place, any_part, returned_part, ber_value, mark_part, code_part, packed_value}
 use Rattle.apdu_codec.specs.Pieces.{pieces_of, integer_in, linked_in, code_in, any_in, octets_in, rejected_in, problem_by, problem_in, outcome_by, invoke_by, result_by, error_by, reject_by, outcome_pieces, returned_in, invoke_pieces, result_pieces, error_pieces, reject_pieces, ber_pieces, ber_head, none_behind, marked_in, outcome_in, packed_invoke_pieces, packed_result_pieces, packed_error_pieces, packed_pieces, packed_head}
 use Rattle.apdu_codec.proofs.Lists.{parts_back}
@@ -70,24 +70,24 @@ problem_is _ p e = absurd cc
 
 -- ---- what is returned
 
-record IsOutcome (c : Option Code) (a : Option (List ℕ)) (o : Outcome) : Type 0 where
+record IsOutcome (c : Option Code) (a : Option (List ℕ)) (o : ReturnedOctets) : Type 0 where
   code : c ≡ Some o.code
   octets : a ≡ Some o.octets
 
-abbrev made : Code → List ℕ → Outcome
+abbrev made : Code → List ℕ → ReturnedOctets
 made c a = record { code = c; octets = a }
 
-some_outcome : (x y : Outcome) → Some x ≡ Some y → x ≡ y
+some_outcome : (x y : ReturnedOctets) → Some x ≡ Some y → x ≡ y
 some_outcome x y e = cc
 
-outcomes : (c : Option Code) (a : Option (List ℕ)) (o : Outcome) → outcome_by c a ≡ Some o → IsOutcome c a o
+outcomes : (c : Option Code) (a : Option (List ℕ)) (o : ReturnedOctets) → outcome_by c a ≡ Some o → IsOutcome c a o
 outcomes (Some c) (Some a) o e =
     let same = some_outcome (made c a) o e in
-    record { code = ap Some (ap (λ (z : Outcome). z.code) same); octets = ap Some (ap (λ (z : Outcome). z.octets) same) }
+    record { code = ap Some (ap (λ (z : ReturnedOctets). z.code) same); octets = ap Some (ap (λ (z : ReturnedOctets). z.octets) same) }
 outcomes None a o e = absurd cc
 outcomes (Some c) None o e = absurd cc
 
-two_is : (ps : List (Option Value)) (o : Outcome) → outcome_pieces ps ≡ Some o → parts_of ps ≡ present (code_value o.code) (present (any o.octets) no_parts)
+two_is : (ps : List (Option Value)) (o : ReturnedOctets) → outcome_pieces ps ≡ Some o → parts_of ps ≡ present (code_value o.code) (present (any o.octets) no_parts)
 two_is (code ∷ value ∷ []) o e =
     let x = outcomes (code_in code) (octets_in value) o e in
     ap (λ (z : Option Value). parts_of (z ∷ value ∷ [])) (code_is code o.code x.code)
@@ -96,12 +96,12 @@ two_is [] o e = absurd cc
 two_is (a ∷ []) o e = absurd cc
 two_is (a ∷ b ∷ c ∷ ps) o e = absurd cc
 
-returned_is : (p : Option Value) (x : Option Outcome) → returned_in p ≡ Some x → parts_of (p ∷ []) ≡ returned_part x
+returned_is : (p : Option Value) (x : Option ReturnedOctets) → returned_in p ≡ Some x → parts_of (p ∷ []) ≡ returned_part x
 returned_is None None e = refl
 returned_is None (Some o) e = absurd cc
 returned_is (Some (parts vs)) x e = by_outcome (outcome_pieces (pieces_of vs)) refl e
   where
-    by_outcome : (y : Option Outcome) → outcome_pieces (pieces_of vs) ≡ y → option_map Some y ≡ Some x → present (parts vs) no_parts ≡ returned_part x
+    by_outcome : (y : Option ReturnedOctets) → outcome_pieces (pieces_of vs) ≡ y → option_map Some y ≡ Some x → present (parts vs) no_parts ≡ returned_part x
     by_outcome None is f = absurd cc
     by_outcome (Some o) is f =
         let z : Some o ≡ x = cc in
@@ -131,14 +131,14 @@ invokes (Some i) None c d h e = absurd cc
 invokes (Some i) (Some l) None d h e = absurd cc
 invokes (Some i) (Some l) (Some k) None h e = absurd cc
 
-record Results (a : Option ℤ) (b : Option (Option Outcome)) (h : Head) : Type 0 where
+record Results (a : Option ℤ) (b : Option (Option ReturnedOctets)) (h : Head) : Type 0 where
   i : ℤ
-  o : Option Outcome
+  o : Option ReturnedOctets
   id : a ≡ Some i
   outcome : b ≡ Some o
   head : result i o ≡ h
 
-results : (a : Option ℤ) (b : Option (Option Outcome)) (h : Head) → result_by a b ≡ Some h → Results a b h
+results : (a : Option ℤ) (b : Option (Option ReturnedOctets)) (h : Head) → result_by a b ≡ Some h → Results a b h
 results (Some i) (Some o) h e = record { i = i; o = o; id = refl; outcome = refl; head = some_head (result i o) h e }
 results None b h e = absurd cc
 results (Some i) None h e = absurd cc
@@ -255,17 +255,17 @@ mark_is (Some (boolean false)) [] (Some a) e = absurd cc
 mark_is (Some (boolean false)) (o ∷ os) a e = absurd cc
 mark_is _ rest a e = absurd cc
 
-abbrev outcome_octets : Option Outcome → List ℕ
+abbrev outcome_octets : Option ReturnedOctets → List ℕ
 outcome_octets None = []
 outcome_octets (Some o) = o.octets
 
-outcome_is : (p : Option Value) (rest : List ℕ) (x : Option Outcome) → outcome_in p rest ≡ Some x → (parts_of (p ∷ []) ≡ code_part x) × (rest ≡ outcome_octets x)
+outcome_is : (p : Option Value) (rest : List ℕ) (x : Option ReturnedOctets) → outcome_in p rest ≡ Some x → (parts_of (p ∷ []) ≡ code_part x) × (rest ≡ outcome_octets x)
 outcome_is None [] None e = (refl, refl)
 outcome_is None [] (Some o) e = absurd cc
 outcome_is None (o ∷ os) x e = absurd cc
 outcome_is (Some v) rest x e = by_outcome (outcome_by (code_in (Some v)) (Some rest)) refl e
   where
-    by_outcome : (y : Option Outcome) → outcome_by (code_in (Some v)) (Some rest) ≡ y → option_map Some y ≡ Some x → (present v no_parts ≡ code_part x) × (rest ≡ outcome_octets x)
+    by_outcome : (y : Option ReturnedOctets) → outcome_by (code_in (Some v)) (Some rest) ≡ y → option_map Some y ≡ Some x → (present v no_parts ≡ code_part x) × (rest ≡ outcome_octets x)
     by_outcome None is f = absurd cc
     by_outcome (Some o) is f =
         let z : Some o ≡ x = cc in
@@ -287,7 +287,7 @@ packed_invoke_is (a ∷ b ∷ []) rest h e = absurd cc
 packed_invoke_is (a ∷ b ∷ c ∷ []) rest h e = absurd cc
 packed_invoke_is (a ∷ b ∷ c ∷ d ∷ f ∷ ps) rest h e = absurd cc
 
-carried_outcome : (i : ℤ) (o : Option Outcome) → outcome_octets o ≡ carried (result i o)
+carried_outcome : (i : ℤ) (o : Option ReturnedOctets) → outcome_octets o ≡ carried (result i o)
 carried_outcome i None = refl
 carried_outcome i (Some o) = refl
 

@@ -4,7 +4,7 @@ use Rattle.osi_base.specs.declared.layer_words.ProblemKind.{ProblemKind}
 use Rattle.osi_base.specs.declared.layer_words.ProblemKind.TheVariants as kinds
 use Rattle.stub_tables.specs.declared.operation.Code.{Code}
 use Rattle.stub_tables.specs.declared.operation.Code.TheVariants.{Local, Global}
-use Rattle.apdu_spelling.specs.Heads.{Outcome, Head, invoke, result, error, reject, carried}
+use Rattle.apdu_spelling.specs.Heads.{Head, invoke, result, error, reject, carried}
 use Rattle.apdu_spelling.specs.Values.{ber_value, packed_value}
 use Rattle.apdu_codec.specs.Pieces.{ber_head, packed_head}
 

@@ -34,7 +34,7 @@ use Rattle.stub_tables.specs.declared.apdu.Apdu.{Apdu}
 use Rattle.stub_tables.specs.declared.apdu.Apdu.TheVariants as apdus
 use Rattle.stub_tables.specs.declared.apdu.Returned.{Returned}
 use Rattle.stub_tables.specs.Apdus.{argument_of, result_of, parameter_of, operation_coded, error_coded}
-use Rattle.apdu_spelling.specs.Heads.{Outcome, invoke, result, error, reject, or_none, carried}
+use Rattle.apdu_spelling.specs.Heads.{ReturnedOctets, invoke, result, error, reject, or_none, carried}
 use Rattle.apdu_spelling.specs.Rows.{part, optional_part, any_row, linked_row, code_row, mark_row, returned_row, head_rows, apdu_row, packed_apdu_row, reject_parts, invoke_parts, returned_parts, result_parts, error_parts}
 use Rattle.apdu_spelling.specs.Values.{code_value, linked_part, rejected_value, kind_place, problem_value, any_part, returned_part, ber_value, mark_part, packed_value}
 use Rattle.apdu_spelling.specs.Writing.{written_typed, written_carried, written_head, outcome_of, head_of, written_apdu}
@@ -406,7 +406,7 @@ same_carried types None v = refl
 same_carried types (Some used) None = refl
 same_carried types (Some used) (Some v) = same_typed types used.inner v
 
-abbrev outcome_with : Code → List ℕ → Outcome
+abbrev outcome_with : Code → List ℕ → ReturnedOctets
 outcome_with code os = record { code = code; octets = os }
 
 same_outcome : (tables : Tables) (returned : Option Returned) → outcome_of tables syntax.Der returned ≡ outcome_of tables syntax.Ber returned

@@ -7,7 +7,7 @@ use Rattle.osi_base.specs.declared.layer_words.ProblemKind.TheVariants as kinds
 use Rattle.asn1_types.specs.Value.{Value, boolean, integer, null, object_id, parts, chosen, any, MaybeValues, no_parts, absent, present}
 use Rattle.stub_tables.specs.declared.operation.Code.{Code}
 use Rattle.stub_tables.specs.declared.operation.Code.TheVariants.{Local, Global}
-use Rattle.apdu_spelling.specs.Heads.{Outcome, Head, invoke, result, error, reject}
+use Rattle.apdu_spelling.specs.Heads.{ReturnedOctets, Head, invoke, result, error, reject}
 
 abbrev pub pieces_of : MaybeValues → List (Option Value)
 pieces_of no_parts = []
@@ -56,7 +56,7 @@ problem_in (Some (chosen (suc (suc zero)) v)) = problem_by kinds.Result v
 problem_in (Some (chosen (suc (suc (suc zero))) v)) = problem_by kinds.Error v
 problem_in _ = None
 
-abbrev pub outcome_by : Option Code → Option (List ℕ) → Option Outcome
+abbrev pub outcome_by : Option Code → Option (List ℕ) → Option ReturnedOctets
 outcome_by (Some code) (Some octets) = Some (record { code = code; octets = octets })
 outcome_by _ _ = None
 
@@ -66,7 +66,7 @@ abbrev pub invoke_by : Option ℤ → Option (Option ℤ) → Option Code → Op
 invoke_by (Some id) (Some linked) (Some code) (Some argument) = Some (invoke id linked code argument)
 invoke_by _ _ _ _ = None
 
-abbrev pub result_by : Option ℤ → Option (Option Outcome) → Option Head
+abbrev pub result_by : Option ℤ → Option (Option ReturnedOctets) → Option Head
 result_by (Some id) (Some outcome) = Some (result id outcome)
 result_by _ _ = None
 
@@ -80,11 +80,11 @@ reject_by _ _ = None
 
 -- ---- BER and DER
 
-abbrev pub outcome_pieces : List (Option Value) → Option Outcome
+abbrev pub outcome_pieces : List (Option Value) → Option ReturnedOctets
 outcome_pieces (code ∷ value ∷ []) = outcome_by (code_in code) (octets_in value)
 outcome_pieces _ = None
 
-abbrev pub returned_in : Option Value → Option (Option Outcome)
+abbrev pub returned_in : Option Value → Option (Option ReturnedOctets)
 returned_in None = Some None
 returned_in (Some (parts vs)) = option_map Some (outcome_pieces (pieces_of vs))
 returned_in _ = None
@@ -127,7 +127,7 @@ marked_in (Some (boolean true)) rest = Some (Some rest)
 marked_in (Some (boolean false)) rest = none_behind rest (Some None)
 marked_in _ rest = None
 
-abbrev pub outcome_in : Option Value → List ℕ → Option (Option Outcome)
+abbrev pub outcome_in : Option Value → List ℕ → Option (Option ReturnedOctets)
 outcome_in None rest = none_behind rest (Some None)
 outcome_in (Some v) rest = option_map Some (outcome_by (code_in (Some v)) (Some rest))
 

@@ -20,7 +20,7 @@ use Rattle.stub_tables.specs.declared.apdu.Apdu.{Apdu}
 use Rattle.stub_tables.specs.declared.apdu.Apdu.TheVariants as apdus
 use Rattle.stub_tables.specs.declared.apdu.Returned.{Returned}
 use Rattle.stub_tables.specs.Apdus.{argument_of, result_of, parameter_of, operation_coded, error_coded}
-use Rattle.apdu_spelling.specs.Heads.{Outcome, Head, invoke, result, error, reject, carried, or_none}
+use Rattle.apdu_spelling.specs.Heads.{ReturnedOctets, Head, invoke, result, error, reject, carried, or_none}
 use Rattle.apdu_spelling.specs.Rows.{head_rows, apdu_row, packed_apdu_row}
 use Rattle.apdu_spelling.specs.Values.{code_value, linked_part, rejected_value, kind_place, problem_value, any_part, returned_part, ber_value, mark_part, code_part, packed_value}
 use Rattle.apdu_spelling.specs.Spellings.{SpellsHead, SpelledAs, TypedAs, CarriedAs, room_behind, SaysInvoke, SaysResult, SaysError, ReturnedAs, Says, Spells}
@@ -40,10 +40,10 @@ one_any (Some a) (Some b) e = cc
 one_any None (Some b) e = absurd cc
 one_any (Some a) None e = absurd cc
 
-outcomes : (c d : Code) (a b : List ℕ) → c ≡ d → a ≡ b → (let x : Outcome = record { code = c; octets = a } in let y : Outcome = record { code = d; octets = b } in Some x ≡ Some y)
+outcomes : (c d : Code) (a b : List ℕ) → c ≡ d → a ≡ b → (let x : ReturnedOctets = record { code = c; octets = a } in let y : ReturnedOctets = record { code = d; octets = b } in Some x ≡ Some y)
 outcomes c d a b e f = λ i. Some (record { code = e i; octets = f i })
 
-one_returned : (a b : Option Outcome) → returned_part a ≡ returned_part b → a ≡ b
+one_returned : (a b : Option ReturnedOctets) → returned_part a ≡ returned_part b → a ≡ b
 one_returned None None e = refl
 one_returned (Some a) (Some b) e =
     let x : code_value a.code ≡ code_value b.code = cc in
@@ -58,7 +58,7 @@ one_mark (Some a) (Some b) e f = ap Some f
 one_mark None (Some b) e f = absurd cc
 one_mark (Some a) None e f = absurd cc
 
-one_outcome : (id : ℤ) (a b : Option Outcome) → code_part a ≡ code_part b → carried (result id a) ≡ carried (result id b) → a ≡ b
+one_outcome : (id : ℤ) (a b : Option ReturnedOctets) → code_part a ≡ code_part b → carried (result id a) ≡ carried (result id b) → a ≡ b
 one_outcome id None None e f = refl
 one_outcome id (Some a) (Some b) e f =
     let x : code_value a.code ≡ code_value b.code = cc in
@@ -223,7 +223,7 @@ module _ (s : Syntax) (t : Tables) (sound : AreSoundRows t.types) (limit : ℕ) 
   some_is : (a b : Val) → Some a ≡ Some b → a ≡ b
   some_is a b e = cc
 
-  one_return : (a b : Option Returned) (o : Option Outcome) → ReturnedAs t s limit a o → ReturnedAs t s limit b o → a ≡ b
+  one_return : (a b : Option Returned) (o : Option ReturnedOctets) → ReturnedAs t s limit a o → ReturnedAs t s limit b o → a ≡ b
   one_return None None o p q = refl
   one_return (Some a) (Some b) None p q = absurd p
   one_return None (Some b) None p q = absurd q
@@ -260,7 +260,7 @@ module _ (s : Syntax) (t : Tables) (sound : AreSoundRows t.types) where
   one_result i j a b h p q =
       let e : result i p.outcome ≡ result j q.outcome = sym p.head_is ∙ q.head_is in
       let x : i ≡ j = cc in let o : p.outcome ≡ q.outcome = cc in
-      let m : ReturnedAs t s (room_behind s h) a q.outcome = subst (λ (y : Option Outcome). ReturnedAs t s (room_behind s h) a y) o p.typed in
+      let m : ReturnedAs t s (room_behind s h) a q.outcome = subst (λ (y : Option ReturnedOctets). ReturnedAs t s (room_behind s h) a y) o p.typed in
       let u : a ≡ b = one_return s t sound (room_behind s h) (room_le s h) a b q.outcome m q.typed in cc
 
   one_said : (a b : Apdu) (h : Head) → Says t s a h → Says t s b h → a ≡ b

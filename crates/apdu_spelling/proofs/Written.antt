@@ -39,7 +39,7 @@ use Rattle.stub_tables.specs.Codes.{same_code, place_with}
 use Rattle.stub_tables.specs.Lookup.{operation_at, error_at, operation_with, error_with}
 use Rattle.stub_tables.specs.Readable.{code_fits, IsReadable}
 use Rattle.stub_tables.specs.Apdus.{placed, argument_of, result_of, parameter_of, operation_coded, error_coded}
-use Rattle.apdu_spelling.specs.Heads.{Outcome, Head, invoke, result, error, reject, or_none, carried}
+use Rattle.apdu_spelling.specs.Heads.{ReturnedOctets, Head, invoke, result, error, reject, or_none, carried}
 use Rattle.apdu_spelling.specs.Rows.{part, optional_part, head_rows, apdu_row, packed_apdu_row, any_row, returned_row, invoke_parts, result_parts, returned_parts, error_parts}
 use Rattle.apdu_spelling.specs.Values.{code_value, ber_value, packed_value}
 use Rattle.apdu_spelling.specs.Spellings.{SpellsHead, SpelledAs, TypedAs, CarriedAs, room_behind, Spells}
@@ -137,7 +137,7 @@ error_short id c os m le =
     (part_short (inner 28) error_parts vs (optional_part (codes "parameter") any_row) (any os) (inr (inr (inl (refl, refl)))))
     (within (context 3) (parts_contents (inner 28) error_parts vs) m le)
 
-result_short : (id : ℤ) (o : Outcome) (m : ℕ) → length (written head_rows apdu_row (ber_value (result id (Some o)))) ≤ m → length o.octets ≤ m
+result_short : (id : ℤ) (o : ReturnedOctets) (m : ℕ) → length (written head_rows apdu_row (ber_value (result id (Some o)))) ≤ m → length o.octets ≤ m
 unfolding written writes
 result_short id o m le =
     let ws : MaybeValues = present (code_value o.code) (present (any o.octets) no_parts) in
@@ -254,7 +254,7 @@ holds_error syntax.Der id c None w = tt
 holds_error syntax.Der id c (Some os) w = w
 holds_error syntax.Packed id c os w = tt
 
-holds_result : (s : Syntax) (id : ℤ) (o : Outcome) → WholeIn s o.octets → HoldsIn s (result id (Some o))
+holds_result : (s : Syntax) (id : ℤ) (o : ReturnedOctets) → WholeIn s o.octets → HoldsIn s (result id (Some o))
 holds_result syntax.Ber id o w = w
 holds_result syntax.Der id o w = w
 holds_result syntax.Packed id o w = tt
@@ -294,7 +294,7 @@ module _ (t : Tables) (r : IsReadable t) (s : Syntax) where
   none_written : (id : ℤ) → is_identifier id ≡ true → length (written_head s (result id None)) ≤ 262144 → Spells t s (apdus.Result id None) (written_head s (result id None))
   none_written id n le = record { head = result id None; is_head = head_is s (result id None) n (holds_none s id) le; says = record { outcome = None; head_is = refl; typed = tt } }
 
-  abbrev returns : Code → List ℕ → Outcome
+  abbrev returns : Code → List ℕ → ReturnedOctets
   returns c os = record { code = c; octets = os }
 
   result_written : (id : ℤ) (x : Returned) (os : Option (List ℕ)) → written_carried s t.types (option_map result_of (operation_coded t x.code)) (Some x.value) ≡ os
@@ -302,7 +302,7 @@ module _ (t : Tables) (r : IsReadable t) (s : Syntax) where
       → Spells t s (apdus.Result id (Some x)) (written_head s (result id (Some (returns x.code (or_none os)))))
   result_written id x None w n m le = absurd (untyped_none s t r 0 (omega arith) (option_map result_of (operation_coded t x.code)) x.value m w)
   result_written id x (Some os) w n m le =
-      let o : Outcome = returns x.code os in
+      let o : ReturnedOctets = returns x.code os in
       let h : Head = result id (Some o) in
       let k = carried_as s t r (room_behind s h) (room_le s h) (option_map result_of (operation_coded t x.code)) (Some x.value) (Some os) m w (room_is s h le) in
       let f = placed_fits (λ (q : Operation). q.code) t.operations x.code (operation_at t) result_of s t.types (Some x.value) (operation_with t x.code) r.operations refl m in

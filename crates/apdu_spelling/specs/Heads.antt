@@ -8,14 +8,14 @@ use Rattle.apdu_spelling.specs.declared.head.ApduHead.{ApduHead}
 use Rattle.apdu_spelling.specs.declared.head.ApduKind.TheVariants as kind
 
 -- what a result returns: the operation's code, and the octets of the value
-pub record Outcome : Type 0 where
+pub record ReturnedOctets : Type 0 where
   pub code : Code
   pub octets : List ℕ
 
 pub data Head : Type 0 where
   -- identifier, the identifier it is linked to, code, octets of the argument
   invoke : ℤ → Option ℤ → Code → Option (List ℕ) → Head
-  result : ℤ → Option Outcome → Head
+  result : ℤ → Option ReturnedOctets → Head
   -- identifier, code, octets of the parameter
   error : ℤ → Code → Option (List ℕ) → Head
   -- a reject of what has no identifier that can be read names none

@@ -19,7 +19,7 @@ use Rattle.stub_tables.specs.declared.apdu.Returned.{Returned}
 use Rattle.stub_tables.specs.Uses.{may_lack}
 use Rattle.stub_tables.specs.Apdus.{argument_of, result_of, parameter_of, operation_coded, error_coded}
 use Rattle.apdu_spelling.specs.declared.head.ApduHead.{ApduHead}
-use Rattle.apdu_spelling.specs.Heads.{Outcome, Head, invoke, result, error, reject, carried, fields_of}
+use Rattle.apdu_spelling.specs.Heads.{ReturnedOctets, Head, invoke, result, error, reject, carried, fields_of}
 use Rattle.apdu_spelling.specs.Rows.{head_rows, apdu_row, packed_apdu_row}
 use Rattle.apdu_spelling.specs.Values.{ber_value, packed_value}
 
@@ -74,7 +74,7 @@ pub record SaysInvoke (tables : Tables) (syntax : Syntax) (id : ℤ) (linked : O
   pub typed : CarriedAs syntax tables.types (room_behind syntax h) (option_map argument_of (operation_coded tables code)) argument octets
 
 -- a result's type is found by the code beside it
-abbrev pub ReturnedAs : Tables → Syntax → ℕ → Option Returned → Option Outcome → Type 0
+abbrev pub ReturnedAs : Tables → Syntax → ℕ → Option Returned → Option ReturnedOctets → Type 0
 ReturnedAs tables syntax limit None None = Unit {0}
 ReturnedAs tables syntax limit None (Some outcome) = ⊥
 ReturnedAs tables syntax limit (Some r) None = ⊥
@@ -82,7 +82,7 @@ ReturnedAs tables syntax limit (Some r) (Some outcome) =
     (outcome.code ≡ r.code) × CarriedAs syntax tables.types limit (option_map result_of (operation_coded tables r.code)) (Some r.value) (Some outcome.octets)
 
 pub record SaysResult (tables : Tables) (syntax : Syntax) (id : ℤ) (returned : Option Returned) (h : Head) : Type 0 where
-  pub outcome : Option Outcome
+  pub outcome : Option ReturnedOctets
   pub head_is : h ≡ result id outcome
   pub typed : ReturnedAs tables syntax (room_behind syntax h) returned outcome
 

@@ -6,7 +6,7 @@ use Rattle.osi_base.specs.declared.layer_words.ProblemKind.TheVariants.{General,
 use Rattle.asn1_types.specs.Value.{Value, boolean, integer, null, object_id, parts, chosen, any, MaybeValues, no_parts, absent, present}
 use Rattle.stub_tables.specs.declared.operation.Code.{Code}
 use Rattle.stub_tables.specs.declared.operation.Code.TheVariants.{Local, Global}
-use Rattle.apdu_spelling.specs.Heads.{Outcome, Head, invoke, result, error, reject}
+use Rattle.apdu_spelling.specs.Heads.{ReturnedOctets, Head, invoke, result, error, reject}
 
 abbrev pub code_value : Code → Value
 code_value (Local number) = chosen 0 (integer number)
@@ -39,7 +39,7 @@ abbrev pub any_part : Option (List ℕ) → MaybeValues
 any_part None = absent no_parts
 any_part (Some octets) = present (any octets) no_parts
 
-abbrev pub returned_part : Option Outcome → MaybeValues
+abbrev pub returned_part : Option ReturnedOctets → MaybeValues
 returned_part None = absent no_parts
 returned_part (Some outcome) = present (parts (present (code_value outcome.code) (present (any outcome.octets) no_parts))) no_parts
 
@@ -55,7 +55,7 @@ ber_value (reject id problem) = chosen 3 (reject_value id problem)
 abbrev pub mark_part : Option (List ℕ) → MaybeValues
 mark_part octets = present (boolean (is_some octets)) no_parts
 
-abbrev pub code_part : Option Outcome → MaybeValues
+abbrev pub code_part : Option ReturnedOctets → MaybeValues
 code_part None = absent no_parts
 code_part (Some outcome) = present (code_value outcome.code) no_parts
 

@@ -18,7 +18,7 @@ use Rattle.stub_tables.specs.declared.apdu.Apdu.TheVariants.{Invoke, Result, Err
 use Rattle.stub_tables.specs.declared.apdu.Returned.{Returned}
 use Rattle.stub_tables.specs.Uses.{may_lack}
 use Rattle.stub_tables.specs.Apdus.{argument_of, result_of, parameter_of, operation_coded, error_coded}
-use Rattle.apdu_spelling.specs.Heads.{Outcome, Head, invoke, result, error, reject, or_none, carried}
+use Rattle.apdu_spelling.specs.Heads.{ReturnedOctets, Head, invoke, result, error, reject, or_none, carried}
 use Rattle.apdu_spelling.specs.Rows.{head_rows, apdu_row, packed_apdu_row}
 use Rattle.apdu_spelling.specs.Values.{ber_value, packed_value}
 
@@ -45,7 +45,7 @@ written_head syntax.Ber h = written head_rows apdu_row (ber_value h)
 written_head syntax.Der h = written head_rows apdu_row (ber_value h)
 written_head syntax.Packed h = packed head_rows packed_apdu_row (packed_value h) ++ carried h
 
-abbrev pub outcome_of : Tables → Syntax → Option Returned → Option Outcome
+abbrev pub outcome_of : Tables → Syntax → Option Returned → Option ReturnedOctets
 outcome_of tables syntax None = None
 outcome_of tables syntax (Some r) =
     Some (record { code = r.code; octets = or_none (written_carried syntax tables.types (option_map result_of (operation_coded tables r.code)) (Some r.value)) })

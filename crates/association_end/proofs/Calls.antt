@@ -27,7 +27,7 @@ use Rattle.end_config.specs.Refusing.{config_refusal, early_refusal, late_refusa
 use Rattle.end_rules.specs.Base.{Base, is_bare}
 use Rattle.end_rules.specs.Messages.{Message}
 use Rattle.end_rules.specs.State.{Body, OpenCall, opened_with, is_carrying, passes_over}
-use Rattle.end_rules.specs.Invoking.{Reply, carrier_in, invoke_apdu}
+use Rattle.end_rules.specs.Invoking.{Reply, carrier_in, invoke_apdu, is_memory}
 use Rattle.end_rules.specs.Calling.{is_dead, is_initiators, is_phase_for, is_of_bare_mode, can_by_rows, can_call}
 use Rattle.end_rules.specs.Writing.{give_message, please_message, user_abort}
 use Rattle.end_rules.specs.Requesting.{sent_at_once, due_invoke, due_outcome, result_in, error_for, due_of_accepted, due_of, after_refused, after_call}
@@ -38,8 +38,8 @@ use Rattle.association_line.specs.Feeding.{OwnAfter, BeginsByItself}
 use Rattle.association_requests.specs.declared.call_outcome.CallOutcome as call_outcomes
 use Rattle.association_requests.specs.Called.{sent_by, CalledAs}
 use Rattle.association_end.specs.View.{EndView, base, Stepped}
-use Rattle.association_end.specs.Called.{is_memory, Answered, nothing_made, made, BeganCall, DiedCalled}
-use Rattle.association_end.specs.Progress.{Keeps, DidOwn, BeganOwn, Answers}
+use Rattle.association_end.specs.Called.{Answered, nothing_made, made, BeganCall, DiedCalled}
+use Rattle.association_end.specs.Progress.{Keeps, DidOwn, BeganOwn, AnswersCall}
 use Rattle.association_end.specs.Sound.{IsSoundEnd}
 use Rattle.association_end.specs.Changed.{AcceptedSo, RefusedSo, wants_memory, ChangedBy}
 use Rattle.association_end.specs.OneMessage.{AllMayStand, with_body, sending}
@@ -94,7 +94,7 @@ request-fits ours theirs p q =
 pub request_stands : (config : Config) → config_refusal config ≡ None → HasRoom (request_ends 1 (Some 10) config.calling config.called)
 request_stands config h =
     let early = none-first (early_refusal config) (late_refusal config) h in
-    let rest = none-second (context_refusal (bad_context config.mode [] config.contexts) (length config.contexts)) (values.config_refusal config) early in
+    let rest = none-second (context_refusal (bad_context config.mode [] config.contexts) (length config.contexts)) (values.bare_config_refusal config) early in
     let selectors = no-refusal (values.is_bad_selector config.calling || values.is_bad_selector config.called) config_refusals.BadSelector _ rest in
     request-fits config.calling config.called (few config.calling (or-left (values.is_bad_selector config.calling) (values.is_bad_selector config.called) selectors))
     (few config.called (or-right (values.is_bad_selector config.calling) (values.is_bad_selector config.called) selectors))
@@ -249,7 +249,7 @@ refused old new call refusal m r =
       stands = stands_on old new steps made_so;
     }
 
-pub refused_answers : (old new : EndView) (call : Call) (refusal : CallRefusal) → ChangedBy old new call (Err refusal) → Answers old new call (Err refusal)
+pub refused_answers : (old new : EndView) (call : Call) (refusal : CallRefusal) → ChangedBy old new call (Err refusal) → AnswersCall old new call (Err refusal)
 refused_answers old new call refusals.NoMemory k = began_nothing old new call k
 refused_answers old new call refusal r = refused old new call refusal refl r
 

@@ -3,7 +3,7 @@ use Rattle.std.proofs.Common.{◌≡◌, ℕ, suc, ◌<◌, nat_lt, take, length
 use Rattle.std.proofs.lemmas.List.{append-nil}
 use Rattle.dialogue.specs.declared.config.Phase.{Phase}
 use Rattle.dialogue.specs.declared.config.Phase.TheVariants.{Over, Dead}
-use Rattle.osi_base.specs.Limits.{last_activity}
+use Rattle.osi_base.specs.Limits.{last_serial}
 use Rattle.end_rules.specs.Base.{Base, is_reliable}
 use Rattle.end_rules.specs.Messages.{Message, Session, OfMarks, OfActivities, Mark, Start, End}
 use Rattle.end_rules.specs.State.{Body, Transfer, Encoded, Queued, Link, on_current, is_up, is_free, is_running, is_empty, highest, passes_over}
@@ -61,7 +61,7 @@ transfer_stand b body t (Some e) = encoded_stand body t e (left_of t e)
 start_stand : (b : Base) (body : Body) (queue : List Queued) → ActStands (next_start b body queue)
 start_stand b body [] = tt
 start_stand b body (item ∷ items) =
-    either (is_some (carrier_in b body item.context) && nat_lt body.sending.started last_activity) (Some (SendsNow (Session (OfActivities (Start (suc body.sending.started)))))) None tt tt
+    either (is_some (carrier_in b body item.context) && nat_lt body.sending.started last_serial) (Some (SendsNow (Session (OfActivities (Start (suc body.sending.started)))))) None tt tt
 
 in_stand : (b : Base) (body : Body) (current : Option Transfer) → ActStands (next_in b body current)
 in_stand b body None = start_stand b body body.sending.queue

@@ -1,5 +1,5 @@
 -- What a call does, and what is left where memory was refused in it.
-use Rattle.std.specs.Prelude.{◌≡◌, List, [], ◌++◌, Bool, true, false, Ok, Err}
+use Rattle.std.specs.Prelude.{◌≡◌, List, [], ◌++◌}
 use Rattle.dialogue.specs.declared.call.Call.{Call}
 use Rattle.dialogue.specs.declared.call.CallRefusal.TheVariants as refusals
 use Rattle.dialogue.specs.declared.config.Phase.TheVariants.{Dead}
@@ -10,11 +10,6 @@ use Rattle.end_rules.specs.History.{Step, History, call_steps}
 use Rattle.association_line.specs.Line.{End, after_all, going_on}
 use Rattle.association_line.specs.Feeding.{Makes, BeginsByItself}
 use Rattle.association_end.specs.View.{EndView, base, Stepped, StandsFor}
-
-abbrev pub is_memory : Reply → Bool
-is_memory (Ok answer) = false
-is_memory (Err refusals.NoMemory) = true
-is_memory (Err _) = false
 
 -- The call got the answer that can be given, and the steps were made that it makes.
 pub record Answered (old new : EndView) (call : Call) (reply : Reply) : Type 0 where

@@ -2,14 +2,14 @@
 use Rattle.std.specs.Prelude.{◌≡◌, ℕ, ◌<◌, List, [], ◌∷◌, ◌++◌, length, Bool, true, false, Option, Some, None, MatchBool}
 use Rattle.dialogue.specs.declared.call.Call.{Call}
 use Rattle.dialogue.specs.declared.indication.Indication.{Indication}
-use Rattle.end_rules.specs.Invoking.{Reply}
+use Rattle.end_rules.specs.Invoking.{Reply, is_memory}
 use Rattle.end_rules.specs.ByItself.{OwnAct, next_own}
 use Rattle.end_rules.specs.History.{Step, step_of, ByItself}
 use Rattle.association_line.specs.association_reading.Front.{Intake}
 use Rattle.association_line.specs.Line.{after_all}
 use Rattle.association_line.specs.Feeding.{Reads, Begins, BeginsByItself}
 use Rattle.association_end.specs.View.{EndView, base, Stepped}
-use Rattle.association_end.specs.Called.{is_memory, Answered, BeganCall}
+use Rattle.association_end.specs.Called.{Answered, BeganCall}
 
 -- what waits is as it was
 pub record Keeps (old new : EndView) : Type 0 where
@@ -95,5 +95,5 @@ pub record BeganOwn (old new : EndView) : Type 0 where
 
 -- ---- calls
 
-abbrev pub Answers : EndView → EndView → Call → Reply → Type 0
-Answers old new call reply = MatchBool (is_memory reply) (BeganCall old new call) (Answered old new call reply)
+abbrev pub AnswersCall : EndView → EndView → Call → Reply → Type 0
+AnswersCall old new call reply = MatchBool (is_memory reply) (BeganCall old new call) (Answered old new call reply)

@@ -1,10 +1,11 @@
 //! The calls of an end.
 
 ghost use Rattle.std.specs.Prelude.{◌≡◌, IfOk, OnOk, OnErr, MatchBool, option_map};
+ghost use Rattle.end_rules.specs.Invoking.{is_memory};
 ghost use Rattle.association_words.specs.Seen.{seen_message};
 ghost use Rattle.association_reacting.specs.association_sends.Due.{listed};
-ghost use Rattle.association_end.specs.Called.{is_memory, Answered, DiedCalled};
-ghost use Rattle.association_end.specs.Progress.{Answers};
+ghost use Rattle.association_end.specs.Called.{Answered, DiedCalled};
+ghost use Rattle.association_end.specs.Progress.{AnswersCall};
 ghost use Rattle.association_requests.specs.Called.{sent_by};
 ghost use Rattle.association_end.specs.Changed.{wants_memory, ChangedBy};
 ghost use Rattle.association_end.specs.OneMessage.{AllMayStand, sending};
@@ -59,7 +60,7 @@ impl<'t> End<'t> {
     /// Makes a call, unless memory is refused. The message is let go by a call, since it is much to
     /// let go where a function ends.
     fn call_now(&mut self, asked: &Call) -> Result<Option<i64>, CallRefusal>
-        ensures { Answers self.old self.new asked.now result }
+        ensures { AnswersCall self.old self.new asked.now result }
     {
         let called = self.change(asked)?;
         let CallOutcome { answer, message } = called;

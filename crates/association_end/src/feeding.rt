@@ -47,8 +47,8 @@ impl<'t> End<'t> {
     /// Reads what stands first, and answers whether more may follow.
     fn read_next(&mut self, shown: &mut Indications) -> Result<bool, NoMemory>
         requires { passes_over self.old.end.body.link.phase ≡ false }
-        ensures { MatchResult result (λ more. ReadOneOrAll more self.old self.new shown.old shown.new)
-            (λ _. Keeps self.old self.new) }
+        ensures { MatchResult result (λ more. ReadOneOrAll more self.old self.new shown.old
+            shown.new) (λ _. Keeps self.old self.new) }
     {
         reactions_are_steps();
         let front = self.take_front();

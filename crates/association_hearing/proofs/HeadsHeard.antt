@@ -16,7 +16,7 @@ use Rattle.end_wire.specs.apdu_codec.declared.fault.HeadFault.TheVariants as fau
 use Rattle.end_wire.specs.apdu_codec.Refusals.{refusal_of}
 use Rattle.end_wire.specs.apdu_codec.HeadsRead.{HasFields, HasNone, IsRefused}
 use Rattle.rose_roles.specs.declared.apdu_taken.RoseTaken.{RoseTaken}
-use Rattle.rose_roles.specs.Heads.{room_in, said_by}
+use Rattle.rose_roles.specs.Heads.{said_by}
 use Rattle.rose_roles.specs.Hearing.{heard_with, refused_as, Hears}
 use Rattle.rose_roles.specs.Laws.{carried_by}
 use Rattle.rose_roles.proofs.Carrying.{always_carries}
@@ -24,7 +24,7 @@ use Rattle.association_answers.specs.open_invocations.Invocations.{SomeCarried}
 use Rattle.end_rules.specs.Base.{Base, InvokeHead, ResultHead, ErrorHead}
 use Rattle.end_rules.specs.State.{Calls}
 use Rattle.end_rules.specs.Hearing.{hear}
-use Rattle.end_wire.specs.Heads.{carried_at, heard_head, refused, heard_or_refused, head_at}
+use Rattle.end_wire.specs.Heads.{carried_at, heard_head, refused, heard_or_refused, head_at, room_in}
 use Rattle.end_wire.proofs.HeadLaws.{head_read, no_head}
 
 same_room : (s : Syntax) (h : heads.Head) → room_in s (room_behind s h) ≡ room_behind s h

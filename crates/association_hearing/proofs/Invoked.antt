@@ -7,7 +7,7 @@ use Rattle.rose_roles.specs.declared.apdu_taken.RoseTaken.TheVariants as takens
 use Rattle.rose_roles.specs.Hearing.{heard_with}
 use Rattle.end_rules.specs.Base.{Base}
 use Rattle.end_rules.specs.State.{Calls}
-use Rattle.end_rules.specs.Hearing.{Heard, carried_in, value_in, showing, rejected, unless_problem, opening, invoked, invoke_problem}
+use Rattle.end_rules.specs.Hearing.{Heard, carried_in, value_in, showing, rejected, unless_problem, with_opened, invoked, invoke_problem}
 
 value_same : (v : Option Val) → value_in (carried_in v) ≡ v
 value_same None = refl
@@ -25,7 +25,7 @@ module _ (base : Base) (calls : Calls) (context : ℕ) (id : ℤ) (linked : Opti
 
   -- one that is right is opened and told
   pub right_heard : (place : Option ℕ) (after : Calls) (at : ℕ) → place ≡ Some at → invoke_problem base calls id linked place (carried_in argument) ≡ None
-      → after ≡ opening base (record { own = false; id = id; operation = at; context = context; parent = linked }) calls
+      → after ≡ with_opened base (record { own = false; id = id; operation = at; context = context; parent = linked }) calls
       → heard_with after (takens.Invoked id at linked argument) ≡ heard_at place
   right_heard place after at e none is =
       (λ k. showing (is k) (indications.Invoked id at linked (sym (value_same argument) k)))

@@ -4,7 +4,7 @@ use Rattle.std.proofs.lemmas.List.{append-nil, length-take}
 use Rattle.std.proofs.lemmas.Bool.Decides.{nat_tests}
 use Rattle.osi_base.specs.declared.syntax.Pair.{Pair}
 use Rattle.osi_base.specs.declared.layer_words.SetItem.{SetItem}
-use Rattle.osi_base.specs.Limits.{last_activity}
+use Rattle.osi_base.specs.Limits.{last_serial}
 use Rattle.dialogue.specs.declared.config.Mode.{Mode}
 use Rattle.dialogue.specs.declared.config.Mode.TheVariants.{Bare, Direct, Reliable}
 use Rattle.association_reading.specs.end_rules.Base.{Base, is_reliable}
@@ -95,7 +95,7 @@ starts base link sets saved calls receiving started [] act h = cc
 starts base link sets saved calls receiving started (item ∷ items) act h =
     let body : Body = of_parts link sets saved calls receiving started None (item ∷ items) in
     subst (Less base body)
-    (some_is _ act (guarded (is_some (carrier_in base body item.context) && nat_lt started last_activity) (Some (SendsNow (Session (OfActivities (Start (suc started)))))) act h))
+    (some_is _ act (guarded (is_some (carrier_in base body item.context) && nat_lt started last_serial) (Some (SendsNow (Session (OfActivities (Start (suc started)))))) act h))
     (started_less (length_ahead base (after_step base body (step_of (SendsNow (Session (OfActivities (Start (suc started))))))) item) (length_ahead base body item) refl)
 
 -- an encoding

@@ -10,7 +10,7 @@ use Rattle.rtse_apdus.specs.Transfer.{transfer_at, written_transfer}
 use Rattle.stub_tables.specs.declared.tables.Tables.{Tables}
 use Rattle.association_wire.specs.end_rules.Base.{Item, Fault, Arrived, Whole, Raw, Spellings}
 use Rattle.osi_base.specs.SetPlaces.{pair_of}
-use Rattle.association_wire.specs.end_rules.Messages.{ValueContent, Remote, Unread, Association, Plea, Part, DataValue}
+use Rattle.association_wire.specs.end_rules.Messages.{ValueContent, Remote, Unread, Association, Plea, Part, value_of_item}
 use Rattle.association_wire.specs.end_rules.Faults.{acse_fault, rtse_fault}
 use Rattle.end_wire.specs.Values.{spellings_with}
 use Rattle.association_wire.specs.Values.{pdv_of}
@@ -44,10 +44,6 @@ arrived_in tables set at (Ok pdv) =
 -- the octets of a transfer under a set; places are counted in them
 abbrev pub arrived_at : Tables → List SetItem → List ℕ → Result Arrived Fault
 arrived_at tables set octets = arrived_in tables set (places_of (spot_at 0 octets)) (transfer_at octets)
-
--- an item as a value of its context
-abbrev pub value_of_item : Item → DataValue
-value_of_item item = record { id = item.id; pair = Some item.pair; content = Remote item.apdu }
 
 abbrev pub transferred : Tables → Item → List ℕ
 transferred tables item = written_transfer (pdv_of tables (value_of_item item))

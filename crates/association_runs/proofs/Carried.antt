@@ -24,7 +24,7 @@ use Rattle.osi_base.specs.Limits.{IsUnitSize}
 use Rattle.association_worlds.specs.InTransit.{Way}
 use Rattle.association_worlds.specs.Laws.{IsMeant}
 use Rattle.association_worlds.proofs.Kept.{way-moved}
-use Rattle.run_laws.specs.Passing.{Passed, sendings, readings}
+use Rattle.run_laws.specs.Passing.{PairedMessage, sendings, readings}
 use Rattle.association_line.specs.Line.{End, after, after_all}
 use Rattle.association_line.specs.Feeding.{Reads}
 use Rattle.association_runs.specs.Worlds.{end_at, stepping, first_octets, Runs}
@@ -45,7 +45,7 @@ came-same : (octets : List ℕ) (came : Option Intake) → more_came octets came
 came-same octets None = refl
 came-same octets (Some intake) = refl
 
-plain : (rs : List (Option Passed)) (all : List Passed) (coming : List Message) → Follows rs (messages_in all) coming → Follows (rs ++ []) (messages_in (all ++ [])) coming
+plain : (rs : List (Option PairedMessage)) (all : List PairedMessage) (coming : List Message) → Follows rs (messages_in all) coming → Follows (rs ++ []) (messages_in (all ++ [])) coming
 plain rs all coming h =
     subst (λ (l : List _). Follows l (messages_in (all ++ [])) coming) (sym (append-nil rs))
     (subst (λ (l : List _). Follows rs (messages_in l) coming) (sym (append-nil all)) h)

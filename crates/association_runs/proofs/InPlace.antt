@@ -15,7 +15,7 @@ use Rattle.end_model.specs.BothEnds as both_ends
 use Rattle.end_model.specs.BothEnds.{Common, Two, coming_to}
 use Rattle.outcome_laws.specs.reliable_model.Ledgers.{Ledger}
 use Rattle.outcome_laws.specs.Exchanges.{Exchanges}
-use Rattle.run_laws.specs.Passing.{sent_in, Passed, as_read, at_sending, on_connection, sendings, read_in, readings, AreInPlace, TakenInPlace}
+use Rattle.run_laws.specs.Passing.{sent_in, PairedMessage, as_read, at_sending, on_connection, sendings, read_in, readings, AreInPlace, TakenInPlace}
 use Rattle.run_laws.specs.Laws.{AtEachMoment}
 use Rattle.association_runs.specs.Worlds.{stepping}
 use Rattle.association_runs.specs.Sides.{ends_for}
@@ -26,13 +26,13 @@ use Rattle.association_runs.proofs.Joint.{Joint}
 
 -- ---- lists
 
-pub follows-in-place : (rs : List (Option Passed)) (all : List Passed) (coming : List Message) → Follows rs (messages_in all) coming → AreInPlace rs all
+pub follows-in-place : (rs : List (Option PairedMessage)) (all : List PairedMessage) (coming : List Message) → Follows rs (messages_in all) coming → AreInPlace rs all
 follows-in-place [] all coming h = tt
 follows-in-place (r ∷ rs) [] coming h = absurd h
 follows-in-place (None ∷ rs) (p ∷ ps) coming h = follows-in-place rs ps coming h
 follows-in-place (Some r ∷ rs) (p ∷ ps) coming h = (h.0, follows-in-place rs ps coming h.1)
 
-more-sent : (rs : List (Option Passed)) (all more : List Passed) → AreInPlace rs all → AreInPlace rs (all ++ more)
+more-sent : (rs : List (Option PairedMessage)) (all more : List PairedMessage) → AreInPlace rs all → AreInPlace rs (all ++ more)
 more-sent [] all more h = tt
 more-sent (r ∷ rs) [] more h = absurd h
 more-sent (None ∷ rs) (p ∷ ps) more h = more-sent rs ps more h
@@ -47,7 +47,7 @@ IsNoReading passed = ⊥
 IsNoReading _ = Unit {0}
 
 -- it adds nothing to what its end read, and may add to what it sent; or it ends the connection
-one-more : (x : Step) (ends : Ends) (w : World) (mine theirs : List (Option Passed)) (own peer : List Passed) → IsNoReading x → AreInPlace theirs own → AreInPlace mine peer
+one-more : (x : Step) (ends : Ends) (w : World) (mine theirs : List (Option PairedMessage)) (own peer : List PairedMessage) → IsNoReading x → AreInPlace theirs own → AreInPlace mine peer
     → AreInPlace (on_connection x theirs) (on_connection x (own ++ map (at_sending ends w) (sent_in x))) × AreInPlace (on_connection x (mine ++ read_in x)) (on_connection x peer)
 one-more (took message) ends w mine theirs own peer n h k = absurd n
 one-more passed ends w mine theirs own peer n h k = absurd n

@@ -9,7 +9,7 @@ use Rattle.end_model.specs.end_rules.World.{World, Ends}
 use Rattle.agreement.specs.Sets.{Role, other}
 use Rattle.agreement.specs.Sets.Role.{Initiator, Responder}
 use Rattle.end_model.specs.Sharing.{side_of}
-use Rattle.run_laws.specs.Passing.{sent_in, Passed, at_sending, on_connection, sendings, read_in, readings}
+use Rattle.run_laws.specs.Passing.{sent_in, PairedMessage, at_sending, on_connection, sendings, read_in, readings}
 use Rattle.association_runs.specs.Worlds.{stepping}
 
 -- ---- steps that are no break
@@ -40,7 +40,7 @@ stays _ ys h = refl
 
 -- ---- readings
 
-abbrev pub all_read : List Step → List (Option Passed)
+abbrev pub all_read : List Step → List (Option PairedMessage)
 all_read [] = []
 all_read (x ∷ xs) = read_in x ++ all_read xs
 
@@ -48,11 +48,11 @@ pub own-readings : (role : Role) (w : World) (xs : List Step) → AreOn xs → r
 own-readings role w [] h = sym (append-nil (readings (side_of role) w))
 own-readings Initiator w (x ∷ xs) h =
     own-readings Initiator (record { side = A; step = x } ∷ w) xs h.1
-    ∙ ap (λ (l : List (Option Passed)). l ++ all_read xs) (stays x (readings A w ++ read_in x) h.0)
+    ∙ ap (λ (l : List (Option PairedMessage)). l ++ all_read xs) (stays x (readings A w ++ read_in x) h.0)
     ∙ append_assoc (readings A w) (read_in x) (all_read xs)
 own-readings Responder w (x ∷ xs) h =
     own-readings Responder (record { side = B; step = x } ∷ w) xs h.1
-    ∙ ap (λ (l : List (Option Passed)). l ++ all_read xs) (stays x (readings B w ++ read_in x) h.0)
+    ∙ ap (λ (l : List (Option PairedMessage)). l ++ all_read xs) (stays x (readings B w ++ read_in x) h.0)
     ∙ append_assoc (readings B w) (read_in x) (all_read xs)
 
 pub peer-readings : (role : Role) (w : World) (xs : List Step) → AreOn xs → readings (side_of (other role)) (stepping (side_of role) w xs) ≡ readings (side_of (other role)) w
@@ -66,10 +66,10 @@ abbrev pub all_sent_in : List Step → List Message
 all_sent_in [] = []
 all_sent_in (x ∷ xs) = sent_in x ++ all_sent_in xs
 
-abbrev pub messages_in : List Passed → List Message
-messages_in passed = map (λ (p : Passed). p.message) passed
+abbrev pub messages_in : List PairedMessage → List Message
+messages_in passed = map (λ (p : PairedMessage). p.message) passed
 
-messages-append : (xs ys : List Passed) → messages_in (xs ++ ys) ≡ messages_in xs ++ messages_in ys
+messages-append : (xs ys : List PairedMessage) → messages_in (xs ++ ys) ≡ messages_in xs ++ messages_in ys
 messages-append [] ys = refl
 messages-append (x ∷ xs) ys = ap (λ (l : List Message). x.message ∷ l) (messages-append xs ys)
 
@@ -77,7 +77,7 @@ messages-at : (ends : Ends) (w : World) (ms : List Message) → messages_in (map
 messages-at ends w [] = refl
 messages-at ends w (m ∷ ms) = ap (λ (l : List Message). m ∷ l) (messages-at ends w ms)
 
-one-sending : (ends : Ends) (w : World) (x : Step) (all : List Passed) → IsOn x → messages_in (on_connection x (all ++ map (at_sending ends w) (sent_in x))) ≡ messages_in all ++ sent_in x
+one-sending : (ends : Ends) (w : World) (x : Step) (all : List PairedMessage) → IsOn x → messages_in (on_connection x (all ++ map (at_sending ends w) (sent_in x))) ≡ messages_in all ++ sent_in x
 one-sending ends w x all h =
     ap messages_in (stays x (all ++ map (at_sending ends w) (sent_in x)) h) ∙ messages-append all (map (at_sending ends w) (sent_in x))
     ∙ ap (λ (l : List Message). messages_in all ++ l) (messages-at ends w (sent_in x))
@@ -116,25 +116,25 @@ answers-read to (m ∷ ms) = answers-read to ms
 
 -- ---- what an end read follows what the other sent, and the rest is on its way
 
-abbrev pub Follows : List (Option Passed) → List Message → List Message → Type 0
+abbrev pub Follows : List (Option PairedMessage) → List Message → List Message → Type 0
 Follows [] all coming = all ≡ coming
 Follows (reading ∷ more) [] coming = ⊥
 Follows (None ∷ more) (m ∷ ms) coming = Follows more ms coming
 Follows (Some reading ∷ more) (m ∷ ms) coming = (reading.message ≡ m) × Follows more ms coming
 
-pub follows-sent : (rs : List (Option Passed)) (all coming more : List Message) → Follows rs all coming → Follows rs (all ++ more) (coming ++ more)
+pub follows-sent : (rs : List (Option PairedMessage)) (all coming more : List Message) → Follows rs all coming → Follows rs (all ++ more) (coming ++ more)
 follows-sent [] all coming more h = ap (λ (l : List Message). l ++ more) h
 follows-sent (r ∷ rs) [] coming more h = absurd h
 follows-sent (None ∷ rs) (m ∷ ms) coming more h = follows-sent rs ms coming more h
 follows-sent (Some r ∷ rs) (m ∷ ms) coming more h = (h.0, follows-sent rs ms coming more h.1)
 
-pub follows-none : (rs : List (Option Passed)) (all coming left : List Message) (m : Message) → coming ≡ m ∷ left → Follows rs all coming → Follows (rs ++ None ∷ []) all left
+pub follows-none : (rs : List (Option PairedMessage)) (all coming left : List Message) (m : Message) → coming ≡ m ∷ left → Follows rs all coming → Follows (rs ++ None ∷ []) all left
 follows-none [] all coming left m e h = subst (λ (l : List Message). Follows (None ∷ []) l left) (sym (h ∙ e)) refl
 follows-none (r ∷ rs) [] coming left m e h = absurd h
 follows-none (None ∷ rs) (x ∷ xs) coming left m e h = follows-none rs xs coming left m e h
 follows-none (Some r ∷ rs) (x ∷ xs) coming left m e h = (h.0, follows-none rs xs coming left m e h.1)
 
-pub follows-some : (rs : List (Option Passed)) (all coming left : List Message) (m : Message) (p : Passed) → coming ≡ m ∷ left → p.message ≡ m → Follows rs all coming → Follows (rs ++ Some p ∷ []) all left
+pub follows-some : (rs : List (Option PairedMessage)) (all coming left : List Message) (m : Message) (p : PairedMessage) → coming ≡ m ∷ left → p.message ≡ m → Follows rs all coming → Follows (rs ++ Some p ∷ []) all left
 follows-some [] all coming left m p e k h = subst (λ (l : List Message). Follows (Some p ∷ []) l left) (sym (h ∙ e)) (k, refl)
 follows-some (r ∷ rs) [] coming left m p e k h = absurd h
 follows-some (None ∷ rs) (x ∷ xs) coming left m p e k h = follows-some rs xs coming left m p e k h

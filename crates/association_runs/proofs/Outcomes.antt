@@ -4,7 +4,7 @@ use Rattle.agreement.specs.Sets.{other}
 use Rattle.end_model.specs.Sharing.{side_of}
 use Rattle.outcome_laws.specs.Exchanges.{exchange_of, outcomes_in, AreDistinct}
 use Rattle.outcome_laws.specs.Outcomes.{OneOutcome, OutcomesAreAllowed, OutcomesAreAnswers, AreAllowed, AreAnswers}
-use Rattle.outcome_laws.specs.Links.{LinksAreAllowed, AllFit, links_in}
+use Rattle.outcome_laws.specs.Links.{LinksAreAllowed, AreAllowedLinks, links_in}
 use Rattle.association_runs.specs.Sides.{ends_for}
 use Rattle.association_runs.specs.OwnExchanges.{Own, own_at}
 use Rattle.association_runs.specs.Laws.{RunsTellOneOutcome, RunsTellAnswers}
@@ -16,7 +16,7 @@ tell-one one allowed links common m all told w typed r role =
     record {
       once = subst (λ (o : Own). AreDistinct (outcomes_in o.shown)) (sym (s.exchange role)) (one common s.two s.ledger s.exchanges s.reached_exchanges role);
       allowed = subst (λ (o : Own). AreAllowed common.tables o.asked o.shown) (sym (s.exchange role)) (allowed common s.two s.ledger s.exchanges s.reached_exchanges role);
-      links = subst (λ (o : Own). AllFit common.tables o.asked (links_in o.shown)) (sym (s.exchange role)) (links common s.two s.ledger s.exchanges s.reached_exchanges role);
+      links = subst (λ (o : Own). AreAllowedLinks common.tables o.asked (links_in o.shown)) (sym (s.exchange role)) (links common s.two s.ledger s.exchanges s.reached_exchanges role);
     }
 
 pub tell-answers : OutcomesAreAnswers → RunsTellAnswers

@@ -17,7 +17,7 @@ use Rattle.end_model.specs.end_rules.Invoking.{is_linked_to}
 use Rattle.end_model.specs.end_rules.World.{World, Ends, other}
 use Rattle.end_model.proofs.Numbered.{or-first, or-second}
 use Rattle.outcome_laws.specs.Exchanges.{Asked, outcomes_in, AreDistinct}
-use Rattle.outcome_laws.specs.Links.{Fits, AllFit, links_in}
+use Rattle.outcome_laws.specs.Links.{IsAllowedLink, AreAllowedLinks, links_in}
 use Rattle.run_laws.specs.Showing.{indications_at, EachCarryShows}
 use Rattle.run_laws.specs.Outcomes.{Invocation, ToldOutcome, id_of, invoked_by, answered_by, invocations, answers, invocation_in, outcome_in, told_invocations, outcomes, IsIn, IsAllowed, IsAnswer, Differ, AreOnce, IsLinkAllowed, OneOutcome}
 use Rattle.association_runs.specs.Worlds.{Runs}
@@ -134,7 +134,7 @@ module _ (tables : Tables) (own made : List Invocation) (given : List ToldOutcom
   answered-told (indications.Rejected id problem ∷ shown) h = (tt, answered-told shown h.1)
   answered-told (_ ∷ shown) h = answered-told shown h.1
 
-  one-link : (asked : List Asked) → AreMade tables own asked → (id : ℤ) (place : ℕ) (linked : ℤ) (argument : Option Val) → Fits tables asked (record { linked = linked; place = place }) → IsLinkAllowed tables own (record { id = id; operation = place; argument = argument; linked = Some linked })
+  one-link : (asked : List Asked) → AreMade tables own asked → (id : ℤ) (place : ℕ) (linked : ℤ) (argument : Option Val) → IsAllowedLink tables asked (record { linked = linked; place = place }) → IsLinkAllowed tables own (record { id = id; operation = place; argument = argument; linked = Some linked })
   one-link asked m id place linked argument f =
       let x : IsMade tables own f.invocation = made-of tables own asked f.invocation m f.is_own in
       record {
@@ -144,7 +144,7 @@ module _ (tables : Tables) (own made : List Invocation) (given : List ToldOutcom
         may_link = ap (λ (o : ℕ). is_linked_to (operation_at tables o) place) x.same_operation ∙ f.may_link;
       }
 
-  links-told : (asked : List Asked) → AreMade tables own asked → (shown : List Indication) → AllFit tables asked (links_in shown) → AllByRecursion (IsLinkAllowed tables own) (flat_map invocation_in shown)
+  links-told : (asked : List Asked) → AreMade tables own asked → (shown : List Indication) → AreAllowedLinks tables asked (links_in shown) → AllByRecursion (IsLinkAllowed tables own) (flat_map invocation_in shown)
   links-told asked m [] h = tt
   links-told asked m (indications.Invoked id place None argument ∷ shown) h = (tt, links-told asked m shown h)
   links-told asked m (indications.Invoked id place (Some linked) argument ∷ shown) h = (one-link asked m id place linked argument h.0, links-told asked m shown h.1)
@@ -180,7 +180,7 @@ invoked-once (indications.Invoked id place linked argument ∷ shown) h = (fresh
 invoked-once (_ ∷ shown) h = invoked-once shown h
 
 -- What one end was told, where it has these notes.
-pub tells-rightly : (tables : Tables) (own made : List Invocation) (given : List ToldOutcome) (asked : List Asked) (seen shown : List Indication) → notes_of seen ≡ notes_of shown → AreMade tables own asked → AreNoted tables own made given shown → AreFresh (invoked_ids shown) → AreDistinct (outcomes_in shown) → AllFit tables asked (links_in shown)
+pub tells-rightly : (tables : Tables) (own made : List Invocation) (given : List ToldOutcome) (asked : List Asked) (seen shown : List Indication) → notes_of seen ≡ notes_of shown → AreMade tables own asked → AreNoted tables own made given shown → AreFresh (invoked_ids shown) → AreDistinct (outcomes_in shown) → AreAllowedLinks tables asked (links_in shown)
     → TellsRightly tables own made given (flat_map invocation_in seen) (flat_map outcome_in seen)
 tells-rightly tables own made given asked seen shown e m n f d l =
     subst (λ (os : List ToldOutcome). TellsRightly tables own made given (flat_map invocation_in seen) os) (same-flat outcome_in note-outcome seen shown e)

@@ -16,7 +16,7 @@ use Rattle.end_model.specs.Sharing.{side_of}
 use Rattle.outcome_laws.specs.reliable_model.Ledgers.{Ledger, transfer_log_of, ReachedWithLedger}
 use Rattle.outcome_laws.specs.Exchanges.{Exchanges, EndExchange, exchange_of, ReachedWithExchanges, outcomes_in, AreDistinct}
 use Rattle.outcome_laws.specs.Outcomes.{AreAllowed, AreAnswers}
-use Rattle.outcome_laws.specs.Links.{AllFit, links_in}
+use Rattle.outcome_laws.specs.Links.{AreAllowedLinks, links_in}
 use Rattle.association_worlds.specs.Laws.{IsMeant}
 use Rattle.run_laws.specs.Passing.{TakenInPlace}
 use Rattle.run_laws.specs.Showing.{EachCarryShows}
@@ -106,7 +106,7 @@ RunsTransferWhole = EverInRuns (λ common w. TransfersAreWhole common → ItemsA
 pub record TellsOneOutcome (common : Common) (w : World) (role : Role) : Type 0 where
   pub once : AreDistinct (outcomes_in (own_at (ends_for common) (side_of role) w).shown)
   pub allowed : AreAllowed common.tables (own_at (ends_for common) (side_of role) w).asked (own_at (ends_for common) (side_of role) w).shown
-  pub links : AllFit common.tables (own_at (ends_for common) (side_of role) w).asked (links_in (own_at (ends_for common) (side_of role) w).shown)
+  pub links : AreAllowedLinks common.tables (own_at (ends_for common) (side_of role) w).asked (links_in (own_at (ends_for common) (side_of role) w).shown)
 
 abbrev pub RunsTellOneOutcome : Type 0
 RunsTellOneOutcome = EverInRuns (λ common w. (role : Role) → TellsOneOutcome common w role)

@@ -21,7 +21,7 @@ use Rattle.end_rules.specs.Base.{Base, Carried}
 use Rattle.end_rules.specs.State.{OpenCall, Calls, is_empty, opened_with, opens_of, close}
 use Rattle.end_rules.specs.Invoking.{is_linked_to, operation_of}
 use Rattle.end_rules.specs.Hearing.{Heard, rejected, showing, unless_problem, first_problem, problem_if, is_right, value_in, carried_in, code_returned, value_returned, head_of_apdu, hear}
-use Rattle.end_rules.specs.Hearing.{is_silent_at, has_links, link_problem, argument_problem, invoke_problem, opening, invoked, is_place, result_problem, hear_result_of, known_error_problem, error_problem, showing_error, hear_error_of}
+use Rattle.end_rules.specs.Hearing.{is_silent_at, has_links, link_problem, argument_problem, invoke_problem, with_opened, invoked, is_place, result_problem, hear_result_of, known_error_problem, error_problem, showing_error, hear_error_of}
 use Rattle.run_laws.specs.Outcomes.{has_result, takes_parameter, has_error}
 use Rattle.bare_duo.specs.Allowed.{operation_in, may_link, may_be_invoked, may_invoke, may_return, may_result, may_error, may_take_apdu}
 
@@ -74,7 +74,7 @@ pub record Opens (base : Base) (calls : Calls) (context : ℕ) (id : ℤ) (linke
   pub at : ℕ
   pub is_at : place ≡ Some at
   pub allowed : may_invoke base.tables calls id linked place argument ≡ true
-  pub calls_are : heard.calls ≡ opening base (record { own = false; id = id; operation = at; context = context; parent = linked }) calls
+  pub calls_are : heard.calls ≡ with_opened base (record { own = false; id = id; operation = at; context = context; parent = linked }) calls
 
 room : (silent : Bool) (n : ℕ) → (nat_le 4096 n && not silent) ≡ false → (silent || nat_lt n 4096) ≡ true
 room true n h = refl

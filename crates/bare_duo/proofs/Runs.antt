@@ -14,7 +14,7 @@ use Rattle.dialogue.specs.declared.event.Entry.TheVariants as entries
 use Rattle.dialogue.specs.declared.event.Carried.{Carried}
 use Rattle.dialogue.specs.declared.event.Transcript.{Transcript}
 use Rattle.two_ends.specs.Conduct.{given_out, first_octets as passed_octets}
-use Rattle.two_ends.specs.Events.{AnsweredOne, AnsweredAt, CarriedOver, CarriedFrom, Happened, called as was_called, carried_over, both_broke, Passed, nothing_yet, one_more}
+use Rattle.two_ends.specs.Events.{AnsweredOne, AnsweredAt, CarriedOver, CarriedFrom, Happened, called as was_called, carried_over, both_broke, AllHappened, nothing_yet, one_more}
 use Rattle.end_rules.specs.Base.{Base}
 use Rattle.end_rules.specs.Invoking.{Reply}
 use Rattle.end_rules.specs.Calling.{can_call}
@@ -207,7 +207,7 @@ runs_one event entry a b a1 b1 (was_called side call answer h) = runs_call side 
 runs_one event entry a b a1 b1 (carried_over side most carried h) = runs_carry side most carried a b a1 b1 h
 runs_one event entry a b a1 b1 (both_broke e f) = runs_break a b a1 b1 e f
 
-pub runs_all : (a b : EndView) (all : List Event) (told : List Entry) (a1 b1 : EndView) → Passed conduct conduct a b all told a1 b1 → RunsOn all told a b a1 b1
+pub runs_all : (a b : EndView) (all : List Event) (told : List Entry) (a1 b1 : EndView) → AllHappened conduct conduct a b all told a1 b1 → RunsOn all told a b a1 b1
 runs_all a b all told a1 b1 nothing_yet = runs_none a b
 runs_all a b all told a1 b1 (one_more {all = before} {told = shown} {a_then = a2} {b_then = b2} event entry passed h) =
     runs_more before (event ∷ []) shown (entry ∷ []) a b a2 b2 a1 b1 (runs_all a b before shown a2 b2 passed) (runs_one event entry a2 b2 a1 b1 h)

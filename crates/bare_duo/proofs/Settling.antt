@@ -10,7 +10,7 @@ use Rattle.stub_tables.specs.declared.operation.Operation.{Operation}
 use Rattle.stub_tables.specs.Lookup.{operation_at}
 use Rattle.end_rules.specs.Base.{Base}
 use Rattle.end_rules.specs.State.{OpenCall, Calls, is_key, opened_with, closed, close, orphaned}
-use Rattle.end_rules.specs.Hearing.{is_silent_at, opening}
+use Rattle.end_rules.specs.Hearing.{is_silent_at, with_opened}
 use Rattle.end_model.proofs.Numbered.{opened-snoc, opened-closed, same-own, same-id, same-key}
 use Rattle.run_laws.specs.Outcomes.{Invocation, ToldOutcome, id_of, has_outcome, IsIn, IsAllowed, Differ}
 use Rattle.bare_duo.specs.Outcomes.{AreNumbered}
@@ -173,7 +173,7 @@ module _ (t : Tables) where
       }
 
   -- an invocation of the other end
-  pub settled-peer : (base : Base) (o : OpenCall) (calls : Calls) (made : List Invocation) (told : List ToldOutcome) → o.own ≡ false → Settled t calls made told → Settled t (opening base o calls) made told
+  pub settled-peer : (base : Base) (o : OpenCall) (calls : Calls) (made : List Invocation) (told : List ToldOutcome) → o.own ≡ false → Settled t calls made told → Settled t (with_opened base o calls) made told
   settled-peer base o calls made told e h = go (is_silent_at base (Some o.operation))
     where
       not-own : o.own ≡ true → IsMade made o
@@ -198,7 +198,7 @@ module _ (t : Tables) where
 
   -- an own invocation, with the next identifier
   pub settled-own : (base : Base) (o : OpenCall) (i : Invocation) (calls : Calls) (made : List Invocation) (told : List ToldOutcome) → o.own ≡ true → o.id ≡ pos (suc calls.made) → o.id ≡ i.id → o.operation ≡ i.operation
-      → Settled t calls made told → Settled t (opening base o (record calls { made = suc calls.made })) (made ++ i ∷ []) told
+      → Settled t calls made told → Settled t (with_opened base o (record calls { made = suc calls.made })) (made ++ i ∷ []) told
   settled-own base o i calls made told w e same its h = go (is_silent_at base (Some o.operation))
     where
       counted : suc calls.made ≡ length (made ++ i ∷ [])

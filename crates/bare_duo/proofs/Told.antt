@@ -26,7 +26,7 @@ use Rattle.end_rules.specs.Messages.{Message}
 use Rattle.end_rules.specs.State.{Body, Calls, OpenCall, bare_set, opened_with, close}
 use Rattle.end_rules.specs.Invoking.{Reply, next_id, is_stopped, can_invoke_operation, can_answer_open, can_refuse_open, operation_of, returned_with, result_apdu, error_apdu}
 use Rattle.end_rules.specs.Calling.{can_call}
-use Rattle.end_rules.specs.Hearing.{hear, head_of_apdu, value_in, value_returned, opening}
+use Rattle.end_rules.specs.Hearing.{hear, head_of_apdu, value_in, value_returned, with_opened}
 use Rattle.end_rules.specs.Requesting.{due_of, after_call, due_invoke, after_invoke, due_outcome, after_outcome, result_for, error_for, operation_opened, sent_at_once}
 use Rattle.bare_end.specs.end_wire.Values.{bare_spellings}
 use Rattle.agreement.specs.Sets.{Role}
@@ -53,10 +53,10 @@ pub settled_heard : (base : Base) (calls : Calls) (context : ℕ) (apdu : Apdu) 
 settled_heard base calls context (apdus.Invoke id linked code argument) made told n h s =
     let o = opens_of_invoke base calls context id linked (operation_with base.tables code) argument h in
     let quiet : outcomes_in (shown_invoke (operation_with base.tables code) id linked argument) ≡ [] = ap (λ (p : Option ℕ). outcomes_in (shown_invoke p id linked argument)) o.is_at in
-    let opened : Settled base.tables (opening base (record { own = false; id = id; operation = o.at; context = context; parent = linked }) calls) made told =
+    let opened : Settled base.tables (with_opened base (record { own = false; id = id; operation = o.at; context = context; parent = linked }) calls) made told =
     settled-peer base.tables base (record { own = false; id = id; operation = o.at; context = context; parent = linked }) calls made told refl s in
     subst (λ (c : Calls). Settled base.tables c made (told ++ outcomes_in (shown_invoke (operation_with base.tables code) id linked argument))) (sym o.calls_are)
-    (subst (λ (os : List ToldOutcome). Settled base.tables (opening base (record { own = false; id = id; operation = o.at; context = context; parent = linked }) calls) made os)
+    (subst (λ (os : List ToldOutcome). Settled base.tables (with_opened base (record { own = false; id = id; operation = o.at; context = context; parent = linked }) calls) made os)
     (sym (ap (λ (os : List ToldOutcome). told ++ os) quiet ∙ append-nil told)) opened)
 settled_heard base calls context (apdus.Result id r) made told n h s =
     let c = (closes_of_result base calls id r h).closes in

@@ -1,7 +1,7 @@
 -- What two ends of a run send, take and are shown.
-use Rattle.std.specs.Prelude.{◌≡◌, List, [], ◌∷◌, ◌++◌, map, if◌then◌else◌, Option}
+use Rattle.std.specs.Prelude.{◌≡◌, List, [], ◌∷◌, ◌++◌, map, if◌then◌else◌}
 use Rattle.osi_base.specs.declared.layer_words.Side.{Side}
-use Rattle.osi_base.specs.declared.syntax.Pair.{Pair}
+use Rattle.run_laws.specs.Passing.{PairedMessage}
 use Rattle.stub_tables.specs.declared.tables.Tables.{Tables}
 use Rattle.dialogue.specs.declared.event.Entry.{Entry}
 use Rattle.end_rules.specs.Messages.{Message, Session, Word, OfData, DataWord, Values, DataValue}
@@ -63,24 +63,19 @@ abbrev pub values_in : Message → List DataValue
 values_in (Session word) = values_in_word word
 values_in _ = []
 
--- a message with a pair for each of its values
-pub record Passed : Type 0 where
-  pub message : Message
-  pub pairs : List (Option Pair)
-
 -- with the pairs that the one shared set gave the identifiers just before its sending, and with those under which its
 -- values were read
-abbrev pub at_sending : Ends → World → Message → Passed
+abbrev pub at_sending : Ends → World → Message → PairedMessage
 at_sending ends w m = record { message = m; pairs = map (λ (v : DataValue). pair_at_sending ends w v.id) (values_in m) }
 
-abbrev pub as_read : Message → Passed
+abbrev pub as_read : Message → PairedMessage
 as_read m = record { message = m; pairs = map (λ (v : DataValue). v.pair) (values_in m) }
 
-abbrev pub sendings : Ends → Side → World → List Passed
+abbrev pub sendings : Ends → Side → World → List PairedMessage
 sendings ends side [] = []
 sendings ends side (m ∷ w) = if is_side side m.side then sendings ends side w ++ map (at_sending ends w) (sent_in m.step) else sendings ends side w
 
-abbrev pub takings : Side → World → List Passed
+abbrev pub takings : Side → World → List PairedMessage
 takings side w = map as_read (taken_by side w)
 
 -- what the second list has is the beginning of the first

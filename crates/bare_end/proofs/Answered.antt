@@ -16,16 +16,16 @@ use Rattle.dialogue.specs.declared.call.Call.TheVariants as the_calls
 use Rattle.dialogue.specs.declared.call.CallRefusal.{CallRefusal}
 use Rattle.dialogue.specs.declared.call.CallRefusal.TheVariants as refusals
 use Rattle.end_rules.specs.State.{Body, OpenCall, opened_with, opens_of, close}
-use Rattle.end_rules.specs.Invoking.{Reply, is_too_long, can_send_outcome, next_id, is_on_module, linking_refusal, unless_refused, operation_of, invoke_apdu, result_apdu, error_apdu, can_send_invoke, can_invoke, can_invoke_operation, can_answer, can_answer_open, can_refuse, can_refuse_open, can_refuse_with}
+use Rattle.end_rules.specs.Invoking.{Reply, is_too_long, can_send_outcome, next_id, is_on_module, linking_refusal, unless_refused, operation_of, invoke_apdu, result_apdu, error_apdu, can_send_invoke, can_invoke, can_invoke_operation, can_answer, can_answer_open, can_refuse, can_refuse_open, can_refuse_with, is_memory}
 use Rattle.dialogue.specs.declared.config.Phase.TheVariants.{Dead}
 use Rattle.end_rules.specs.Calling.{can_call, can_by_rows, is_dead, is_initiators, is_phase_for, is_of_bare_mode}
-use Rattle.end_rules.specs.Hearing.{opening}
+use Rattle.end_rules.specs.Hearing.{with_opened}
 use Rattle.end_rules.specs.Requesting.{due_of, after_refused}
 use Rattle.end_rules.specs.History.{called, sent}
 use Rattle.bare_end.specs.declared.sending.Checked as checkeds
 use Rattle.bare_end.specs.declared.sending.Checked.TheVariants as checked
 use Rattle.bare_end.specs.Checking.{IsChecked, IsNumbered, HasRoom}
-use Rattle.bare_end.specs.View.{EndView, base, body, seen, Stepped, Answers, Answered, Died, Keeps, is_memory, with_calls, with_waiting}
+use Rattle.bare_end.specs.View.{EndView, base, body, seen, Stepped, AnswersCall, Answered, Died, Keeps, with_calls, with_waiting}
 use Rattle.bare_end.proofs.Sent.{invoked, answered, refused}
 
 -- ---- a refusal changes nothing
@@ -34,7 +34,7 @@ still : (b : Body) (r : CallRefusal) → is_memory (Err r) ≡ false → b ≡ a
 still b refusals.NoMemory m = absurd cc
 still b _ m = refl
 
-pub refused_so : (can : Reply) (e : EndView) (call : Call) (r : CallRefusal) → can ≡ Err r → is_memory (Err r) ≡ false → Answers can e e call (Err r)
+pub refused_so : (can : Reply) (e : EndView) (call : Call) (r : CallRefusal) → can ≡ Err r → is_memory (Err r) ≡ false → AnswersCall can e e call (Err r)
 refused_so can e call r h m =
     subst (λ (b : Bool). MatchBool b (Keeps e e) (Answered can e e call (Err r))) (sym m)
     (record {
@@ -43,7 +43,7 @@ refused_so can e call r h m =
     })
 
 pub answered_so : (can : Reply) (e new : EndView) (call : Call) (answer : Option ℤ) → can ≡ Ok answer → Stepped e new (called call (Ok answer) ∷ map sent (due_of (base e) (body e) call (Ok answer)))
-    → Answers can e new call (Ok answer)
+    → AnswersCall can e new call (Ok answer)
 answered_so can e new call answer h s = record { reply_is = sym h; steps = s }
 
 -- ---- outcomes
@@ -71,14 +71,14 @@ module _ (e : EndView) (id : ℤ) (value : Option Val) (operation : Operation) (
   can_is : (o : OpenCall) → opened_with false id e.calls.opens ≡ Some o → can_answer (base e) (body e) id value ≡ can_answer_open (base e) (body e) id (Some o) (Some operation) value
   can_is o found = λ k. can_answer_open (base e) (body e) id (found k) (there k) value
 
-  pub answer_refused : (k : checkeds.Checked) (r : CallRefusal) → CheckedSo k → k ≡ checked.Refused r → Answers (can_answer (base e) (body e) id value) e e (the_calls.Answer id value) (Err r)
+  pub answer_refused : (k : checkeds.Checked) (r : CallRefusal) → CheckedSo k → k ≡ checked.Refused r → AnswersCall (can_answer (base e) (body e) id value) e e (the_calls.Answer id value) (Err r)
   answer_refused k r c is =
       let o = opened_so e id operation there in
       let h = subst (IsChecked (can_answer_open (base e) (body e) id (Some o.o) (Some operation) value) None result_text) is (c o.o) in
       refused_so (can_answer (base e) (body e) id value) e (the_calls.Answer id value) r (can_is o.o o.found ∙ h.0) h.1
 
   pub answer_sent : (k : checkeds.Checked) (octets : List ℕ) (new : EndView) → CheckedSo k → k ≡ checked.Sends octets → new ≡ with_waiting octets (with_calls (close false id e.calls) e)
-      → Answers (can_answer (base e) (body e) id value) e new (the_calls.Answer id value) (Ok None)
+      → AnswersCall (can_answer (base e) (body e) id value) e new (the_calls.Answer id value) (Ok None)
   answer_sent k octets new c is at =
       let o = opened_so e id operation there in
       let h = subst (IsChecked (can_answer_open (base e) (body e) id (Some o.o) (Some operation) value) None result_text) is (c o.o) in
@@ -92,13 +92,13 @@ module _ (e : EndView) (id : ℤ) (place : ℕ) (parameter : Option Val) (error 
   abbrev RefusedSo : checkeds.Checked → Type 0
   RefusedSo k = (q : OpenCall) → IsChecked (can_refuse_with (base e) (body e) id q error parameter) None error_text k
 
-  pub refuse_refused : (k : checkeds.Checked) (r : CallRefusal) → RefusedSo k → k ≡ checked.Refused r → Answers (can_refuse_with (base e) (body e) id o error parameter) e e (the_calls.Refuse id place parameter) (Err r)
+  pub refuse_refused : (k : checkeds.Checked) (r : CallRefusal) → RefusedSo k → k ≡ checked.Refused r → AnswersCall (can_refuse_with (base e) (body e) id o error parameter) e e (the_calls.Refuse id place parameter) (Err r)
   refuse_refused k r c is =
       let h = subst (IsChecked (can_refuse_with (base e) (body e) id o error parameter) None error_text) is (c o) in
       refused_so (can_refuse_with (base e) (body e) id o error parameter) e (the_calls.Refuse id place parameter) r h.0 h.1
 
   pub refuse_sent : (k : checkeds.Checked) (octets : List ℕ) (new : EndView) → RefusedSo k → k ≡ checked.Sends octets → new ≡ with_waiting octets (with_calls (close false id e.calls) e)
-      → Answers (can_refuse_with (base e) (body e) id o error parameter) e new (the_calls.Refuse id place parameter) (Ok None)
+      → AnswersCall (can_refuse_with (base e) (body e) id o error parameter) e new (the_calls.Refuse id place parameter) (Ok None)
   refuse_sent k octets new c is at =
       let h = subst (IsChecked (can_refuse_with (base e) (body e) id o error parameter) None error_text) is (c o) in
       answered_so (can_refuse_with (base e) (body e) id o error parameter) e new (the_calls.Refuse id place parameter) None h.0
@@ -120,18 +120,18 @@ module _ (e : EndView) (context place : ℕ) (linked : Option ℤ) (argument : O
   invoke_call = the_calls.Invoke context place argument linked
 
   abbrev begun : EndView
-  begun = with_calls (opening (base e) (record { own = true; id = own_id; operation = place; context = context; parent = linked }) (record e.calls { made = suc e.calls.made })) e
+  begun = with_calls (with_opened (base e) (record { own = true; id = own_id; operation = place; context = context; parent = linked }) (record e.calls { made = suc e.calls.made })) e
 
-  pub invoke_refused : (k : checkeds.Checked) (r : CallRefusal) → IsChecked can_send (Some own_id) invoke_text k → k ≡ checked.Refused r → Answers can_send e e invoke_call (Err r)
+  pub invoke_refused : (k : checkeds.Checked) (r : CallRefusal) → IsChecked can_send (Some own_id) invoke_text k → k ≡ checked.Refused r → AnswersCall can_send e e invoke_call (Err r)
   invoke_refused k r c is =
       let h = subst (IsChecked can_send (Some own_id) invoke_text) is c in
       refused_so can_send e invoke_call r h.0 h.1
 
   pub invoke_sent : (k : checkeds.Checked) (octets : List ℕ) (new : EndView) (x : ℤ) → IsChecked can_send (Some own_id) invoke_text k → k ≡ checked.Sends octets → new ≡ with_waiting octets begun → x ≡ own_id
-      → Answers can_send e new invoke_call (Ok (Some x))
+      → AnswersCall can_send e new invoke_call (Ok (Some x))
   invoke_sent k octets new x c is at same =
       let h = subst (IsChecked can_send (Some own_id) invoke_text) is c in
-      subst (λ (y : ℤ). Answers can_send e new invoke_call (Ok (Some y))) (sym same)
+      subst (λ (y : ℤ). AnswersCall can_send e new invoke_call (Ok (Some y))) (sym same)
       (answered_so can_send e new invoke_call (Some own_id) h.0
       (invoked e context place own_id linked operation argument there new (at ∙ ap (λ (t : List ℕ). with_waiting t begun) h.1)))
 
@@ -158,8 +158,8 @@ pub invoke_unknown : (e : EndView) (context place : ℕ) (argument : Option Val)
 invoke_unknown e context place argument linked none = ap (λ (q : Option Operation). can_invoke_operation (base e) (body e) context place q argument linked) none
 
 -- a call by another row that refuses nothing
-pub answers_by : (can_now can_before : Reply) (e new : EndView) (call : Call) (reply : Reply) → can_before ≡ can_now → Answers can_now e new call reply → Answers can_before e new call reply
-answers_by can_now can_before e new call reply same h = subst (λ (can : Reply). Answers can e new call reply) (sym same) h
+pub answers_by : (can_now can_before : Reply) (e new : EndView) (call : Call) (reply : Reply) → can_before ≡ can_now → AnswersCall can_now e new call reply → AnswersCall can_before e new call reply
+answers_by can_now can_before e new call reply same h = subst (λ (can : Reply). AnswersCall can e new call reply) (sym same) h
 
 -- ---- the outcome of an error by its first rows
 
@@ -231,21 +231,21 @@ module _ (e : EndView) where
 
   -- a call by its row
   pub by_row : (new : EndView) (call k : Call) (can_now : Reply) (reply : Reply) → is_dead e.phase ≡ false → (is_initiators call && not e.config.initiator) ≡ false → is_phase_for call e.phase ≡ true
-      → call ≡ k → by_rows k ≡ can_now → Answers can_now e new k reply → Answers (can_call (base e) (body e) call) e new call reply
+      → call ≡ k → by_rows k ≡ can_now → AnswersCall can_now e new k reply → AnswersCall (can_call (base e) (body e) call) e new call reply
   by_row new call k can_now reply alive mine right is rows h =
-      subst (λ (x : Call). Answers (can_call (base e) (body e) call) e new x reply) (sym is)
-      (subst (λ (can : Reply). Answers can e new k reply) (sym (can_rows call alive mine right ∙ ap by_rows is ∙ rows)) h)
+      subst (λ (x : Call). AnswersCall (can_call (base e) (body e) call) e new x reply) (sym is)
+      (subst (λ (can : Reply). AnswersCall can e new k reply) (sym (can_rows call alive mine right ∙ ap by_rows is ∙ rows)) h)
 
   -- one of another mode
   pub by_no_row : (call : Call) → is_dead e.phase ≡ false → (is_initiators call && not e.config.initiator) ≡ false → is_phase_for call e.phase ≡ true → is_of_bare_mode call ≡ false
-      → Answers (can_call (base e) (body e) call) e e call (Err refusals.NotNegotiated)
+      → AnswersCall (can_call (base e) (body e) call) e e call (Err refusals.NotNegotiated)
   by_no_row call alive mine right other =
       refused_so (can_call (base e) (body e) call) e call refusals.NotNegotiated
       (can_rows call alive mine right ∙ ap (λ (b : Bool). if not b then Err refusals.NotNegotiated else can_by_rows (base e) (body e) call) other) refl
 
 -- ---- want of memory
 
-pub died_so : (can : Reply) (old now new : EndView) (call : Call) (reply : Reply) → is_memory reply ≡ true → Answers can old now call reply → new ≡ record now { phase = Dead }
+pub died_so : (can : Reply) (old now new : EndView) (call : Call) (reply : Reply) → is_memory reply ≡ true → AnswersCall can old now call reply → new ≡ record now { phase = Dead }
     → MatchBool (is_memory reply) (Died old new) (Answered can old new call reply)
 died_so can old now new call reply m h is =
     let k = subst (λ (b : Bool). MatchBool b (Keeps old now) (Answered can old now call reply)) m h in
@@ -257,7 +257,7 @@ died_so can old now new call reply m h is =
       waiting = ap (λ (x : EndView). x.waiting) is ∙ k.waiting;
     })
 
-pub lived_so : (can : Reply) (old new : EndView) (call : Call) (reply : Reply) → is_memory reply ≡ false → Answers can old new call reply → MatchBool (is_memory reply) (Died old new) (Answered can old new call reply)
+pub lived_so : (can : Reply) (old new : EndView) (call : Call) (reply : Reply) → is_memory reply ≡ false → AnswersCall can old new call reply → MatchBool (is_memory reply) (Died old new) (Answered can old new call reply)
 lived_so can old new call reply m h =
     let k = subst (λ (b : Bool). MatchBool b (Keeps old new) (Answered can old new call reply)) m h in
     subst (λ (b : Bool). MatchBool b (Died old new) (Answered can old new call reply)) (sym m) k

@@ -4,13 +4,13 @@ use Rattle.std.specs.Prelude.{MatchBool}
 use Rattle.std.specs.Bool.{OnFalse}
 use Rattle.dialogue.specs.declared.call.Call.{Call}
 use Rattle.end_rules.specs.Base.{Base}
-use Rattle.end_rules.specs.Invoking.{Reply}
+use Rattle.end_rules.specs.Invoking.{Reply, is_memory}
 use Rattle.end_rules.specs.Calling.{can_call}
 use Rattle.end_rules.specs.Requesting.{due_of}
 use Rattle.end_rules.specs.History.{Step, History, called, sent, call_steps}
 use Rattle.end_wire.specs.Bare.{bare_base}
 use Rattle.end_wire.specs.Line.{End, after, after_all, end_of, going_on}
-use Rattle.bare_end.specs.View.{EndView, base, body, seen, Stepped, StandsFor, Died, Answered, is_memory}
+use Rattle.bare_end.specs.View.{EndView, base, body, seen, Stepped, StandsFor, Died, Answered}
 
 going : (b : Base) (h : History) (steps : List Step) → after_all b (end_of b h) steps ≡ end_of b (going_on h steps)
 going b h [] = refl

@@ -20,7 +20,7 @@ use Rattle.end_rules.specs.Messages.{Message}
 use Rattle.end_rules.specs.Sets.{same_name, has_abstract, lowest_with}
 use Rattle.osi_base.specs.SetPlaces.{pair_of}
 use Rattle.end_rules.specs.State.{OpenCall, bare_set, opened_with, close}
-use Rattle.end_rules.specs.Hearing.{data_on, syntax_of, opening}
+use Rattle.end_rules.specs.Hearing.{data_on, syntax_of, with_opened}
 use Rattle.end_rules.specs.Invoking.{invoke_apdu, result_apdu, error_apdu, carrier_in}
 use Rattle.end_rules.specs.Requesting.{due_of, due_invoke, due_outcome, after_invoke, after_outcome, result_for, error_for, sent_at_once, operation_opened}
 use Rattle.end_rules.specs.History.{called, sent}
@@ -45,7 +45,7 @@ module _ (e : EndView) (context place : ℕ) (id : ℤ) (linked : Option ℤ) (o
   called_so = record { own = true; id = id; operation = place; context = context; parent = linked }
 
   abbrev begun : EndView
-  begun = with_calls (opening (base e) called_so (record e.calls { made = suc e.calls.made })) e
+  begun = with_calls (with_opened (base e) called_so (record e.calls { made = suc e.calls.made })) e
 
   abbrev text : List ℕ
   text = written_apdu e.tables Ber (invoke_apdu operation id linked argument)

@@ -9,10 +9,9 @@ use Rattle.dialogue.specs.declared.call.CallRefusal.{CallRefusal}
 use Rattle.dialogue.specs.declared.call.CallRefusal.TheVariants as refusals
 use Rattle.end_rules.specs.Base.{Base}
 use Rattle.end_rules.specs.State.{Calls, opens_of}
-use Rattle.end_rules.specs.Invoking.{Reply, is_too_long}
+use Rattle.end_rules.specs.Invoking.{Reply, is_too_long, is_memory}
 use Rattle.bare_end.specs.declared.sending.Checked as checkeds
 use Rattle.bare_end.specs.declared.sending.Checked.TheVariants as checked
-use Rattle.bare_end.specs.View.{is_memory}
 
 -- the octets of an APDU that is short in each of the three syntaxes
 abbrev pub IsShortText : Base → Apdu → Option (List ℕ) → Type 0

@@ -1,5 +1,5 @@
 -- What a contract sees of an end of bare mode, and what its calls answer and change.
-use Rattle.std.specs.Prelude.{◌≡◌, ℕ, List, ◌∷◌, ◌++◌, map, Bool, true, false, Option, Some, None, Ok, Err, MatchBool}
+use Rattle.std.specs.Prelude.{◌≡◌, ℕ, List, ◌∷◌, ◌++◌, map, false, Option, Some, None, Err, MatchBool}
 use Rattle.stub_tables.specs.declared.tables.Tables.{Tables}
 use Rattle.dialogue.specs.declared.call.Call.{Call}
 use Rattle.dialogue.specs.declared.call.CallRefusal.{CallRefusal}
@@ -9,7 +9,7 @@ use Rattle.dialogue.specs.declared.config.Phase.{Phase}
 use Rattle.dialogue.specs.declared.config.Phase.TheVariants.{Dead}
 use Rattle.end_rules.specs.Base.{Base}
 use Rattle.end_rules.specs.State.{Body, Calls, new_link, new_body}
-use Rattle.end_rules.specs.Invoking.{Reply}
+use Rattle.end_rules.specs.Invoking.{Reply, is_memory}
 use Rattle.end_rules.specs.Requesting.{due_of}
 use Rattle.end_rules.specs.History.{Step, History, called, sent}
 use Rattle.end_wire.specs.Bare.{bare_base}
@@ -59,11 +59,6 @@ with_waiting octets e = record e { waiting = e.waiting ++ octets }
 
 -- ---- calls
 
-abbrev pub is_memory : Reply → Bool
-is_memory (Ok answer) = false
-is_memory (Err refusals.NoMemory) = true
-is_memory (Err _) = false
-
 -- a refusal that isn't for want of memory
 abbrev pub IsRefusal : Option CallRefusal → Type 0
 IsRefusal None = Unit {0}
@@ -80,8 +75,8 @@ pub record Keeps (old new : EndView) : Type 0 where
   pub config : new.config ≡ old.config
   pub waiting : new.waiting ≡ old.waiting
 
-abbrev pub Answers : Reply → EndView → EndView → Call → Reply → Type 0
-Answers can old new call reply = MatchBool (is_memory reply) (Keeps old new) (Answered can old new call reply)
+abbrev pub AnswersCall : Reply → EndView → EndView → Call → Reply → Type 0
+AnswersCall can old new call reply = MatchBool (is_memory reply) (Keeps old new) (Answered can old new call reply)
 
 -- An allocation was refused: the end is dead, and gives out no more than was due before.
 pub record Died (old new : EndView) : Type 0 where

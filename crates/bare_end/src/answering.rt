@@ -9,7 +9,7 @@ ghost use Rattle.dialogue.specs.declared.call.Call.TheVariants as the_calls;
 ghost use Rattle.end_rules.specs.State.{OpenCall, opened_with, close};
 ghost use Rattle.end_rules.specs.Invoking.{operation_of, result_apdu, error_apdu, can_send_outcome, can_answer_open, can_answer, can_refuse_with, can_refuse};
 ghost use Rattle.bare_end.specs.Checking.{IsChecked};
-ghost use Rattle.bare_end.specs.View.{base, body, with_calls, with_waiting, Answers, Keeps};
+ghost use Rattle.bare_end.specs.View.{base, body, with_calls, with_waiting, AnswersCall, Keeps};
 
 use crate::end::End;
 use crate::sending::Checked;
@@ -107,7 +107,7 @@ impl<'t> End<'t> {
     ) -> Result<Option<i64>, CallRefusal>
         requires { operation_of (base self.old) (opened_with false id.now self.old.calls.opens)
             ≡ Some operation.now }
-        ensures { Answers (can_answer (base self.old) (body self.old) id.now value.now) self.old
+        ensures { AnswersCall (can_answer (base self.old) (body self.old) id.now value.now) self.old
             self.new (the_calls.Answer id.now value.now) result }
     {
         let checked = self.check_answer(id, operation, value)?;
@@ -126,7 +126,7 @@ impl<'t> End<'t> {
         id: &i64,
         value: &Option<Val>,
     ) -> Result<Option<i64>, CallRefusal>
-        ensures { Answers (can_answer (base self.old) (body self.old) id.now value.now) self.old
+        ensures { AnswersCall (can_answer (base self.old) (body self.old) id.now value.now) self.old
             self.new (the_calls.Answer id.now value.now) result }
     {
         let Some(operation) = self.operation_of(id) else {
@@ -145,7 +145,7 @@ impl<'t> End<'t> {
     ) -> Result<Option<i64>, CallRefusal>
         requires there { error_at self.old.tables place ≡ Some error.now }
         ensures { (o : OpenCall) → opened_with false id.now self.old.calls.opens ≡ Some o →
-            Answers (can_refuse_with (base self.old) (body self.old) id.now o error.now
+            AnswersCall (can_refuse_with (base self.old) (body self.old) id.now o error.now
             parameter.now) self.old self.new (the_calls.Refuse id.now place parameter.now) result }
     {
         let checked = self.check_refuse(id, error, parameter)?;
@@ -165,8 +165,8 @@ impl<'t> End<'t> {
         place: u32,
         parameter: &Option<Val>,
     ) -> Result<Option<i64>, CallRefusal>
-        ensures { Answers (can_refuse (base self.old) (body self.old) id.now place parameter.now)
-            self.old self.new (the_calls.Refuse id.now place parameter.now) result }
+        ensures { AnswersCall (can_refuse (base self.old) (body self.old) id.now place
+            parameter.now) self.old self.new (the_calls.Refuse id.now place parameter.now) result }
     {
         let tables = self.tables;
         let Some(operation) = self.operation_of(id) else {

@@ -2,10 +2,11 @@
 
 ghost use Rattle.std.specs.Prelude.{◌≡◌, true, false, not, ◌&&◌};
 ghost use Rattle.std.specs.Bool.{MatchBool, OnFalse};
+ghost use Rattle.end_rules.specs.Invoking.{is_memory};
 ghost use Rattle.end_rules.specs.Calling.{can_call, is_dead, is_initiators, is_phase_for};
 ghost use Rattle.end_rules.specs.History.{History, call_steps};
 ghost use Rattle.end_wire.specs.Line.{going_on, end_of};
-ghost use Rattle.bare_end.specs.View.{base, body, Answers, Answered, Died, is_memory, StandsFor};
+ghost use Rattle.bare_end.specs.View.{base, body, AnswersCall, Answered, Died, StandsFor};
 
 use crate::end::End;
 use crate::invoking::Making;
@@ -25,7 +26,7 @@ impl<'t> End<'t> {
         requires open_ { is_phase_for call.now self.old.phase ≡ true }
         requires mine { is_initiators call.now && not self.old.config.initiator ≡ false }
         requires alive { is_dead self.old.phase ≡ false }
-        ensures { Answers (can_call (base self.old) (body self.old) call.now) self.old self.new
+        ensures { AnswersCall (can_call (base self.old) (body self.old) call.now) self.old self.new
             call.now result }
     {
         if !is_of_bare_mode(call) {
@@ -57,7 +58,7 @@ impl<'t> End<'t> {
 
     /// Makes a call, or refuses it by the first row that fails.
     fn call_now(&mut self, call: &Call) -> Result<Option<i64>, CallRefusal>
-        ensures { Answers (can_call (base self.old) (body self.old) call.now) self.old self.new
+        ensures { AnswersCall (can_call (base self.old) (body self.old) call.now) self.old self.new
             call.now result }
     {
         if is_dead(self.phase) {

@@ -51,7 +51,7 @@ impl<'t> Model for End<'t> {
 impl<'t> End<'t> {
     ghost use Rattle.dialogue.specs.declared.config.Mode.TheVariants as modes;
     ghost use Rattle.dialogue.specs.declared.config.Phase.TheVariants as phases;
-    ghost use Rattle.dialogue.specs.Config.{config_refusal};
+    ghost use Rattle.dialogue.specs.Config.{bare_config_refusal};
     ghost use Rattle.dialogue.specs.declared.config.ConfigRefusal.TheVariants as config_refusals;
     ghost use Rattle.std.specs.Option.{option_copied};
     ghost use Rattle.end_rules.specs.Sets.{lowest_with};
@@ -74,9 +74,9 @@ impl<'t> End<'t> {
           rest = [];
         }) }
         ensures history { IfOk result (λ end. StandsFor end []) }
-        ensures accepted { OnOk result (config_refusal config ≡ None) }
+        ensures accepted { OnOk result (bare_config_refusal config ≡ None) }
         ensures refused { IfErr result (λ refusal. (refusal ≢ config_refusals.NoMemory) →
-            config_refusal config ≡ Some refusal) }
+            bare_config_refusal config ≡ Some refusal) }
     {
         check_bare_config(alloc, &config)?;
         let Ok(heads) = Heads::new(alloc) else {

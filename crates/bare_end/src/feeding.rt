@@ -80,8 +80,8 @@ impl<'t> End<'t> {
     fn read(&mut self, front: FirstValue, shown: &mut Indications) -> Result<bool, NoMemory>
         requires first { IsFirst self.old.rest front }
         requires up { passes_over self.old.phase ≡ false }
-        ensures { MatchResult result (λ more. ReadOneOrAll more self.old self.new shown.old shown.new)
-            (λ _. Keeps self.old self.new) }
+        ensures { MatchResult result (λ more. ReadOneOrAll more self.old self.new shown.old
+            shown.new) (λ _. Keeps self.old self.new) }
     {
         match front {
             FirstValue::Short => Ok(false),
@@ -99,8 +99,8 @@ impl<'t> End<'t> {
     /// Reads what stands first, and answers whether more may follow.
     fn read_next(&mut self, shown: &mut Indications) -> Result<bool, NoMemory>
         requires { passes_over self.old.phase ≡ false }
-        ensures { MatchResult result (λ more. ReadOneOrAll more self.old self.new shown.old shown.new)
-            (λ _. Keeps self.old self.new) }
+        ensures { MatchResult result (λ more. ReadOneOrAll more self.old self.new shown.old
+            shown.new) (λ _. Keeps self.old self.new) }
     {
         let front = self.front();
         self.read(front, shown)

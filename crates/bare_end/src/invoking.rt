@@ -9,11 +9,11 @@ ghost use Rattle.apdu_spelling.specs.Writing.{written_apdu};
 ghost use Rattle.dialogue.specs.declared.call.Call.TheVariants as the_calls;
 ghost use Rattle.dialogue.specs.declared.call.CallRefusal.TheVariants as refusals;
 ghost use Rattle.end_rules.specs.State.{opens_of};
-ghost use Rattle.end_rules.specs.Hearing.{opening};
+ghost use Rattle.end_rules.specs.Hearing.{with_opened};
 ghost use Rattle.end_rules.specs.Invoking.{Reply, next_id, is_on_module, is_linked_to, linking_refusal, unless_refused, invoke_apdu, can_send_invoke, can_invoke};
 ghost use Rattle.open_invocations.specs.Invocations.{is_link};
 ghost use Rattle.bare_end.specs.Checking.{IsChecked, IsFree, HasRoom, IsNumbered};
-ghost use Rattle.bare_end.specs.View.{base, body, with_calls, with_waiting, Answers, Keeps, IsRefusal};
+ghost use Rattle.bare_end.specs.View.{base, body, with_calls, with_waiting, AnswersCall, Keeps, IsRefusal};
 
 use crate::end::End;
 use crate::sending::Checked;
@@ -134,7 +134,7 @@ impl<'t> End<'t> {
         requires room { HasRoom self.old.calls operation.now }
         requires linked { is_link making.linked self.old.calls.opens ≡ true }
         ensures ok { OnOk result (self.new
-            ≡ with_calls (opening (base self.old)
+            ≡ with_calls (with_opened (base self.old)
             (record {
               own = true;
               id = next_id (body self.old);
@@ -160,7 +160,7 @@ impl<'t> End<'t> {
         requires room { HasRoom self.old.calls operation.now }
         requires linked { is_link making.linked self.old.calls.opens ≡ true }
         ensures ok { OnOk result (self.new ≡ with_waiting text.now
-            (with_calls (opening (base self.old) (record {
+            (with_calls (with_opened (base self.old) (record {
               own = true;
               id = next_id (body self.old);
               operation = making.place;
@@ -184,7 +184,7 @@ impl<'t> End<'t> {
     ) -> Result<Option<i64>, CallRefusal>
         requires there { operation_at self.old.tables making.place ≡ Some operation.now }
         requires linked { is_link making.linked self.old.calls.opens ≡ true }
-        ensures { Answers (can_send_invoke (base self.old) (body self.old) operation.now
+        ensures { AnswersCall (can_send_invoke (base self.old) (body self.old) operation.now
             argument.now making.linked) self.old self.new
             (the_calls.Invoke making.context making.place argument.now making.linked) result }
     {
@@ -205,8 +205,8 @@ impl<'t> End<'t> {
         making: Making,
         argument: &Option<Val>,
     ) -> Result<Option<i64>, CallRefusal>
-        ensures { Answers (can_invoke (base self.old) (body self.old) making.context making.place
-            argument.now making.linked) self.old self.new
+        ensures { AnswersCall (can_invoke (base self.old) (body self.old) making.context
+            making.place argument.now making.linked) self.old self.new
             (the_calls.Invoke making.context making.place argument.now making.linked) result }
     {
         let tables = self.tables;

@@ -9,7 +9,7 @@ use Rattle.ber_spelling.specs.declared.spot.Scope.{Scope}
 use Rattle.ber_spelling.specs.Reading.{Spot, within}
 use Rattle.ber_spelling.specs.Fields.{digits_at}
 use Rattle.ber_spelling.proofs.Identifiers.{in_before}
-use Rattle.ber_faults.specs.Fields.{IsWithin, Crosses, GoesOn, AreOpen}
+use Rattle.ber_faults.specs.Fields.{IsWithin, Crosses, GoesOn, AreUnfinishedDigits}
 use Rattle.ber_faults.proofs.Steps.{bind_err, bind_fails, cond_err, not_err, within_err, crosses_err, within_ok, within_goes, in_within, within_in, lacking_err, lacking_fails}
 
 -- ---- digits that cross
@@ -19,7 +19,7 @@ pub record DigitsCross (scope : Scope) (place from : ℕ) (octets : List ℕ) (f
   pub more : List ℕ
   pub parts : octets ≡ digits ++ more
   pub within : IsWithin scope (from + length digits)
-  pub are : AreOpen digits
+  pub are : AreUnfinishedDigits digits
   pub goes_on : GoesOn scope (from + length digits) more
   pub crosses : Crosses scope place (from + length digits + 1) f
 
@@ -58,7 +58,7 @@ unfolding digits_at
 next_crosses scope place number from [] f on c = lacking_fails {A = ℕ × Spot} scope place from f on c
 next_crosses scope place number from (octet ∷ more) f on c = bind_fails (within scope place (from + 1)) _ f (crosses_err scope place (from + 1) f c)
 
-pub digits_cross : (scope : Scope) (place number from : ℕ) (digits more : List ℕ) (f : ReadFault) → AreOpen digits → IsWithin scope (from + length digits) → GoesOn scope (from + length digits) more
+pub digits_cross : (scope : Scope) (place number from : ℕ) (digits more : List ℕ) (f : ReadFault) → AreUnfinishedDigits digits → IsWithin scope (from + length digits) → GoesOn scope (from + length digits) more
     → Crosses scope place (from + length digits + 1) f → digits_at scope place number from (digits ++ more) ≡ Err f
 unfolding digits_at
 digits_cross scope place number from [] more f are here on c =

@@ -31,9 +31,9 @@ GoesOn scope from (octet ∷ more) = Unit {0}
 -- ---- identifiers (X.690 8.1.2)
 
 -- digits of seven bits, of which none is the last
-abbrev pub AreOpen : List ℕ → Type 0
-AreOpen [] = Unit {0}
-AreOpen (digit ∷ digits) = (128 ≤ digit) × AreOpen digits
+abbrev pub AreUnfinishedDigits : List ℕ → Type 0
+AreUnfinishedDigits [] = Unit {0}
+AreUnfinishedDigits (digit ∷ digits) = (128 ≤ digit) × AreUnfinishedDigits digits
 
 -- a number below 31, or a leading zero digit (X.690 8.1.2.4)
 abbrev pub IsLax : List ℕ → Type 0
@@ -43,7 +43,7 @@ IsLax digits = (number_128 0 digits < 31) ⊎ (slice_index digits 0 ≡ 128)
 abbrev pub DigitsFault : Scope → ℕ → List ℕ → ReadFault → Type 0
 DigitsFault scope place octets f =
     (digits : List ℕ) × (more : List ℕ) × (octets ≡ digits ++ more) × IsWithin scope (place + 1 + length digits)
-    × ((AreOpen digits × GoesOn scope (place + 1 + length digits) more × Crosses scope place (place + 1 + length digits + 1) f)
+    × ((AreUnfinishedDigits digits × GoesOn scope (place + 1 + length digits) more × Crosses scope place (place + 1 + length digits + 1) f)
     ⊎ (AreDigits digits × IsLax digits × (f ≡ NotSpelled place Tag)))
 
 abbrev pub IdentifierFault : Scope → ℕ → List ℕ → ReadFault → Type 0

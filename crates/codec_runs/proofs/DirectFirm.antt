@@ -22,7 +22,7 @@ use Rattle.end_rules.specs.Base.{Base, Spellings, Item}
 use Rattle.end_rules.specs.Sets.{Alteration, Saved, is_among, named_ids, proposed_ids, is_fixed, altered, listed, below, newest, next_number}
 use Rattle.osi_base.specs.SetPlaces.{pair_of}
 use Rattle.end_rules.specs.Policy.{policy, is_faulty_proposal}
-use Rattle.end_rules.specs.Messages.{Message, Transport, Session, TransportUnit, ConnectionRequest, ConnectionConfirm, DisconnectRequest, TransportError, DataValue, Accepting}
+use Rattle.end_rules.specs.Messages.{Message, Transport, Session, TransportUnit, ConnectionRequest, ConnectionConfirm, DisconnectRequest, TransportError, DataValue, Accepting, value_of_item}
 use Rattle.end_rules.specs.Messages.{Word, OfAssociation, OfData, OfMarks, OfActivities, Connect, Accept, Refuse, Finish, Disconnect, Abort, AbortAccept, Values, AlterContext, AlterContextAck, Mark, MarkAck, Restart, RestartAck, Give, Please, GiveConfirm, GiveAck, unit_of}
 use Rattle.end_rules.specs.State.{Body, Sets, OpenCall, opened_with, is_up, is_carrying, is_joined}
 use Rattle.end_rules.specs.Writing.{acse_pair, session_connect, presentation_connect, connect_values, user_abort, disconnect_message, proposals}
@@ -50,7 +50,7 @@ use Rattle.end_model.specs.Sharing.{shared_all_sent, shared_all_answered}
 use Rattle.end_model.proofs.Ladder.{called}
 use Rattle.reliable_model.proofs.Fixed.{AreIdentifiers, others-altered, unnamed-unharmed, fixed-unharmed, unproposed, among-first, among-second}
 use Rattle.reliable_model.proofs.Firm.{Keeps}
-use Rattle.said_words.specs.Words.{value_of_item, the_connect, the_acceptance, IsWord, IsUnit}
+use Rattle.said_words.specs.Words.{the_connect, the_acceptance, IsWord, IsUnit}
 use Rattle.said_words.proofs.First.{first_of, first-pair, none-refused}
 use Rattle.said_takings.proofs.Loose.{spared}
 use Rattle.run_lemmas.proofs.Tests.{clash, and-left, and-right, no-fault, none-second}

@@ -21,7 +21,7 @@ use Rattle.dialogue.specs.declared.call.CallRefusal.TheVariants as refusals
 use Rattle.dialogue.specs.declared.indication.Indication.{Indication}
 use Rattle.end_rules.specs.Base.{Base, Spellings, Item}
 use Rattle.end_rules.specs.Sets.{Alteration}
-use Rattle.end_rules.specs.Messages.{ValueContent, Remote, DataValue, Message, Transport, Session, Word, OfAssociation, OfData, OfMarks, OfActivities, TransportUnit, ConnectionRequest, ConnectionConfirm, DisconnectRequest, TransportError, unit_of}
+use Rattle.end_rules.specs.Messages.{ValueContent, Remote, DataValue, Message, Transport, Session, Word, OfAssociation, OfData, OfMarks, OfActivities, TransportUnit, ConnectionRequest, ConnectionConfirm, DisconnectRequest, TransportError, unit_of, value_of_item}
 use Rattle.end_rules.specs.Messages.{Connect, Accept, Refuse, Finish, Disconnect, Abort, AbortAccept, Values, AlterContext, AlterContextAck, Mark, MarkAck, Restart, RestartAck, Give, Please, GiveConfirm, GiveAck}
 use Rattle.end_rules.specs.State.{Body, OpenCall, is_up, is_unused, is_broken, is_carrying, opened_with}
 use Rattle.end_rules.specs.Writing.{provider_refusal, refuse_message, user_abort}
@@ -47,7 +47,7 @@ use Rattle.end_model.proofs.Ladder.{called, passed}
 use Rattle.end_model.proofs.InvokeRungs.{invokable}
 use Rattle.end_model.proofs.HandingRows.{next-is}
 use Rattle.outcome_laws.specs.Exchanges.{Asked, asked_by}
-use Rattle.said_words.specs.Words.{value_of_item, IsWord, IsUnit}
+use Rattle.said_words.specs.Words.{IsWord, IsUnit}
 use Rattle.said_words.proofs.TransferEnds.{is_early}
 use Rattle.run_laws.specs.Outcomes.{Invocation, ToldOutcome, returned, failed, invoked_by, answered_by}
 use Rattle.association_runs.proofs.Telling.{invoked_ids, ids-append, plain-ids}

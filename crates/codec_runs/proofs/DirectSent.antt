@@ -15,7 +15,7 @@ use Rattle.dialogue.specs.declared.event.Entry.{Entry}
 use Rattle.dialogue.specs.declared.indication.Indication.{Indication}
 use Rattle.end_rules.specs.Base.{Base, Spellings, Fault}
 use Rattle.osi_base.specs.SetPlaces.{pair_of}
-use Rattle.end_rules.specs.Messages.{Message, Transport, Session, DataValue, Word, OfAssociation, OfData, OfMarks, OfActivities, Connect, Accept, Refuse, Finish, Disconnect, Abort, AbortAccept, Values, AlterContext, AlterContextAck, Mark, MarkAck, Restart, RestartAck, Give, Please, GiveConfirm, GiveAck, unit_of}
+use Rattle.end_rules.specs.Messages.{Message, Transport, Session, DataValue, Word, OfAssociation, OfData, OfMarks, OfActivities, Connect, Accept, Refuse, Finish, Disconnect, Abort, AbortAccept, Values, AlterContext, AlterContextAck, Mark, MarkAck, Restart, RestartAck, Give, Please, GiveConfirm, GiveAck, unit_of, value_of_item}
 use Rattle.end_rules.specs.State.{Body, is_carrying, is_joined, passes_over}
 use Rattle.end_rules.specs.Writing.{proposals}
 use Rattle.end_rules.specs.Calling.{can_call}
@@ -41,12 +41,12 @@ use Rattle.reliable_model.proofs.FirmSteps.{in-place, nothing-above}
 use Rattle.reliable_model.proofs.OnWay.{took-unit}
 use Rattle.reliable_model.proofs.Fixed.{AreIdentifiers, listed-identifiers}
 use Rattle.said_words.specs.Calls.{Speaks}
-use Rattle.said_words.specs.Words.{value_of_item, the_finish, the_disconnect, IsMessage, AreMessages}
+use Rattle.said_words.specs.Words.{the_finish, the_disconnect, IsMessage, AreMessages}
 use Rattle.said_words.specs.Laws.{ProposesContexts}
 use Rattle.said_words.proofs.Sharing.{no-own}
 use Rattle.said_words.proofs.Worlds.{direct-says}
 use Rattle.association_worlds.specs.Laws.{IsMeant}
-use Rattle.run_laws.specs.Passing.{sent_in, values_in, Passed, at_sending, as_read, on_connection, sendings, read_in, readings, AreAsSent, TakenAsSent}
+use Rattle.run_laws.specs.Passing.{sent_in, values_in, PairedMessage, at_sending, as_read, on_connection, sendings, read_in, readings, AreAsSent, TakenAsSent}
 use Rattle.run_laws.specs.Laws.{AtEachMoment}
 use Rattle.association_runs.specs.Worlds.{stepping, Runs}
 use Rattle.association_runs.specs.Laws.{AreEvents}
@@ -91,10 +91,10 @@ not-empty message left [] h = absurd h
 not-empty message left (f ∷ fs) h = record { first = f; rest = fs; is_it = refl; release = h.0; released = h.1 }
 
 -- with the pairs that the set gave
-abbrev under : Message → List SetItem → Passed
+abbrev under : Message → List SetItem → PairedMessage
 under message set = record { message = message; pairs = map (λ (v : DataValue). pair_of set v.id) (values_in message) }
 
-abbrev expected : List Message → List (List SetItem) → List Passed
+abbrev expected : List Message → List (List SetItem) → List PairedMessage
 expected [] sets = []
 expected (m ∷ ms) [] = []
 expected (m ∷ ms) (set ∷ sets) = under m set ∷ expected ms sets
@@ -103,41 +103,41 @@ expected-append : (ms ns : List Message) (fs gs : List (List SetItem)) → Relea
 expected-append [] ns [] gs h = refl
 expected-append [] ns (f ∷ fs) gs h = absurd h
 expected-append (m ∷ ms) ns [] gs h = absurd h
-expected-append (m ∷ ms) ns (f ∷ fs) gs h = ap (λ (l : List Passed). under m f ∷ l) (expected-append ms ns fs gs h.1)
+expected-append (m ∷ ms) ns (f ∷ fs) gs h = ap (λ (l : List PairedMessage). under m f ∷ l) (expected-append ms ns fs gs h.1)
 
 -- ---- what an end read follows what the other sent, and the rest is on its way
 
-abbrev Follows : List (Option Passed) → List Passed → List Passed → Type 0
+abbrev Follows : List (Option PairedMessage) → List PairedMessage → List PairedMessage → Type 0
 Follows [] all coming = all ≡ coming
 Follows (reading ∷ more) [] coming = ⊥
 Follows (None ∷ more) (p ∷ ps) coming = Follows more ps coming
 Follows (Some reading ∷ more) (p ∷ ps) coming = (reading ≡ p) × Follows more ps coming
 
-follows-sent : (rs : List (Option Passed)) (all coming more : List Passed) → Follows rs all coming → Follows rs (all ++ more) (coming ++ more)
-follows-sent [] all coming more h = ap (λ (l : List Passed). l ++ more) h
+follows-sent : (rs : List (Option PairedMessage)) (all coming more : List PairedMessage) → Follows rs all coming → Follows rs (all ++ more) (coming ++ more)
+follows-sent [] all coming more h = ap (λ (l : List PairedMessage). l ++ more) h
 follows-sent (r ∷ rs) [] coming more h = absurd h
 follows-sent (None ∷ rs) (p ∷ ps) coming more h = follows-sent rs ps coming more h
 follows-sent (Some r ∷ rs) (p ∷ ps) coming more h = (h.0, follows-sent rs ps coming more h.1)
 
-follows-none : (rs : List (Option Passed)) (all coming left : List Passed) (p : Passed) → coming ≡ p ∷ left → Follows rs all coming → Follows (rs ++ None ∷ []) all left
-follows-none [] all coming left p e h = subst (λ (l : List Passed). Follows (None ∷ []) l left) (sym (h ∙ e)) refl
+follows-none : (rs : List (Option PairedMessage)) (all coming left : List PairedMessage) (p : PairedMessage) → coming ≡ p ∷ left → Follows rs all coming → Follows (rs ++ None ∷ []) all left
+follows-none [] all coming left p e h = subst (λ (l : List PairedMessage). Follows (None ∷ []) l left) (sym (h ∙ e)) refl
 follows-none (r ∷ rs) [] coming left p e h = absurd h
 follows-none (None ∷ rs) (x ∷ xs) coming left p e h = follows-none rs xs coming left p e h
 follows-none (Some r ∷ rs) (x ∷ xs) coming left p e h = (h.0, follows-none rs xs coming left p e h.1)
 
-follows-some : (rs : List (Option Passed)) (all coming left : List Passed) (p r : Passed) → coming ≡ p ∷ left → r ≡ p → Follows rs all coming → Follows (rs ++ Some r ∷ []) all left
-follows-some [] all coming left p r e k h = subst (λ (l : List Passed). Follows (Some r ∷ []) l left) (sym (h ∙ e)) (k, refl)
+follows-some : (rs : List (Option PairedMessage)) (all coming left : List PairedMessage) (p r : PairedMessage) → coming ≡ p ∷ left → r ≡ p → Follows rs all coming → Follows (rs ++ Some r ∷ []) all left
+follows-some [] all coming left p r e k h = subst (λ (l : List PairedMessage). Follows (Some r ∷ []) l left) (sym (h ∙ e)) (k, refl)
 follows-some (q ∷ rs) [] coming left p r e k h = absurd h
 follows-some (None ∷ rs) (x ∷ xs) coming left p r e k h = follows-some rs xs coming left p r e k h
 follows-some (Some q ∷ rs) (x ∷ xs) coming left p r e k h = (h.0, follows-some rs xs coming left p r e k h.1)
 
-as-sent : (rs : List (Option Passed)) (all coming : List Passed) → Follows rs all coming → AreAsSent rs all
+as-sent : (rs : List (Option PairedMessage)) (all coming : List PairedMessage) → Follows rs all coming → AreAsSent rs all
 as-sent [] all coming h = tt
 as-sent (r ∷ rs) [] coming h = absurd h
 as-sent (None ∷ rs) (p ∷ ps) coming h = as-sent rs ps coming h
 as-sent (Some r ∷ rs) (p ∷ ps) coming h = (h.0, as-sent rs ps coming h.1)
 
-more-sent : (rs : List (Option Passed)) (all more : List Passed) → AreAsSent rs all → AreAsSent rs (all ++ more)
+more-sent : (rs : List (Option PairedMessage)) (all more : List PairedMessage) → AreAsSent rs all → AreAsSent rs (all ++ more)
 more-sent [] all more h = tt
 more-sent (r ∷ rs) [] more h = absurd h
 more-sent (None ∷ rs) (p ∷ ps) more h = more-sent rs ps more h
@@ -149,7 +149,7 @@ stays : {X : Type 0} (x : Step) (ys : List X) → IsOn x → on_connection x ys 
 stays broke ys h = absurd h
 stays _ ys h = refl
 
-abbrev all_passed : Ends → Role → World → List Step → List Passed
+abbrev all_passed : Ends → Role → World → List Step → List PairedMessage
 all_passed ends role w [] = []
 all_passed ends role w (x ∷ xs) = map (at_sending ends w) (sent_in x) ++ all_passed ends role (record { side = side_of role; step = x } ∷ w) xs
 
@@ -157,11 +157,11 @@ own-passed : (ends : Ends) (role : Role) (w : World) (xs : List Step) → AreOn 
 own-passed ends role w [] h = sym (append-nil (sendings ends (side_of role) w))
 own-passed ends Initiator w (x ∷ xs) h =
     own-passed ends Initiator (record { side = A; step = x } ∷ w) xs h.1
-    ∙ ap (λ (l : List Passed). l ++ all_passed ends Initiator (record { side = A; step = x } ∷ w) xs) (stays x (sendings ends A w ++ map (at_sending ends w) (sent_in x)) h.0)
+    ∙ ap (λ (l : List PairedMessage). l ++ all_passed ends Initiator (record { side = A; step = x } ∷ w) xs) (stays x (sendings ends A w ++ map (at_sending ends w) (sent_in x)) h.0)
     ∙ append_assoc (sendings ends A w) (map (at_sending ends w) (sent_in x)) (all_passed ends Initiator (record { side = A; step = x } ∷ w) xs)
 own-passed ends Responder w (x ∷ xs) h =
     own-passed ends Responder (record { side = B; step = x } ∷ w) xs h.1
-    ∙ ap (λ (l : List Passed). l ++ all_passed ends Responder (record { side = B; step = x } ∷ w) xs) (stays x (sendings ends B w ++ map (at_sending ends w) (sent_in x)) h.0)
+    ∙ ap (λ (l : List PairedMessage). l ++ all_passed ends Responder (record { side = B; step = x } ∷ w) xs) (stays x (sendings ends B w ++ map (at_sending ends w) (sent_in x)) h.0)
     ∙ append_assoc (sendings ends B w) (map (at_sending ends w) (sent_in x)) (all_passed ends Responder (record { side = B; step = x } ∷ w) xs)
 
 peer-passed : (ends : Ends) (role : Role) (w : World) (xs : List Step) → AreOn xs → sendings ends (side_of (other role)) (stepping (side_of role) w xs) ≡ sendings ends (side_of (other role)) w
@@ -228,9 +228,9 @@ module _ (free : Free) (tables : Tables) (spellings : Spellings) (a b : Config) 
         subst (λ (c : List Message). Follows (readings (side_of (other role)) v) (sendings ends (side_of (other (other role))) v) (expected c (sets_to (other role) sets_after))) (sym (peer-coming role later left more two))
         (subst (λ (fs : List (List SetItem)). Follows (readings (side_of (other role)) v) (sendings ends (side_of (other (other role))) v) (expected (coming_to (other role) two ++ more) fs)) (sym (peer-sets role rest (before shared more) x.sets))
         (subst (λ (r : Role). Follows (readings (side_of (other role)) v) (sendings ends (side_of r) v) (expected (coming_to (other role) two ++ more) (sets_to (other role) x.sets ++ before shared more))) (sym (other-other role))
-        (subst (λ (rs : List (Option Passed)). Follows rs (sendings ends (side_of role) v) (expected (coming_to (other role) two ++ more) (sets_to (other role) x.sets ++ before shared more))) (sym unread)
-        (subst (λ (ps : List Passed). Follows (readings (side_of (other role)) w) ps (expected (coming_to (other role) two ++ more) (sets_to (other role) x.sets ++ before shared more))) (sym sends)
-        (subst (λ (ps : List Passed). Follows (readings (side_of (other role)) w) (sendings ends (side_of role) w ++ expected more (before shared more)) ps)
+        (subst (λ (rs : List (Option PairedMessage)). Follows rs (sendings ends (side_of role) v) (expected (coming_to (other role) two ++ more) (sets_to (other role) x.sets ++ before shared more))) (sym unread)
+        (subst (λ (ps : List PairedMessage). Follows (readings (side_of (other role)) w) ps (expected (coming_to (other role) two ++ more) (sets_to (other role) x.sets ++ before shared more))) (sym sends)
+        (subst (λ (ps : List PairedMessage). Follows (readings (side_of (other role)) w) (sendings ends (side_of role) w ++ expected more (before shared more)) ps)
         (sym (expected-append (coming_to (other role) two) more (sets_to (other role) x.sets) (before shared more) (x.released (other role))))
         (follows-sent (readings (side_of (other role)) w) (sendings ends (side_of role) w) (expected (coming_to (other role) two) (sets_to (other role) x.sets)) (expected more (before shared more))
         (subst (λ (r : Role). Follows (readings (side_of (other role)) w) (sendings ends (side_of r) w) (expected (coming_to (other role) two) (sets_to (other role) x.sets))) (other-other role) (x.follows (other role)))))))))
@@ -358,11 +358,11 @@ module _ (free : Free) (tables : Tables) (spellings : Spellings) (a b : Config) 
             let d = call-does (base role) (side_of role) (body_at role two) shared call answer c in
             made role w (stepping (side_of role) w xs) two shared (shared_all_sent Direct (side_of role) due shared) (after_called Direct (base role) (body_at role two) call answer) (coming_to role two) due (sets_to role x.sets) x
             (sharing.calls two shared x.sets role call answer x.shares c) d (λ h. h) (x.released role)
-            (subst (λ (rs : List (Option Passed)). Follows rs (sendings ends (side_of (other role)) (stepping (side_of role) w xs)) (expected (coming_to role two) (sets_to role x.sets)))
-            (sym (own-readings role w xs on ∙ ap (λ (l : List (Option Passed)). readings (side_of role) w ++ l) (sents-read due) ∙ append-nil (readings (side_of role) w)))
-            (subst (λ (ps : List Passed). Follows (readings (side_of role) w) ps (expected (coming_to role two) (sets_to role x.sets))) (sym (peer-passed ends role w xs on)) (x.follows role)))
+            (subst (λ (rs : List (Option PairedMessage)). Follows rs (sendings ends (side_of (other role)) (stepping (side_of role) w xs)) (expected (coming_to role two) (sets_to role x.sets)))
+            (sym (own-readings role w xs on ∙ ap (λ (l : List (Option PairedMessage)). readings (side_of role) w ++ l) (sents-read due) ∙ append-nil (readings (side_of role) w)))
+            (subst (λ (ps : List PairedMessage). Follows (readings (side_of role) w) ps (expected (coming_to role two) (sets_to role x.sets))) (sym (peer-passed ends role w xs on)) (x.follows role)))
             (peer-readings role w xs on)
-            (own-passed ends role w xs on ∙ ap (λ (l : List Passed). sendings ends (side_of role) w ++ l) (few-sents ends role (record { side = side_of role; step = called call (Ok answer) } ∷ w) shared due d.few (called-shared role w call answer ∙ s)))
+            (own-passed ends role w xs on ∙ ap (λ (l : List PairedMessage). sendings ends (side_of role) w ++ l) (few-sents ends role (record { side = side_of role; step = called call (Ok answer) } ∷ w) shared due d.few (called-shared role w call answer ∙ s)))
 
     took-shared : (role : Role) (w : World) (message : Message) → shared_at ends (record { side = side_of role; step = took message } ∷ w) ≡ shared_at ends w
     took-shared Initiator w message = refl
@@ -380,12 +380,12 @@ module _ (free : Free) (tables : Tables) (spellings : Spellings) (a b : Config) 
         let read : as_read message ≡ under message n.first = read-so two ledger.shared x.sets role message left n.first n.rest body answers shown x.shares i e n.is_it n.release r in
         made role w (stepping (side_of role) w xs) two ledger.shared (shared_all_answered (base role) message answers ledger.shared) body left answers n.rest x
         (sharing.takes two ledger.shared x.sets role message left n.first n.rest body answers shown x.shares e n.is_it r) d (acceptance-later message (coming_to role two) left e) n.released
-        (subst (λ (rs : List (Option Passed)). Follows rs (sendings ends (side_of (other role)) (stepping (side_of role) w xs)) (expected left n.rest))
-        (sym (own-readings role w xs on ∙ ap (λ (l : List (Option Passed)). readings (side_of role) w ++ (Some (as_read message) ∷ l)) (answers-read message answers)))
-        (subst (λ (ps : List Passed). Follows (readings (side_of role) w ++ Some (as_read message) ∷ []) ps (expected left n.rest)) (sym (peer-passed ends role w xs on))
+        (subst (λ (rs : List (Option PairedMessage)). Follows rs (sendings ends (side_of (other role)) (stepping (side_of role) w xs)) (expected left n.rest))
+        (sym (own-readings role w xs on ∙ ap (λ (l : List (Option PairedMessage)). readings (side_of role) w ++ (Some (as_read message) ∷ l)) (answers-read message answers)))
+        (subst (λ (ps : List PairedMessage). Follows (readings (side_of role) w ++ Some (as_read message) ∷ []) ps (expected left n.rest)) (sym (peer-passed ends role w xs on))
         (follows-some (readings (side_of role) w) (sendings ends (side_of (other role)) w) (expected (coming_to role two) (sets_to role x.sets)) (expected left n.rest) (under message n.first) (as_read message) same read (x.follows role))))
         (peer-readings role w xs on)
-        (own-passed ends role w xs on ∙ ap (λ (l : List Passed). sendings ends (side_of role) w ++ l) (few-answers ends role (record { side = side_of role; step = took message } ∷ w) ledger.shared message answers d.few (took-shared role w message ∙ s)))
+        (own-passed ends role w xs on ∙ ap (λ (l : List PairedMessage). sendings ends (side_of role) w ++ l) (few-answers ends role (record { side = side_of role; step = took message } ∷ w) ledger.shared message answers d.few (took-shared role w message ∙ s)))
 
     passed-so : (role : Role) (w : World) (two : Two) (shared : Shared) (message : Message) (left : List Message) → coming_to role two ≡ message ∷ left → react (base role) (body_at role two) message ≡ Passes → Sent w two shared
         → Sent (stepping (side_of role) w (passed ∷ [])) (stepped role (body_at role two) left [] two) shared
@@ -397,8 +397,8 @@ module _ (free : Free) (tables : Tables) (spellings : Spellings) (a b : Config) 
         made role w (stepping (side_of role) w xs) two shared shared (body_at role two) left [] n.rest x
         (sharing.passes two shared x.sets role message left n.first n.rest x.shares e n.is_it r)
         (record { stands = λ h. h; firm = λ h f. f; accepts = λ h. absurd h; released = λ h. tt; few = nobody }) (acceptance-later message (coming_to role two) left e) n.released
-        (subst (λ (rs : List (Option Passed)). Follows rs (sendings ends (side_of (other role)) (stepping (side_of role) w xs)) (expected left n.rest)) (sym (own-readings role w xs on))
-        (subst (λ (ps : List Passed). Follows (readings (side_of role) w ++ None ∷ []) ps (expected left n.rest)) (sym (peer-passed ends role w xs on))
+        (subst (λ (rs : List (Option PairedMessage)). Follows rs (sendings ends (side_of (other role)) (stepping (side_of role) w xs)) (expected left n.rest)) (sym (own-readings role w xs on))
+        (subst (λ (ps : List PairedMessage). Follows (readings (side_of role) w ++ None ∷ []) ps (expected left n.rest)) (sym (peer-passed ends role w xs on))
         (follows-none (readings (side_of role) w) (sendings ends (side_of (other role)) w) (expected (coming_to role two) (sets_to role x.sets)) (expected left n.rest) (under message n.first) same (x.follows role))))
         (peer-readings role w xs on)
         (own-passed ends role w xs on)
@@ -430,8 +430,8 @@ module _ (free : Free) (tables : Tables) (spellings : Spellings) (a b : Config) 
         let xs : List Step = x ∷ [] in
         let on = quiet-on x q in
         let v = stepping (side_of role) w xs in
-        let own_read : readings (side_of role) v ≡ readings (side_of role) w = own-readings role w xs on ∙ ap (λ (l : List (Option Passed)). readings (side_of role) w ++ l) (quiet-reads x q) ∙ append-nil (readings (side_of role) w) in
-        let own_sent : sendings ends (side_of role) v ≡ sendings ends (side_of role) w = own-passed ends role w xs on ∙ ap (λ (l : List Passed). sendings ends (side_of role) w ++ l) (quiet-sends role w x q) ∙ append-nil (sendings ends (side_of role) w) in
+        let own_read : readings (side_of role) v ≡ readings (side_of role) w = own-readings role w xs on ∙ ap (λ (l : List (Option PairedMessage)). readings (side_of role) w ++ l) (quiet-reads x q) ∙ append-nil (readings (side_of role) w) in
+        let own_sent : sendings ends (side_of role) v ≡ sendings ends (side_of role) w = own-passed ends role w xs on ∙ ap (λ (l : List PairedMessage). sendings ends (side_of role) w ++ l) (quiet-sends role w x q) ∙ append-nil (sendings ends (side_of role) w) in
         record {
           sets = s.sets;
           shares = s.shares;
@@ -440,11 +440,11 @@ module _ (free : Free) (tables : Tables) (spellings : Spellings) (a b : Config) 
           released = s.released;
           follows =
               both role (λ (r : Role). Follows (readings (side_of r) v) (sendings ends (side_of (other r)) v) (expected (coming_to r two) (sets_to r s.sets)))
-              (subst (λ (rs : List (Option Passed)). Follows rs (sendings ends (side_of (other role)) v) (expected (coming_to role two) (sets_to role s.sets))) (sym own_read)
-              (subst (λ (ps : List Passed). Follows (readings (side_of role) w) ps (expected (coming_to role two) (sets_to role s.sets))) (sym (peer-passed ends role w xs on)) (s.follows role)))
+              (subst (λ (rs : List (Option PairedMessage)). Follows rs (sendings ends (side_of (other role)) v) (expected (coming_to role two) (sets_to role s.sets))) (sym own_read)
+              (subst (λ (ps : List PairedMessage). Follows (readings (side_of role) w) ps (expected (coming_to role two) (sets_to role s.sets))) (sym (peer-passed ends role w xs on)) (s.follows role)))
               (subst (λ (r : Role). Follows (readings (side_of (other role)) v) (sendings ends (side_of r) v) (expected (coming_to (other role) two) (sets_to (other role) s.sets))) (sym (other-other role))
-              (subst (λ (rs : List (Option Passed)). Follows rs (sendings ends (side_of role) v) (expected (coming_to (other role) two) (sets_to (other role) s.sets))) (sym (peer-readings role w xs on))
-              (subst (λ (ps : List Passed). Follows (readings (side_of (other role)) w) ps (expected (coming_to (other role) two) (sets_to (other role) s.sets))) (sym own_sent)
+              (subst (λ (rs : List (Option PairedMessage)). Follows rs (sendings ends (side_of role) v) (expected (coming_to (other role) two) (sets_to (other role) s.sets))) (sym (peer-readings role w xs on))
+              (subst (λ (ps : List PairedMessage). Follows (readings (side_of (other role)) w) ps (expected (coming_to (other role) two) (sets_to (other role) s.sets))) (sym own_sent)
               (subst (λ (r : Role). Follows (readings (side_of (other role)) w) (sendings ends (side_of r) w) (expected (coming_to (other role) two) (sets_to (other role) s.sets))) (other-other role) (s.follows (other role))))));
         }
 
@@ -483,12 +483,12 @@ module _ (free : Free) (tables : Tables) (spellings : Spellings) (a b : Config) 
     of-both w h k B = k
 
     -- it adds nothing to what its end read, and may add to what it sent; or it ends the connection
-    one-more : (x : Step) (w : World) (mine theirs : List (Option Passed)) (own peer : List Passed) → IsNoReading x → AreAsSent theirs own → AreAsSent mine peer
+    one-more : (x : Step) (w : World) (mine theirs : List (Option PairedMessage)) (own peer : List PairedMessage) → IsNoReading x → AreAsSent theirs own → AreAsSent mine peer
         → AreAsSent (on_connection x theirs) (on_connection x (own ++ map (at_sending ends w) (sent_in x))) × AreAsSent (on_connection x (mine ++ read_in x)) (on_connection x peer)
     one-more (took message) w mine theirs own peer n h k = absurd n
     one-more passed w mine theirs own peer n h k = absurd n
     one-more broke w mine theirs own peer n h k = (tt, tt)
-    one-more x w mine theirs own peer n h k = (more-sent theirs own (map (at_sending ends w) (sent_in x)) h, subst (λ (l : List (Option Passed)). AreAsSent l peer) (sym (append-nil mine)) k)
+    one-more x w mine theirs own peer n h k = (more-sent theirs own (map (at_sending ends w) (sent_in x)) h, subst (λ (l : List (Option PairedMessage)). AreAsSent l peer) (sym (append-nil mine)) k)
 
     stepped-on : (role : Role) (w : World) (x : Step) → IsNoReading x → Ever w → Ever (record { side = side_of role; step = x } ∷ w)
     stepped-on Initiator w x n h =
@@ -527,8 +527,8 @@ module _ (free : Free) (tables : Tables) (spellings : Spellings) (a b : Config) 
         let p = stays x (sendings ends B w) on in
         let q = stays x (readings B w) on in
         let s = stays x (sendings ends A w ++ map (at_sending ends w) (sent_in x)) on in (
-          of-both (record { side = A; step = x } ∷ w) (subst (λ (rs : List (Option Passed)). AreAsSent rs (on_connection x (sendings ends A w ++ map (at_sending ends w) (sent_in x)))) (sym q) (subst (AreAsSent (readings B w)) (sym s) (more-sent (readings B w) (sendings ends A w) (map (at_sending ends w) (sent_in x)) (now w h A))))
-              (subst (λ (rs : List (Option Passed)). AreAsSent rs (on_connection x (sendings ends B w))) (sym o) (subst (AreAsSent (readings A w ++ read_in x)) (sym p) f)),
+          of-both (record { side = A; step = x } ∷ w) (subst (λ (rs : List (Option PairedMessage)). AreAsSent rs (on_connection x (sendings ends A w ++ map (at_sending ends w) (sent_in x)))) (sym q) (subst (AreAsSent (readings B w)) (sym s) (more-sent (readings B w) (sendings ends A w) (map (at_sending ends w) (sent_in x)) (now w h A))))
+              (subst (λ (rs : List (Option PairedMessage)). AreAsSent rs (on_connection x (sendings ends B w))) (sym o) (subst (AreAsSent (readings A w ++ read_in x)) (sym p) f)),
           h,
         )
     read-on Responder w x on none f h =
@@ -536,8 +536,8 @@ module _ (free : Free) (tables : Tables) (spellings : Spellings) (a b : Config) 
         let p = stays x (sendings ends A w) on in
         let q = stays x (readings A w) on in
         let s = stays x (sendings ends B w ++ map (at_sending ends w) (sent_in x)) on in (
-          of-both (record { side = B; step = x } ∷ w) (subst (λ (rs : List (Option Passed)). AreAsSent rs (on_connection x (sendings ends A w))) (sym o) (subst (AreAsSent (readings B w ++ read_in x)) (sym p) f))
-              (subst (λ (rs : List (Option Passed)). AreAsSent rs (on_connection x (sendings ends B w ++ map (at_sending ends w) (sent_in x)))) (sym q) (subst (AreAsSent (readings A w)) (sym s) (more-sent (readings A w) (sendings ends B w) (map (at_sending ends w) (sent_in x)) (now w h B)))),
+          of-both (record { side = B; step = x } ∷ w) (subst (λ (rs : List (Option PairedMessage)). AreAsSent rs (on_connection x (sendings ends A w))) (sym o) (subst (AreAsSent (readings B w ++ read_in x)) (sym p) f))
+              (subst (λ (rs : List (Option PairedMessage)). AreAsSent rs (on_connection x (sendings ends B w ++ map (at_sending ends w) (sent_in x)))) (sym q) (subst (AreAsSent (readings A w)) (sym s) (more-sent (readings A w) (sendings ends B w) (map (at_sending ends w) (sent_in x)) (now w h B)))),
           h,
         )
 

@@ -39,7 +39,7 @@ use Rattle.said_words.specs.Words.{IsMessage, AreMessages}
 use Rattle.said_words.proofs.TransferEnds as said_ends
 use Rattle.said_words.proofs.TransferWorlds as said
 use Rattle.association_worlds.specs.Laws.{IsMeant}
-use Rattle.run_laws.specs.Passing.{sent_in, Passed, at_sending, as_read, on_connection, sendings, read_in, readings, AreInPlace, TakenInPlace, AreAsSent, TakenAsSent}
+use Rattle.run_laws.specs.Passing.{sent_in, PairedMessage, at_sending, as_read, on_connection, sendings, read_in, readings, AreInPlace, TakenInPlace, AreAsSent, TakenAsSent}
 use Rattle.run_laws.specs.Laws.{AtEachMoment}
 use Rattle.association_runs.specs.Worlds.{stepping, Runs}
 use Rattle.association_runs.specs.Laws.{AreEvents}
@@ -64,20 +64,20 @@ SendRight ends (m ∷ w) = AreSentRight ends w (sent_in m.step) × SendRight end
 
 -- ---- so it is taken as it was sent
 
-abbrev AllSentRight : List Passed → Type 0
+abbrev AllSentRight : List PairedMessage → Type 0
 AllSentRight [] = Unit {0}
 AllSentRight (p ∷ ps) = (p ≡ as_read p.message) × AllSentRight ps
 
-abbrev AllReadRight : List (Option Passed) → Type 0
+abbrev AllReadRight : List (Option PairedMessage) → Type 0
 AllReadRight [] = Unit {0}
 AllReadRight (None ∷ rs) = AllReadRight rs
 AllReadRight (Some r ∷ rs) = (r ≡ as_read r.message) × AllReadRight rs
 
-sent-append : (xs ys : List Passed) → AllSentRight xs → AllSentRight ys → AllSentRight (xs ++ ys)
+sent-append : (xs ys : List PairedMessage) → AllSentRight xs → AllSentRight ys → AllSentRight (xs ++ ys)
 sent-append [] ys h k = k
 sent-append (x ∷ xs) ys h k = (h.0, sent-append xs ys h.1 k)
 
-read-append : (xs ys : List (Option Passed)) → AllReadRight xs → AllReadRight ys → AllReadRight (xs ++ ys)
+read-append : (xs ys : List (Option PairedMessage)) → AllReadRight xs → AllReadRight ys → AllReadRight (xs ++ ys)
 read-append [] ys h k = k
 read-append (None ∷ xs) ys h k = read-append xs ys h k
 read-append (Some x ∷ xs) ys h k = (h.0, read-append xs ys h.1 k)
@@ -86,11 +86,11 @@ sent-so : (ends : Ends) (w : World) (ms : List Message) → AreSentRight ends w 
 sent-so ends w [] h = tt
 sent-so ends w (m ∷ ms) h = (h.0, sent-so ends w ms h.1)
 
-sent-on : (x : Step) (ps : List Passed) → AllSentRight ps → AllSentRight (on_connection x ps)
+sent-on : (x : Step) (ps : List PairedMessage) → AllSentRight ps → AllSentRight (on_connection x ps)
 sent-on broke ps h = tt
 sent-on _ ps h = h
 
-read-on : (x : Step) (rs : List (Option Passed)) → AllReadRight rs → AllReadRight (on_connection x rs)
+read-on : (x : Step) (rs : List (Option PairedMessage)) → AllReadRight rs → AllReadRight (on_connection x rs)
 read-on broke rs h = tt
 read-on _ rs h = h
 
@@ -115,7 +115,7 @@ readings-right side (m ∷ w) = read-on m.step _ (go (is_side side m.side) (read
     go true before = read-append (readings side w) (read_in m.step) before (read-so m.step)
     go false before = before
 
-as-sent : (rs : List (Option Passed)) (all : List Passed) → AreInPlace rs all → AllReadRight rs → AllSentRight all → AreAsSent rs all
+as-sent : (rs : List (Option PairedMessage)) (all : List PairedMessage) → AreInPlace rs all → AllReadRight rs → AllSentRight all → AreAsSent rs all
 as-sent [] all h r s = tt
 as-sent (r ∷ rs) [] h t s = absurd h
 as-sent (None ∷ rs) (p ∷ ps) h t s = as-sent rs ps h t s.1
@@ -153,7 +153,7 @@ module _ (free : Free) (tables : Tables) (spellings : Spellings) (a b : Config) 
 
   one-right : (w : World) (shared : Shared) (m : Message) → shared_at ends w ≡ shared → IsRight shared.set m → at_sending ends w m ≡ as_read m
   one-right w shared m e r =
-      let put : List (Option Pair) → Passed = λ ps. record { message = m; pairs = ps } in
+      let put : List (Option Pair) → PairedMessage = λ ps. record { message = m; pairs = ps } in
       ap put (subst (λ (s : Shared). IsRight s.set m) (sym e) r)
 
   sents-right : (role : Role) (w : World) (shared : Shared) (ms : List Message) → Few ms → shared_at ends w ≡ shared → AllRight shared.set ms → SendRight ends w → SendRight ends (stepping (side_of role) w (map sent ms))

@@ -31,7 +31,7 @@ use Rattle.association_worlds.specs.association_reading.Reacting.{react_to, gram
 use Rattle.association_worlds.specs.InTransit.{AreCarried}
 use Rattle.association_worlds.specs.Laws.{IsMeant}
 use Rattle.association_worlds.proofs.Kept.{carried-behind}
-use Rattle.run_laws.specs.Passing.{Passed, sendings, readings}
+use Rattle.run_laws.specs.Passing.{PairedMessage, sendings, readings}
 use Rattle.run_laws.specs.Laws.{NothingFails}
 use Rattle.association_runs.specs.association_line.Line.{End, after, after_all}
 use Rattle.association_runs.specs.association_line.Feeding.{taking, failing, Reads, is_over, waits, passes, takes, fails as failed, OwnAfter, Makes}
@@ -197,7 +197,7 @@ module _ (common : Common) where
   carried-to-b : (w : World) (os : List ℕ) → os ≡ take (length os) (end_for common Initiator w).line.waiting → Flows w → Flows (record { side = B; step = fed os } ∷ record { side = A; step = gave (length os) } ∷ w)
   carried-to-b w os e f = record {
     to_b =
-        subst (λ (l : List (Option Passed)). Flow common.tables (sents_at (ends_for common) A w ++ []) (drop (length os) (end_for common Initiator w).line.waiting) (given A w + length os) (length l)
+        subst (λ (l : List (Option PairedMessage)). Flow common.tables (sents_at (ends_for common) A w ++ []) (drop (length os) (end_for common Initiator w).line.waiting) (given A w + length os) (length l)
         (if passes_over (end_for common Responder w).body.link.phase then None else option_map (with_octets os) (end_for common Responder w).line.came)) (sym (append-nil (readings B w)))
         (carry-step common.tables (sents_at (ends_for common) A w) (end_for common Initiator w).line.waiting os (given A w) (length (readings B w)) (passes_over (end_for common Responder w).body.link.phase)
         (end_for common Responder w).line.came e f.to_b);
@@ -209,7 +209,7 @@ module _ (common : Common) where
   carried-to-a : (w : World) (os : List ℕ) → os ≡ take (length os) (end_for common Responder w).line.waiting → Flows w → Flows (record { side = A; step = fed os } ∷ record { side = B; step = gave (length os) } ∷ w)
   carried-to-a w os e f = record {
     to_a =
-        subst (λ (l : List (Option Passed)). Flow common.tables (sents_at (ends_for common) B w ++ []) (drop (length os) (end_for common Responder w).line.waiting) (given B w + length os) (length l)
+        subst (λ (l : List (Option PairedMessage)). Flow common.tables (sents_at (ends_for common) B w ++ []) (drop (length os) (end_for common Responder w).line.waiting) (given B w + length os) (length l)
         (if passes_over (end_for common Initiator w).body.link.phase then None else option_map (with_octets os) (end_for common Initiator w).line.came)) (sym (append-nil (readings A w)))
         (carry-step common.tables (sents_at (ends_for common) B w) (end_for common Responder w).line.waiting os (given B w) (length (readings A w)) (passes_over (end_for common Initiator w).body.link.phase)
         (end_for common Initiator w).line.came e f.to_a);
@@ -233,7 +233,7 @@ module _ (common : Common) where
       (subst (AreCarried common.tables) (sym (own-sendings (ends_for common) role u xs on)) (carried-append (messages_in (sendings (ends_for common) (side_of role) u)) (all_sent_in xs) (h role) new))
       (subst (AreCarried common.tables) (sym (peer-sendings (ends_for common) role u xs on)) (h (other role)))
 
-  follows-one : (rs : List (Option Passed)) (all xs ys : List Message) → Follows rs all xs → Follows rs all ys → xs ≡ ys
+  follows-one : (rs : List (Option PairedMessage)) (all xs ys : List Message) → Follows rs all xs → Follows rs all ys → xs ≡ ys
   follows-one [] all xs ys h k = sym h ∙ k
   follows-one (r ∷ rs) [] xs ys h k = absurd h
   follows-one (None ∷ rs) (m ∷ ms) xs ys h k = follows-one rs ms xs ys h k
@@ -246,7 +246,7 @@ module _ (common : Common) where
     all-sent role u xs two later ledger ledger_later exchanges exchanges_later on j k h =
         let peer : Role = other role in
         let v : World = stepping (side_of role) u xs in
-        let rs : List (Option Passed) = readings (side_of peer) u in
+        let rs : List (Option PairedMessage) = readings (side_of peer) u in
         let sent_so : List Message = messages_in (sendings (ends_for common) (side_of role) u) in
         let before : Follows rs (sent_so ++ all_sent_in xs) (coming_to peer two ++ all_sent_in xs) =
         follows-sent rs sent_so (coming_to peer two) (all_sent_in xs)
@@ -255,7 +255,7 @@ module _ (common : Common) where
         subst (λ (r : Role). Follows (readings (side_of peer) v) (messages_in (sendings (ends_for common) (side_of r) v)) (coming_to peer later)) (other-other role) (k.follows peer) in
         let afterwards : Follows rs (sent_so ++ all_sent_in xs) (coming_to peer later) =
         subst (λ (l : List Message). Follows rs l (coming_to peer later)) (own-sendings (ends_for common) role u xs on)
-        (subst (λ (l : List (Option Passed)). Follows l (messages_in (sendings (ends_for common) (side_of role) v)) (coming_to peer later)) (peer-readings role u xs on) then_so) in
+        (subst (λ (l : List (Option PairedMessage)). Follows l (messages_in (sendings (ends_for common) (side_of role) v)) (coming_to peer later)) (peer-readings role u xs on) then_so) in
         let same : coming_to peer later ≡ coming_to peer two ++ all_sent_in xs = follows-one rs (sent_so ++ all_sent_in xs) (coming_to peer later) (coming_to peer two ++ all_sent_in xs) afterwards before in
         let new : AreCarried common.tables (all_sent_in xs) = carried-behind common.tables (coming_to peer two) (all_sent_in xs) (subst (AreCarried common.tables) same (m.carried later ledger_later k.speaks peer)) in
         grown role u xs on new h

@@ -14,7 +14,7 @@ use Rattle.association_worlds.specs.association_wire.Written.{written}
 use Rattle.association_worlds.specs.association_reading.Front.{Front, Intake, nothing_came, all_fronts, with_octets, behind_first, without_first}
 use Rattle.association_worlds.specs.InTransit.{SentMessage, texts}
 use Rattle.association_worlds.proofs.Kept.{fronts-append, texts-append}
-use Rattle.run_laws.specs.Passing.{Passed, sent_in, as_read, on_connection, read_in}
+use Rattle.run_laws.specs.Passing.{PairedMessage, sent_in, as_read, on_connection, read_in}
 use Rattle.association_runs.specs.association_line.Line.{End, after}
 use Rattle.association_runs.specs.Octets.{given_in, or_none}
 use Rattle.counted_runs.proofs.Sents.{sized}
@@ -72,7 +72,7 @@ module _ (tables : Tables) (sents : List SentMessage) (waiting : List ℕ) (give
     holds = f.holds;
   }
 
-pub giver-step : (base : Base) (e : End) (x : Step) (sents : List SentMessage) (given : ℕ) (reads : List (Option Passed)) (came : Option Intake) → IsOut x → Flow base.tables sents e.line.waiting given (length reads) came
+pub giver-step : (base : Base) (e : End) (x : Step) (sents : List SentMessage) (given : ℕ) (reads : List (Option PairedMessage)) (came : Option Intake) → IsOut x → Flow base.tables sents e.line.waiting given (length reads) came
     → Flow base.tables (on_connection x (sents ++ sized e.line.size (sent_in x))) (after base e x).line.waiting (or_none x (given + given_in x)) (length (on_connection x reads)) came
 giver-step base e (called call reply) sents given reads came o f = no-more base.tables sents e.line.waiting given (length reads) came f
 giver-step base e (sent message) sents given reads came o f = one-more base.tables sents e.line.waiting given (length reads) came f e.line.size message
@@ -97,15 +97,15 @@ IsStill passed = ⊥
 IsStill broke = ⊥
 IsStill _ = Unit {0}
 
-module _ (tables : Tables) (sents : List SentMessage) (waiting : List ℕ) (given : ℕ) (reads : List (Option Passed)) where
+module _ (tables : Tables) (sents : List SentMessage) (waiting : List ℕ) (given : ℕ) (reads : List (Option PairedMessage)) where
   none-read : (came : Option Intake) → Flow tables sents waiting given (length reads) came → Flow tables sents waiting given (length (reads ++ [])) came
-  none-read came f = subst (λ (l : List (Option Passed)). Flow tables sents waiting given (length l) came) (sym (append-nil reads)) f
+  none-read came f = subst (λ (l : List (Option PairedMessage)). Flow tables sents waiting given (length l) came) (sym (append-nil reads)) f
 
   closed : (came : Option Intake) → Flow tables sents waiting given (length reads) came → Flow tables sents waiting given (length (reads ++ [])) None
   closed came f = record { got = f.got; octets = f.octets; counts = f.counts; holds = tt }
 
   -- what stands first is read
-  first-read : (p : Option Passed) (intake : Intake) (front : Front) (more : List Front) → intake.fronts ≡ front ∷ more → Flow tables sents waiting given (length reads) (Some intake)
+  first-read : (p : Option PairedMessage) (intake : Intake) (front : Front) (more : List Front) → intake.fronts ≡ front ∷ more → Flow tables sents waiting given (length reads) (Some intake)
       → Flow tables sents waiting given (length (reads ++ p ∷ [])) (Some (behind_first intake))
   first-read p intake front more e f =
       let h : IsHeld f.got (length reads) intake = f.holds in
@@ -127,7 +127,7 @@ module _ (tables : Tables) (sents : List SentMessage) (waiting : List ℕ) (give
             };
       }
 
-pub taker-step : (base : Base) (e : End) (x : Step) (tables : Tables) (sents : List SentMessage) (waiting : List ℕ) (given : ℕ) (reads : List (Option Passed)) → IsStill x → Flow tables sents waiting given (length reads) e.line.came
+pub taker-step : (base : Base) (e : End) (x : Step) (tables : Tables) (sents : List SentMessage) (waiting : List ℕ) (given : ℕ) (reads : List (Option PairedMessage)) → IsStill x → Flow tables sents waiting given (length reads) e.line.came
     → Flow tables (on_connection x sents) waiting (or_none x given) (length (on_connection x (reads ++ read_in x))) (after base e x).line.came
 taker-step base e (called call reply) tables sents waiting given reads s f = none-read tables sents waiting given reads e.line.came f
 taker-step base e (sent message) tables sents waiting given reads s f = none-read tables sents waiting given reads e.line.came f
@@ -148,7 +148,7 @@ IsReading (took message) = Unit {0}
 IsReading passed = Unit {0}
 IsReading _ = ⊥
 
-pub reading-step : (base : Base) (e : End) (x : Step) (tables : Tables) (sents : List SentMessage) (waiting : List ℕ) (given : ℕ) (reads : List (Option Passed)) (intake : Intake) (front : Front) (more : List Front) → IsReading x
+pub reading-step : (base : Base) (e : End) (x : Step) (tables : Tables) (sents : List SentMessage) (waiting : List ℕ) (given : ℕ) (reads : List (Option PairedMessage)) (intake : Intake) (front : Front) (more : List Front) → IsReading x
     → e.line.came ≡ Some intake → intake.fronts ≡ front ∷ more → Flow tables sents waiting given (length reads) e.line.came
     → Flow tables (on_connection x sents) waiting (or_none x given) (length (on_connection x (reads ++ read_in x))) (after base e x).line.came
 reading-step base e (took message) tables sents waiting given reads intake front more r c k f =

@@ -11,7 +11,7 @@ use Rattle.association_worlds.specs.association_wire.Written.{written}
 use Rattle.osi_base.specs.Limits.{IsUnitSize}
 use Rattle.association_worlds.specs.InTransit.{AreCarried, SentMessage, text_of, messages_of, AreWritten}
 use Rattle.association_worlds.proofs.Kept.{map-append}
-use Rattle.run_laws.specs.Passing.{Passed, sent_in, at_sending, on_connection, sendings}
+use Rattle.run_laws.specs.Passing.{PairedMessage, sent_in, at_sending, on_connection, sendings}
 use Rattle.association_runs.specs.association_line.Line.{End, after, end_of}
 use Rattle.association_runs.specs.Worlds.{end_at}
 use Rattle.association_runs.specs.Octets as octets
@@ -69,9 +69,9 @@ messages-are ends side (m ∷ w) =
     let more : messages_of (sents_at ends side w ++ sized size (sent_in m.step)) ≡ messages_in (sendings ends side w ++ map (at_sending ends w) (sent_in m.step)) =
     map-append (λ (s : SentMessage). s.message) (sents_at ends side w) (sized size (sent_in m.step))
     ∙ (λ i. messages-are ends side w i ++ sized-messages ends w size (sent_in m.step) i)
-    ∙ sym (map-append (λ (p : Passed). p.message) (sendings ends side w) (map (at_sending ends w) (sent_in m.step))) in
-    together (λ (ss : List SentMessage) (ps : List Passed). messages_of ss ≡ messages_in ps) m.step _ _ refl
-    (chosen (λ (ss : List SentMessage) (ps : List Passed). messages_of ss ≡ messages_in ps) (is_side side m.side) _ _ _ _ more (messages-are ends side w))
+    ∙ sym (map-append (λ (p : PairedMessage). p.message) (sendings ends side w) (map (at_sending ends w) (sent_in m.step))) in
+    together (λ (ss : List SentMessage) (ps : List PairedMessage). messages_of ss ≡ messages_in ps) m.step _ _ refl
+    (chosen (λ (ss : List SentMessage) (ps : List PairedMessage). messages_of ss ≡ messages_in ps) (is_side side m.side) _ _ _ _ more (messages-are ends side w))
 
 -- ---- their sizes
 

@@ -18,8 +18,8 @@ abbrev pub is_bad_window : ℕ → ℕ → Bool
 is_bad_window checkpoint window = nat_lt most_checkpoint checkpoint || nat_eq window 0 || nat_lt most_window window
 
 -- the refusal of a configuration of bare mode, which has no contexts
-abbrev pub config_refusal : Config → Option ConfigRefusal
-config_refusal config =
+abbrev pub bare_config_refusal : Config → Option ConfigRefusal
+bare_config_refusal config =
     if is_bad_selector config.calling || is_bad_selector config.called then Some refusals.BadSelector
     else (if is_bad_reference config.reference config.common then Some refusals.BadReference
     else (if is_bad_window config.checkpoint config.window then Some refusals.BadWindow
@@ -35,4 +35,4 @@ pub record IsBare (initiator : Bool) (config : Config) : Type 0 where
   pub side : config.initiator ≡ initiator
   pub mode : config.mode ≡ Bare
   pub contexts : config.contexts ≡ []
-  pub accepted : config_refusal config ≡ None
+  pub accepted : bare_config_refusal config ≡ None

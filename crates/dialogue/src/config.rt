@@ -1,7 +1,7 @@
 //! How an end is set up, and in which phase it is.
 
 ghost use Rattle.std.specs.Prelude.{◌≡◌};
-ghost use Rattle.dialogue.specs.Config.{is_bad_selector, config_refusal, refused_if};
+ghost use Rattle.dialogue.specs.Config.{is_bad_selector, bare_config_refusal, refused_if};
 
 use osi_base::{Copied, NoMemory, Octets, Oids, Proposals, WordWithNumber};
 use std::alloc::Global;
@@ -140,7 +140,7 @@ fn is_bad_selector(octets: &Octets) -> bool
 
 /// Whether an end would refuse the configuration, which is one of bare mode.
 pub fn check_bare_config(_alloc: Global, config: &Config) -> Result<(), ConfigRefusal>
-    ensures { result ≡ refused_if (config_refusal config.now) }
+    ensures { result ≡ refused_if (bare_config_refusal config.now) }
 {
     if is_bad_selector(&config.calling) || is_bad_selector(&config.called) {
         return Err(ConfigRefusal::BadSelector);

@@ -116,7 +116,7 @@ right mode before (p ∷ ps) h = go (right mode (before ++ p ∷ []) ps) (is_bad
 -- ---- the rows before
 
 no-early : (config : Config) → config_refusal config ≡ None → bad_context config.mode [] config.contexts ≡ None
-no-early config h = contexts (bad_context config.mode [] config.contexts) (length config.contexts) (first (context_refusal (bad_context config.mode [] config.contexts) (length config.contexts)) (values.config_refusal config) (first (early_refusal config) (late_refusal config) h))
+no-early config h = contexts (bad_context config.mode [] config.contexts) (length config.contexts) (first (context_refusal (bad_context config.mode [] config.contexts) (length config.contexts)) (values.bare_config_refusal config) (first (early_refusal config) (late_refusal config) h))
   where
     first : (x y : Option ConfigRefusal) → or_refusal x y ≡ None → x ≡ None
     first None y h = refl

@@ -47,7 +47,7 @@ context_refusal None count = if nat_lt most_proposed count then Some refusals.To
 -- what is refused without a look at CP: contexts, selectors, references, checkpoint and window
 abbrev pub early_refusal : Config → Option ConfigRefusal
 early_refusal config =
-    or_refusal (context_refusal (bad_context config.mode [] config.contexts) (length config.contexts)) (values.config_refusal config)
+    or_refusal (context_refusal (bad_context config.mode [] config.contexts) (length config.contexts)) (values.bare_config_refusal config)
 
 -- an initiator opens by a CP, but not in bare mode
 abbrev pub has_connect : Config → Bool

@@ -15,7 +15,7 @@ use Rattle.osi_base.specs.declared.layer_words.Answers.{Answers}
 use Rattle.end_rules.specs.Sets.{Alteration, same_name, accepted_pair, named_syntax}
 use Rattle.end_rules.specs.Sets.{pair_accepted, is_offered, fits_proposal, fit_proposals}
 use Rattle.end_rules.specs.Sets.{fit_alteration}
-use Rattle.agreement.specs.Sets.{Result, Pair as ModelPair, FitsItem, Fits}
+use Rattle.agreement.specs.Sets.{Result, Pair as ModelPair, AnswersItem, AnswersEach}
 use Rattle.agreement.specs.Sets.Item.{Deletion}
 use Rattle.agreement.specs.Sets.Result.{AcceptedAs, Accepted, Kept}
 use Rattle.end_model.specs.Seen.{pair_seen, addition_seen, items_seen}
@@ -50,39 +50,39 @@ record AnswerFits (p asked : Proposal) (answer : AddAnswer) : Type 0 where
   same : result_with (pair_accepted p answer) ≡ result_with (pair_accepted asked answer)
   fits : fits_proposal p answer ≡ true
 
-named-fits : (p asked : Proposal) (name : List ℕ) (s : Option Syntax) → syntax_named name ≡ s → is_some s ≡ true → FitsItem (addition_seen p) (result_with (accepted_pair asked s)) → (result_with (accepted_pair p s) ≡ result_with (accepted_pair asked s)) × (list_any (same_name name) p.transfers ≡ true)
+named-fits : (p asked : Proposal) (name : List ℕ) (s : Option Syntax) → syntax_named name ≡ s → is_some s ≡ true → AnswersItem (addition_seen p) (result_with (accepted_pair asked s)) → (result_with (accepted_pair p s) ≡ result_with (accepted_pair asked s)) × (list_any (same_name name) p.transfers ≡ true)
 named-fits p asked name None e known h = cc
 named-fits p asked name (Some syntax) e known h =
     let o = is-offered p.abstract_name p.transfers (pair_seen (record { abstract_name = asked.abstract_name; transfer = syntax })) h.0 h.1 h.2 in
     (ap (λ (n : List ℕ). AcceptedAs (offer n (name_of syntax))) o.same, subst (λ m. list_any (same_name m) p.transfers ≡ true) (named-back name syntax e) o.among)
 
-transfer-fits : (p asked : Proposal) (t : Option (List ℕ)) → is_offered asked.transfers t ≡ true → FitsItem (addition_seen p) (result_with (accepted_pair asked (named_syntax t))) → (result_with (accepted_pair p (named_syntax t)) ≡ result_with (accepted_pair asked (named_syntax t))) × (is_offered p.transfers t ≡ true)
+transfer-fits : (p asked : Proposal) (t : Option (List ℕ)) → is_offered asked.transfers t ≡ true → AnswersItem (addition_seen p) (result_with (accepted_pair asked (named_syntax t))) → (result_with (accepted_pair p (named_syntax t)) ≡ result_with (accepted_pair asked (named_syntax t))) × (is_offered p.transfers t ≡ true)
 transfer-fits p asked None h k = cc
 transfer-fits p asked (Some name) h k =
     let known : is_some (syntax_named name) ≡ true = and-right (list_any (same_name name) asked.transfers) (is_some (syntax_named name)) h in
     let n = named-fits p asked name (syntax_named name) refl known k in
     (n.0, rw (n.1, known) refl)
 
-answer-fits : (p asked : Proposal) (result : ℕ) (transfer : Option (List ℕ)) (reason : Option ℕ) → fits_proposal asked (record { result = result; transfer = transfer; reason = reason }) ≡ true → FitsItem (addition_seen p) (result_with (pair_accepted asked (record { result = result; transfer = transfer; reason = reason }))) → AnswerFits p asked (record { result = result; transfer = transfer; reason = reason })
+answer-fits : (p asked : Proposal) (result : ℕ) (transfer : Option (List ℕ)) (reason : Option ℕ) → fits_proposal asked (record { result = result; transfer = transfer; reason = reason }) ≡ true → AnswersItem (addition_seen p) (result_with (pair_accepted asked (record { result = result; transfer = transfer; reason = reason }))) → AnswerFits p asked (record { result = result; transfer = transfer; reason = reason })
 answer-fits p asked result transfer reason h k = let g = go (nat_eq result 0) h k in record { same = g.0; fits = g.1 }
   where
-    go : (b : Bool) → (not b || is_offered asked.transfers transfer) ≡ true → FitsItem (addition_seen p) (result_with (if b then accepted_pair asked (named_syntax transfer) else None)) → (result_with (if b then accepted_pair p (named_syntax transfer) else None) ≡ result_with (if b then accepted_pair asked (named_syntax transfer) else None)) × ((not b || is_offered p.transfers transfer) ≡ true)
+    go : (b : Bool) → (not b || is_offered asked.transfers transfer) ≡ true → AnswersItem (addition_seen p) (result_with (if b then accepted_pair asked (named_syntax transfer) else None)) → (result_with (if b then accepted_pair p (named_syntax transfer) else None) ≡ result_with (if b then accepted_pair asked (named_syntax transfer) else None)) × ((not b || is_offered p.transfers transfer) ≡ true)
     go false h k = (refl, refl)
     go true h k = transfer-fits p asked transfer h k
 
 -- a result of an addition fits no deletion, and the other way round
-no-deletion : (k : ℕ) (pair : Option Pair) → FitsItem (Deletion k) (result_with pair) → ⊥
+no-deletion : (k : ℕ) (pair : Option Pair) → AnswersItem (Deletion k) (result_with pair) → ⊥
 no-deletion k None h = h
 no-deletion k (Some pair) h = h
 
-no-addition : (p : Proposal) (answer : ℕ) → FitsItem (addition_seen p) (deleted_seen answer) → ⊥
+no-addition : (p : Proposal) (answer : ℕ) → AnswersItem (addition_seen p) (deleted_seen answer) → ⊥
 no-addition p answer h = go (nat_eq answer 0) h
   where
-    go : (b : Bool) → FitsItem (addition_seen p) (if b then Accepted else Kept) → ⊥
+    go : (b : Bool) → AnswersItem (addition_seen p) (if b then Accepted else Kept) → ⊥
     go true h = h
     go false h = h
 
-same-count : (delete answers : List ℕ) → Fits (map Deletion delete) (map deleted_seen answers) → nat_eq (length delete) (length answers) ≡ true
+same-count : (delete answers : List ℕ) → AnswersEach (map Deletion delete) (map deleted_seen answers) → nat_eq (length delete) (length answers) ≡ true
 same-count [] [] h = refl
 same-count [] (answer ∷ answers) h = absurd h
 same-count (k ∷ delete) [] h = absurd h
@@ -96,7 +96,7 @@ record AllFit (add asked : List Proposal) (answers : List AddAnswer) (delete del
   fit : fit_proposals add answers ≡ true
   counted : nat_eq (length delete) (length deleted) ≡ true
 
-all-fit : (add asked : List Proposal) (answers : List AddAnswer) (delete deleted : List ℕ) → fit_proposals asked answers ≡ true → Fits (map addition_seen add ++ map Deletion delete) (added_seen asked answers ++ map deleted_seen deleted) → AllFit add asked answers delete deleted
+all-fit : (add asked : List Proposal) (answers : List AddAnswer) (delete deleted : List ℕ) → fit_proposals asked answers ≡ true → AnswersEach (map addition_seen add ++ map Deletion delete) (added_seen asked answers ++ map deleted_seen deleted) → AllFit add asked answers delete deleted
 all-fit [] [] [] delete deleted h k = record { same = refl; fit = refl; counted = same-count delete deleted k }
 all-fit (p ∷ ps) [] [] delete [] h k = absurd k
 all-fit (p ∷ ps) [] [] delete (d ∷ deleted) h k = absurd (no-addition p d k.0)
@@ -116,7 +116,7 @@ pub record FitsToo (a asked : Alteration) (answers : Answers) : Type 0 where
   pub same : results_seen a answers ≡ results_seen asked answers
   pub fits : fit_alteration a answers ≡ true
 
-pub fits-too : (a asked : Alteration) (answers : Answers) → fit_alteration asked answers ≡ true → Fits (items_seen a) (results_seen asked answers) → FitsToo a asked answers
+pub fits-too : (a asked : Alteration) (answers : Answers) → fit_alteration asked answers ≡ true → AnswersEach (items_seen a) (results_seen asked answers) → FitsToo a asked answers
 fits-too a asked answers h k =
     let f = all-fit a.add asked.add answers.added a.delete answers.deleted (and-left (fit_proposals asked.add answers.added) (nat_eq (length asked.delete) (length answers.deleted)) h) k in
     record { same = ap (λ rs. rs ++ map deleted_seen answers.deleted) f.same; fits = rw (f.fit, f.counted) refl }

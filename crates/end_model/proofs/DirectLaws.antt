@@ -12,7 +12,7 @@ use Rattle.dialogue.specs.declared.config.Config.{Config}
 use Rattle.dialogue.specs.declared.config.Phase.TheVariants.{Over}
 use Rattle.dialogue.specs.declared.indication.Indication.{Indication}
 use Rattle.end_rules.specs.Base.{Base, Spellings, Item}
-use Rattle.end_rules.specs.Messages.{Message, TransportUnit, Transport, Session, Word}
+use Rattle.end_rules.specs.Messages.{Message, TransportUnit, Transport, Session, Word, value_of_item}
 use Rattle.end_rules.specs.Messages.{AssociationWord, OfAssociation, OfData, Values, DataValue, unit_of}
 use Rattle.end_rules.specs.State.{Body, Awaited, NoAnswer, RestartOf, InterruptOf, DiscardOf}
 use Rattle.end_rules.specs.State.{ReleaseOf, is_up, is_restarting, holds_turn}
@@ -32,7 +32,6 @@ use Rattle.agreement.specs.Worlds.{Sending, World, ComesNext, state_of, flight_t
 use Rattle.agreement.specs.Laws.{HoldsTurn, IsNotRestarting}
 use Rattle.agreement.proofs.Interface.{takes, laws}
 use Rattle.end_model.specs.Seen.{Free, awaited_seen, pair_seen, set_seen, item_seen, seen}
-use Rattle.end_model.specs.Words.{value_of_item}
 use Rattle.end_model.specs.Acting.{ReadsBack}
 use Rattle.end_model.specs.BothEnds.{Common, base_at, Two, body_at, coming_to, Reached, begins, calls}
 use Rattle.end_model.specs.BothEnds.{takes as reached_takes, passes, fails, breaks, setup_of}

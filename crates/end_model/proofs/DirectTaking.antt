@@ -26,7 +26,7 @@ use Rattle.end_rules.specs.Writing.{proposals}
 use Rattle.end_rules.specs.TakesData.{alteration, settled}
 use Rattle.end_rules.specs.Reacting.{Passes, Takes, react, react_to_word, fails, on_word}
 use Rattle.end_rules.specs.Reacting.{word_fault, after_word, answers_to_word, shown_of_word}
-use Rattle.agreement.specs.Sets.{Role, other, is_initiator, Item as ModelItem, Result, Fits}
+use Rattle.agreement.specs.Sets.{Role, other, is_initiator, Item as ModelItem, Result, AnswersEach}
 use Rattle.agreement.specs.Sets.{altered as model_altered, below as model_below}
 use Rattle.agreement.specs.Sets.{newest as model_newest}
 use Rattle.agreement.specs.Sets.Role.{Initiator, Responder}
@@ -211,7 +211,7 @@ module _ (free : Free) (tables : Tables) (spellings : Spellings) (a b : Config) 
         taking = λ message means may.
             let asked : Alteration = means.0 in
             let there : MayTake setup role (seen (base role) body) (model_alter_answer (results_seen asked answers)) = subst (λ m. MayTake setup role (seen (base role) body) m) means.2 may in
-            let o = first-own (λ items. Fits items (results_seen asked answers)) body.sets.own there.fits in
+            let o = first-own (λ items. AnswersEach items (results_seen asked answers)) body.sets.own there.fits in
             let f = fits-too o.0 asked answers means.1 o.3 in
             let its : MayTake setup role (seen (base role) body) (model_alter_answer (results_seen o.0 answers)) = subst (λ rs. MayTake setup role (seen (base role) body) (model_alter_answer rs)) (sym f.same) there in
             subst (λ m. TakenAs free Direct (base role) proposed body (OfData (AlterContextAck answers)) m Nothing) (ap model_alter_answer f.same ∙ sym means.2)

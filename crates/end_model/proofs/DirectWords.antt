@@ -5,7 +5,7 @@ use Rattle.osi_base.specs.declared.layer_words.Proposal.{Proposal}
 use Rattle.dialogue.specs.declared.config.Mode.TheVariants.{Direct}
 use Rattle.dialogue.specs.declared.config.Phase.TheVariants.{Up, Releasing, Over}
 use Rattle.end_rules.specs.Base.{Base, Item}
-use Rattle.end_rules.specs.Messages.{Remote, DataValue, Word, AssociationWord, DataWord, MarkWord}
+use Rattle.end_rules.specs.Messages.{Remote, DataValue, Word, AssociationWord, DataWord, MarkWord, value_of_item}
 use Rattle.end_rules.specs.Messages.{OfAssociation, OfData, OfMarks, OfActivities, Finish}
 use Rattle.end_rules.specs.Messages.{Disconnect, Abort, Values, AlterContext, AlterContextAck, Mark}
 use Rattle.end_rules.specs.Messages.{Restart, RestartAck, Give, Please, Message, Transport, Session}
@@ -22,7 +22,7 @@ use Rattle.end_model.specs.Seen.{role_seen, awaited_seen, item_seen, items_seen}
 use Rattle.end_model.specs.Rows.{at}
 use Rattle.end_model.specs.Meant.{list_meant}
 use Rattle.end_model.specs.OpenInvocations.{IsProper, IsReadBack}
-use Rattle.end_model.specs.Words.{Means, AreMeant, results_seen, value_of_item, AreOurs}
+use Rattle.end_model.specs.Words.{Means, AreMeant, results_seen, AreOurs}
 use Rattle.end_model.specs.Requests.{sent_all}
 use Rattle.end_model.specs.Takings.{IsJoined}
 use Rattle.end_model.proofs.PurgedWords as words

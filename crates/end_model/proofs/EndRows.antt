@@ -7,7 +7,7 @@ use Rattle.dialogue.specs.declared.config.Mode.TheVariants.{Reliable}
 use Rattle.dialogue.specs.declared.indication.Indication.{Indication}
 use Rattle.end_rules.specs.Base.{Base, Item, Whole}
 use Rattle.end_rules.specs.State.{Body, Calls, is_up, highest, joined, between}
-use Rattle.end_rules.specs.Messages.{OfActivities, End}
+use Rattle.end_rules.specs.Messages.{OfActivities, End, value_of_item}
 use Rattle.end_rules.specs.Hearing.{Heard, Rejecting, hear, head_of_apdu, on_heard, take_values}
 use Rattle.end_rules.specs.Hearing.{reject_apdu}
 use Rattle.end_rules.specs.TakesActivities.{received, arrived_now, handed_up, values_arrived}
@@ -23,7 +23,6 @@ use Rattle.end_model.specs.Seen.{Free, role_seen, set_seen, item_seen, apdu_seen
 use Rattle.end_model.specs.Seen.{calls_seen, incoming_seen, seen, setup_seen}
 use Rattle.end_model.specs.Rows.{at}
 use Rattle.end_model.specs.OpenInvocations.{IsProper, IsReadBack}
-use Rattle.end_model.specs.Words.{value_of_item}
 use Rattle.end_model.specs.Acting.{IsSoundBody, TakenAs}
 use Rattle.end_model.specs.Heard.{IsExpected}
 use Rattle.end_model.specs.Takings.{EndsTaken}

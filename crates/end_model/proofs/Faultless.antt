@@ -336,7 +336,7 @@ alter_ack-fits mode a own answers free base body first h =
     let all = all-fit a answers fits in
     record {
       is_up = up-at (at mode base) body b.left;
-      fits = subst (λ os. OnFirst (λ items. sets.Fits items (results_seen a answers)) (map items_seen os)) (sym first) all.fits;
+      fits = subst (λ os. OnFirst (λ items. sets.AnswersEach items (results_seen a answers)) (map items_seen os)) (sym first) all.fits;
       is_known = all.known;
     }
 

@@ -21,7 +21,7 @@ use Rattle.end_rules.specs.Sets.{fit_alteration}
 use Rattle.end_rules.specs.Policy.{is_association, is_taken, takes_syntax, acceptance, rejection}
 use Rattle.end_rules.specs.Policy.{answer_within, answer_to_addition, counted_with}
 use Rattle.end_rules.specs.Policy.{answers_to_additions, answer_to_deletion, policy}
-use Rattle.agreement.specs.Sets.{Item, Result, Pair as ModelPair, FitsItem, Fits, IsKnown, AreKnown}
+use Rattle.agreement.specs.Sets.{Item, Result, Pair as ModelPair, AnswersItem, AnswersEach, IsKnown, AreKnown}
 use Rattle.agreement.specs.Sets.Item.{Deletion}
 use Rattle.agreement.specs.Sets.Result.{Accepted, Kept}
 use Rattle.end_model.specs.Seen.{addition_seen, items_seen}
@@ -96,7 +96,7 @@ and-right true q h = h
 and-right false q h = cc
 
 record FitsSeen (p : Proposal) (pair : Option Pair) : Type 0 where
-  fits : FitsItem (addition_seen p) (result_with pair)
+  fits : AnswersItem (addition_seen p) (result_with pair)
   known : IsKnown (λ name. is_some (syntax_named name)) (result_with pair)
 
 pub known-syntax : (syntax : Syntax) → is_some (syntax_named (name_of syntax)) ≡ true
@@ -124,13 +124,13 @@ answer-fits p result transfer reason h = go (nat_eq result 0) h
     go true h = offered-fits p transfer h
 
 pub record AllFit (items : List Item) (results : List Result) : Type 0 where
-  pub fits : Fits items results
+  pub fits : AnswersEach items results
   pub known : AreKnown (λ name. is_some (syntax_named name)) results
 
-deletion-fits : (k answer : ℕ) → FitsItem (Deletion k) (deleted_seen answer) × IsKnown (λ name. is_some (syntax_named name)) (deleted_seen answer)
+deletion-fits : (k answer : ℕ) → AnswersItem (Deletion k) (deleted_seen answer) × IsKnown (λ name. is_some (syntax_named name)) (deleted_seen answer)
 deletion-fits k answer = go (nat_eq answer 0)
   where
-    go : (b : Bool) → FitsItem (Deletion k) (if b then Accepted else Kept) × IsKnown (λ name. is_some (syntax_named name)) (if b then Accepted else Kept)
+    go : (b : Bool) → AnswersItem (Deletion k) (if b then Accepted else Kept) × IsKnown (λ name. is_some (syntax_named name)) (if b then Accepted else Kept)
     go true = (tt, tt)
     go false = (tt, tt)
 

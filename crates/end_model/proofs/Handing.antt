@@ -20,7 +20,7 @@ use Rattle.end_rules.specs.Sets.{is_deleted_in, Alteration}
 use Rattle.end_rules.specs.State.{Body, OpenCall, Calls, is_whose, is_key, opened_with, opens_of}
 use Rattle.end_rules.specs.State.{closed, close}
 use Rattle.end_rules.specs.Invoking.{next_id, is_linked_to, link_refusal, linking_refusal}
-use Rattle.end_rules.specs.Hearing.{is_silent_at, opening}
+use Rattle.end_rules.specs.Hearing.{is_silent_at, with_opened}
 use Rattle.agreement.specs.Messages as model
 use Rattle.agreement.specs.Calls.{is_link_allowed, has_room, close as model_close}
 use Rattle.end_model.specs.Seen.{Free, number_seen, opens_seen_on, calls_seen, setup_seen}
@@ -158,7 +158,7 @@ room free mode base body place operation e h =
 
 -- ---- what opens and what closes
 
-pub own-opening : (base : Base) (place context : ℕ) (id : ℤ) (linked : Option ℤ) (calls : Calls) → calls_seen (opening base (record { own = true; id = id; operation = place; context = context; parent = linked }) (record calls { made = suc calls.made })) ≡ record (calls_seen calls) { own_open = (if is_silent_at base (Some place) then (calls_seen calls).own_open else record { number = number_seen id; operation = place; context = context } ∷ (calls_seen calls).own_open); made = suc calls.made }
+pub own-opening : (base : Base) (place context : ℕ) (id : ℤ) (linked : Option ℤ) (calls : Calls) → calls_seen (with_opened base (record { own = true; id = id; operation = place; context = context; parent = linked }) (record calls { made = suc calls.made })) ≡ record (calls_seen calls) { own_open = (if is_silent_at base (Some place) then (calls_seen calls).own_open else record { number = number_seen id; operation = place; context = context } ∷ (calls_seen calls).own_open); made = suc calls.made }
 own-opening base place context id linked calls = go (is_silent_at base (Some place))
   where
     go : (b : Bool) → calls_seen (if b then record calls { made = suc calls.made } else record (record calls { made = suc calls.made }) { opens = calls.opens ++ record { own = true; id = id; operation = place; context = context; parent = linked } ∷ [] }) ≡ record (calls_seen calls) { own_open = (if b then (calls_seen calls).own_open else record { number = number_seen id; operation = place; context = context } ∷ (calls_seen calls).own_open); made = suc calls.made }

@@ -23,7 +23,7 @@ use Rattle.end_rules.specs.Sets.{is_among}
 use Rattle.end_rules.specs.Invoking.{is_linked_to, operation_of}
 use Rattle.end_rules.specs.Hearing.{Heard, Rejecting, reject_apdu, hear, head_of_apdu, carried_in}
 use Rattle.end_rules.specs.Hearing.{code_returned, value_returned, is_silent_at, has_links}
-use Rattle.end_rules.specs.Hearing.{link_problem, argument_problem, invoke_problem, opening}
+use Rattle.end_rules.specs.Hearing.{link_problem, argument_problem, invoke_problem, with_opened}
 use Rattle.end_rules.specs.Hearing.{invoked, unless_problem, rejected, result_problem}
 use Rattle.end_rules.specs.Hearing.{error_problem, first_problem, problem_if}
 use Rattle.agreement.specs.Messages as model
@@ -79,7 +79,7 @@ open-seen own n made os h =
 
 -- ---- an invocation of the peer opens
 
-pub peer-opening : (base : Base) (place context : ℕ) (id : ℤ) (linked : Option ℤ) (calls : Calls) → calls_seen (opening base (record { own = false; id = id; operation = place; context = context; parent = linked }) calls) ≡ record (calls_seen calls) { peer_open = (if is_silent_at base (Some place) then (calls_seen calls).peer_open else record { number = number_seen id; operation = place; context = context } ∷ (calls_seen calls).peer_open) }
+pub peer-opening : (base : Base) (place context : ℕ) (id : ℤ) (linked : Option ℤ) (calls : Calls) → calls_seen (with_opened base (record { own = false; id = id; operation = place; context = context; parent = linked }) calls) ≡ record (calls_seen calls) { peer_open = (if is_silent_at base (Some place) then (calls_seen calls).peer_open else record { number = number_seen id; operation = place; context = context } ∷ (calls_seen calls).peer_open) }
 peer-opening base place context id linked calls = go (is_silent_at base (Some place))
   where
     go : (b : Bool) → calls_seen (if b then calls else record calls { opens = calls.opens ++ record { own = false; id = id; operation = place; context = context; parent = linked } ∷ [] }) ≡ record (calls_seen calls) { peer_open = (if b then (calls_seen calls).peer_open else record { number = number_seen id; operation = place; context = context } ∷ (calls_seen calls).peer_open) }

@@ -5,7 +5,7 @@ use Rattle.std.specs.Ordering.{int_eq}
 use Rattle.std.proofs.lemmas.Bool.Decides.{nat_tests}
 use Rattle.end_rules.specs.State.{OpenCall, Calls, is_whose, is_key, opened_with, closed, orphaned}
 use Rattle.end_rules.specs.Base.{Base}
-use Rattle.end_rules.specs.Hearing.{is_silent_at, opening}
+use Rattle.end_rules.specs.Hearing.{is_silent_at, with_opened}
 use Rattle.end_model.specs.Seen.{number_seen}
 use Rattle.end_model.specs.OpenInvocations.{IsNumber, IsNumbered, AreNumbered, AreNumberedCalls}
 use Rattle.end_model.proofs.Held.{eq-sym}
@@ -132,7 +132,7 @@ numbered-closed made own i (o ∷ os) h = go (numbered-closed made own i os h.2)
         opened-closed own o.own i o.id os h.1 in
         rw e (numbered-root made own i o h.0, none, later)
 
-pub numbered-opening : (base : Base) (o : OpenCall) (calls : Calls) → AreNumbered calls.made calls.opens → IsNumbered calls.made o → is_some (opened_with o.own o.id calls.opens) ≡ false → AreNumberedCalls (opening base o calls)
+pub numbered-opening : (base : Base) (o : OpenCall) (calls : Calls) → AreNumbered calls.made calls.opens → IsNumbered calls.made o → is_some (opened_with o.own o.id calls.opens) ≡ false → AreNumberedCalls (with_opened base o calls)
 numbered-opening base o calls h i fresh = go (is_silent_at base (Some o.operation))
   where
     go : (b : Bool) → AreNumberedCalls (if b then calls else record calls { opens = calls.opens ++ o ∷ [] })

@@ -5,7 +5,7 @@ use Rattle.std.specs.Prelude.{Bool, not, ◌&&◌, Option, Some, None, is_some, 
 use Rattle.std.specs.Prelude.{if◌then◌else◌, nat_lt}
 use Rattle.osi_base.specs.declared.syntax.Pair.{Pair}
 use Rattle.osi_base.specs.declared.layer_words.Proposal.{Proposal}
-use Rattle.osi_base.specs.Limits.{last_activity}
+use Rattle.osi_base.specs.Limits.{last_serial}
 use Rattle.dialogue.specs.declared.config.Mode.TheVariants.{Reliable}
 use Rattle.end_rules.specs.Base.{Base}
 use Rattle.osi_base.specs.SetPlaces.{pair_of}
@@ -100,7 +100,7 @@ no-start context started false h = cc
 
 none-started : (base : Base) (body : Body) (context : ℕ) (queue : List Queued) → next_start (at Reliable base) body queue ≡ Some (EncodesOn context) → ⊥
 none-started base body context [] h = cc
-none-started base body context (item ∷ items) h = no-start context body.sending.started (is_some (carrier_in (at Reliable base) body item.context) && nat_lt body.sending.started last_activity) h
+none-started base body context (item ∷ items) h = no-start context body.sending.started (is_some (carrier_in (at Reliable base) body item.context) && nat_lt body.sending.started last_serial) h
 
 pub on-carrier : (context : ℕ) (c : Option ℕ) → encodes_on c ≡ Some (EncodesOn context) → c ≡ Some context
 on-carrier context None h = cc
@@ -183,7 +183,7 @@ starting base body activity None (item ∷ items) e q h =
     record {
       none = e;
       some = λ n. not-nil item items (sym q ∙ n);
-      next = start-next activity body.sending.started (is_some (carrier_in (at Reliable base) body item.context) && nat_lt body.sending.started last_activity) k;
+      next = start-next activity body.sending.started (is_some (carrier_in (at Reliable base) body item.context) && nat_lt body.sending.started last_serial) k;
     }
 starting base body activity (Some t) queue e q h = go (is_running t.progress) t.encoded h
   where

@@ -250,6 +250,6 @@ setup_seen free mode base =
       problem = problem_due base;
       bare_context = record { identifier = 0; pair = record { abstract_syntax = base.tables.name_oid; transfer_syntax = 2 ∷ 1 ∷ 1 ∷ [] } };
       most_marks = most_marks;
-      most_octets = most_transferred;
+      most_transferred = most_transferred;
       most_open = most_open;
     }

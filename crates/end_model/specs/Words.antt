@@ -11,7 +11,7 @@ use Rattle.end_rules.specs.Base.{Base, Item}
 use Rattle.end_rules.specs.Sets.{Alteration, pair_accepted, accepted_set, fit_alteration}
 use Rattle.end_rules.specs.Connecting.{recovers_in}
 use Rattle.end_rules.specs.TakesData.{alteration}
-use Rattle.end_rules.specs.Messages.{AssociationWord, DataWord, Message, Word, DataValue, Transport}
+use Rattle.end_rules.specs.Messages.{AssociationWord, DataWord, Message, Word, DataValue, Transport, value_of_item}
 use Rattle.end_rules.specs.Messages.{Session, OfAssociation, OfData, OfMarks, OfActivities, Connect}
 use Rattle.end_rules.specs.Messages.{Accept, Refuse, Finish, Disconnect, Abort, AbortAccept, Values}
 use Rattle.end_rules.specs.Messages.{AlterContext, AlterContextAck, Remote, Part}
@@ -101,10 +101,6 @@ AreMeant proposed base (Session word ∷ messages) [] = ⊥
 AreMeant proposed base (Session word ∷ messages) (m ∷ ms) = Means proposed base word m × AreMeant proposed base messages ms
 
 -- ---- data outside reliable mode
-
--- data with one APDU under its pair
-abbrev pub value_of_item : Item → DataValue
-value_of_item item = record { id = item.id; pair = Some item.pair; content = Remote item.apdu }
 
 abbrev pub data_word : Item → Word
 data_word item = OfData (Values (value_of_item item ∷ []))

@@ -2,7 +2,7 @@
 -- start of the next item (X.228 7.3).
 use Rattle.std.specs.Prelude.{ℕ, zero, suc, ◌-◌, ◌*◌, List, [], ◌∷◌, length, take, drop, Bool, true, false, not, ◌&&◌, nat_lt, nat_le, if◌then◌else◌, Option, Some, None, is_some}
 use Rattle.osi_base.specs.declared.syntax.Pair.{Pair}
-use Rattle.osi_base.specs.Limits.{last_activity, checkpoint_unit}
+use Rattle.osi_base.specs.Limits.{last_serial, checkpoint_unit}
 use Rattle.end_rules.specs.Base.{Base, Item, is_reliable}
 use Rattle.osi_base.specs.SetPlaces.{pair_of}
 use Rattle.end_rules.specs.Messages.{Message, Session, OfMarks, OfActivities, Mark, Start, End}
@@ -62,7 +62,7 @@ next_of_encoded base body transfer (Some encoded) = next_of body transfer encode
 abbrev pub next_start : Base → Body → List Queued → Option OwnAct
 next_start base body [] = None
 next_start base body (item ∷ items) =
-    if is_some (carrier_in base body item.context) && nat_lt body.sending.started last_activity
+    if is_some (carrier_in base body item.context) && nat_lt body.sending.started last_serial
     then Some (SendsNow (Session (OfActivities (Start (suc body.sending.started)))))
     else None
 

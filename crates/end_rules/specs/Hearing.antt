@@ -136,14 +136,14 @@ invoke_problem base calls id linked place argument =
     (operation_problem base calls place linked argument))
 
 -- an invocation is open until its outcome; a silent one is never open
-abbrev pub opening : Base → OpenCall → Calls → Calls
-opening base o calls =
+abbrev pub with_opened : Base → OpenCall → Calls → Calls
+with_opened base o calls =
     if is_silent_at base (Some o.operation) then calls else record calls { opens = calls.opens ++ o ∷ [] }
 
 abbrev pub invoked : Base → Calls → ℕ → ℤ → Option ℤ → Option ℕ → Carried → Heard
 invoked base calls context id linked None argument = rejected calls (Some id) problems.Invoke 1
 invoked base calls context id linked (Some place) argument =
-    showing (opening base (record { own = false; id = id; operation = place; context = context; parent = linked }) calls)
+    showing (with_opened base (record { own = false; id = id; operation = place; context = context; parent = linked }) calls)
     (indications.Invoked id place linked (value_in argument))
 
 abbrev pub hear_invoke : Base → Calls → ℕ → ℤ → Option ℤ → Code → Carried → Heard

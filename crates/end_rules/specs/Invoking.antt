@@ -157,3 +157,9 @@ abbrev pub can_refuse : Base → Body → ℤ → ℕ → Option Val → Reply
 can_refuse base body id error parameter =
     if is_stopped base body then Err refusals.Waiting
     else can_refuse_open base body id (opened_with false id body.calls.opens) (operation_of base (opened_with false id body.calls.opens)) error (error_at base.tables error) parameter
+
+-- a reply that memory was refused
+abbrev pub is_memory : Reply → Bool
+is_memory (Ok answer) = false
+is_memory (Err refusals.NoMemory) = true
+is_memory (Err _) = false

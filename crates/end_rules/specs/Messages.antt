@@ -1,5 +1,5 @@
 -- The messages that two ends exchange, as they are meant (X.224 13, X.225 8.3, X.226 8.4, X.227 9, X.228 9, X.880 9).
-use Rattle.std.specs.Prelude.{ℕ, List, [], Option, None}
+use Rattle.std.specs.Prelude.{ℕ, List, [], Option, None, Some}
 use Rattle.osi_base.specs.declared.syntax.Pair.{Pair}
 use Rattle.osi_base.specs.declared.layer_words.Proposal.{Proposal}
 use Rattle.osi_base.specs.declared.layer_words.Answers.{Answers}
@@ -13,6 +13,7 @@ use Rattle.osi_base.specs.declared.presentation_word.PresentationReject.{Present
 use Rattle.osi_base.specs.declared.acse_word.Acse.{Acse}
 use Rattle.osi_base.specs.declared.rtse_word.Rtse.{Rtse}
 use Rattle.stub_tables.specs.declared.apdu.Apdu.{Apdu}
+use Rattle.end_rules.specs.Base.{Item}
 
 -- ---- values
 
@@ -156,3 +157,7 @@ unit_of (OfAssociation word) = unit_of_association word
 unit_of (OfData word) = unit_of_data word
 unit_of (OfMarks word) = unit_of_marks word
 unit_of (OfActivities word) = unit_of_activities word
+
+-- an item as a value of its context
+abbrev pub value_of_item : Item → DataValue
+value_of_item item = record { id = item.id; pair = Some item.pair; content = Remote item.apdu }

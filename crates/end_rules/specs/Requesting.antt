@@ -17,7 +17,7 @@ use Rattle.end_rules.specs.Sets.{listed, next_number}
 use Rattle.end_rules.specs.Messages.{Message, Transport, Session, Word, OfAssociation, OfData, OfMarks, OfActivities, AssociationWord, Finish, DataWord, Values, AlterContext, MarkWord, Mark, Restart, Give, GiveConfirm, ActivityWord, Start, Resume, End, Interrupt, Discard, TransportUnit, ConnectionRequest, DataValue}
 use Rattle.end_rules.specs.State.{Body, Asked, RestartOf, InterruptOf, DiscardOf, ReleaseOf, OpenCall, Queued, Octets, Marked, Running, Ending, Encoded, Transfer, Sending, on_transfer, in_phase, awaiting, opened_with, close, up_to, resumed_set, pieces_of, confirmed_of, is_carrying}
 use Rattle.end_rules.specs.Invoking.{Reply, invoke_apdu, result_apdu, error_apdu, carrier_in}
-use Rattle.end_rules.specs.Hearing.{opening, data_on}
+use Rattle.end_rules.specs.Hearing.{with_opened, data_on}
 use Rattle.end_rules.specs.Writing.{finish_message, user_abort, give_message, please_message, connection_request}
 use Rattle.end_rules.specs.Faults.{over}
 use Rattle.end_rules.specs.TakesData.{parts_in, alteration}
@@ -45,7 +45,7 @@ sent_at_once Bare body (Some id) apdu = data_on body id apdu ∷ []
 abbrev pub invoking : Base → ℕ → ℕ → ℤ → Option ℤ → Body → Body
 invoking base context operation id linked body =
     record body {
-      calls = opening base (record { own = true; id = id; operation = operation; context = context; parent = linked })
+      calls = with_opened base (record { own = true; id = id; operation = operation; context = context; parent = linked })
           (record body.calls { made = suc body.calls.made });
     }
 

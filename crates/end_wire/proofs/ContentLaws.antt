@@ -70,7 +70,7 @@ module _ (tables : Tables) (syntax : Syntax) where
         ap (λ (x : Carried). apdu_of tables (ResultHead id (Some code) x)) f
         ∙ ap (λ (k : Code). Some (apdus.Result id (Some (record { code = k; value = r.value })))) e
 
-    of_result : (id : ℤ) (returned : Option Returned) (outcome : Option heads.Outcome) → ReturnedAs tables syntax (room_behind syntax (heads.result id outcome)) returned outcome
+    of_result : (id : ℤ) (returned : Option Returned) (outcome : Option heads.ReturnedOctets) → ReturnedAs tables syntax (room_behind syntax (heads.result id outcome)) returned outcome
         → apdu_of tables (heard_head tables syntax (heads.result id outcome)) ≡ Some (apdus.Result id returned)
     of_result id None None p = refl
     of_result id None (Some o) p = absurd p
@@ -116,7 +116,7 @@ module _ (tables : Tables) (syntax : Syntax) where
 
   -- ---- an APDU that is found is said
 
-  of_returned : (id : ℤ) (o : heads.Outcome) (a : Apdu) → AreOctets o.octets → (c : Carried) → heard_result tables syntax (heads.result id (Some o)) (Some o) ≡ c
+  of_returned : (id : ℤ) (o : heads.ReturnedOctets) (a : Apdu) → AreOctets o.octets → (c : Carried) → heard_result tables syntax (heads.result id (Some o)) (Some o) ≡ c
       → apdu_of tables (ResultHead id (Some o.code) c) ≡ Some a → Says tables syntax a (heads.result id (Some o))
   of_returned id o a are Absent f e = absurd cc
   of_returned id o a are Unspelled f e = absurd cc

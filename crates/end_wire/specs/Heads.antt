@@ -1,6 +1,6 @@
 -- What octets say of an APDU, as a function (X.882 9): the head that they spell, with its value read by the tables of
 -- the module; or the general problem of octets that spell none.
-use Rattle.std.specs.Prelude.{ℕ, ◌-◌, List, length, drop, Bool, true, false, nat_eq, if◌then◌else◌, Option, Some, None, option_map, Result, Ok, Err}
+use Rattle.std.specs.Prelude.{ℕ, ◌-◌, List, length, drop, Bool, true, false, nat_eq, if◌then◌else◌, Option, Some, None, option_map, Result, Ok, Err, min}
 use Rattle.osi_base.specs.declared.syntax.Syntax.{Syntax}
 use Rattle.osi_base.specs.declared.syntax.Syntax.TheVariants.{Ber, Der, Packed}
 use Rattle.osi_base.specs.Limits.{most_octets}
@@ -72,7 +72,7 @@ carried_at syntax types limit (Some use_) (Some octets) = typed_at syntax types 
 
 -- ---- what a head says
 
-abbrev pub heard_result : Tables → Syntax → heads.Head → Option heads.Outcome → Carried
+abbrev pub heard_result : Tables → Syntax → heads.Head → Option heads.ReturnedOctets → Carried
 heard_result tables syntax h None = Absent
 heard_result tables syntax h (Some o) =
     carried_at syntax tables.types (room_behind syntax h) (option_map result_of (operation_coded tables o.code)) (Some o.octets)
@@ -82,7 +82,7 @@ heard_head tables syntax (heads.invoke id linked code octets) =
     InvokeHead id linked code
     (carried_at syntax tables.types (room_behind syntax (heads.invoke id linked code octets)) (option_map argument_of (operation_coded tables code)) octets)
 heard_head tables syntax (heads.result id outcome) =
-    ResultHead id (option_map (λ (o : heads.Outcome). o.code) outcome) (heard_result tables syntax (heads.result id outcome) outcome)
+    ResultHead id (option_map (λ (o : heads.ReturnedOctets). o.code) outcome) (heard_result tables syntax (heads.result id outcome) outcome)
 heard_head tables syntax (heads.error id code octets) =
     ErrorHead id code
     (carried_at syntax tables.types (room_behind syntax (heads.error id code octets)) (option_map parameter_of (error_coded tables code)) octets)
@@ -122,3 +122,9 @@ apdu_of tables (ResultHead id (Some code) _) = None
 apdu_of tables (ErrorHead id code carried) =
     option_map (λ (v : Option Val). apdus.Error id code v) (value_or_lack (option_map parameter_of (error_coded tables code)) carried)
 apdu_of tables (RejectHead id problem) = Some (apdus.Reject id problem)
+
+-- an APDU has at most 262,144 octets, in the packed syntax with those before its value
+abbrev pub room_in : Syntax → ℕ → ℕ
+room_in Ber room = most_octets
+room_in Der room = most_octets
+room_in Packed room = min room most_octets

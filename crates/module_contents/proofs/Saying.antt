@@ -17,9 +17,9 @@ use Rattle.end_wire.specs.apdu_codec.declared.fault.HeadFault.TheVariants as fau
 use Rattle.end_wire.specs.apdu_codec.Refusals.{refusal_of}
 use Rattle.end_wire.specs.apdu_codec.HeadsRead.{HasFields, HasNone, IsRefused}
 use Rattle.end_rules.specs.Base.{Carried, Absent, Spelled, Unspelled, ResultHead}
-use Rattle.end_wire.specs.Heads.{carried_at, value_or_lack, heard_head, heard_or_refused, refused, head_at, apdu_of}
+use Rattle.end_wire.specs.Heads.{carried_at, value_or_lack, heard_head, heard_or_refused, refused, head_at, apdu_of, room_in}
 use Rattle.end_wire.proofs.HeadLaws.{head_read, no_head}
-use Rattle.module_contents.specs.Said.{room_in, value_needed, apdu_by, returned_by}
+use Rattle.module_contents.specs.Said.{value_needed, apdu_by, returned_by}
 
 same_room : (s : Syntax) (h : heads.Head) → room_in s (room_behind s h) ≡ room_behind s h
 same_room Ber h = refl

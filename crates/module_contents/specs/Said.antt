@@ -1,9 +1,7 @@
 -- The APDU that the fields of a head say, with the value that its octets carry. No public clause cites this module.
-use Rattle.std.specs.Prelude.{ℕ, min, ℤ, Option, Some, None, option_map}
+use Rattle.std.specs.Prelude.{ℤ, Option, Some, None, option_map}
 use Rattle.osi_base.specs.declared.syntax.Syntax.{Syntax}
-use Rattle.osi_base.specs.declared.syntax.Syntax.TheVariants.{Ber, Der, Packed}
 use Rattle.osi_base.specs.declared.layer_words.Problem.{Problem}
-use Rattle.osi_base.specs.Limits.{most_octets}
 use Rattle.asn1_types.specs.declared.value.Val.{Val}
 use Rattle.asn1_types.specs.declared.table.TypeTable.{TypeTable}
 use Rattle.stub_tables.specs.declared.tables.Tables.{Tables}
@@ -16,18 +14,12 @@ use Rattle.apdu_spelling.specs.declared.head.ApduHead.{ApduHead}
 use Rattle.apdu_spelling.specs.declared.head.ApduKind.{ApduKind}
 use Rattle.apdu_spelling.specs.declared.head.ApduKind.TheVariants.{Invoke, Result, Error, Reject}
 use Rattle.end_rules.specs.Base.{Carried, Absent, Spelled, Unspelled}
-use Rattle.end_wire.specs.Heads.{carried_at, value_or_lack}
+use Rattle.end_wire.specs.Heads.{carried_at, value_or_lack, room_in}
 use Rattle.module_contents.specs.declared.contents.Found.{Found}
 
 -- the APDU that was read
 abbrev pub apdu_in : Found → Apdu
 apdu_in found = found.apdu
-
--- an APDU has at most 262,144 octets, in the packed syntax with those before its value
-abbrev pub room_in : Syntax → ℕ → ℕ
-room_in Ber room = most_octets
-room_in Der room = most_octets
-room_in Packed room = min room most_octets
 
 abbrev pub spelled_or : Option Val → Carried
 spelled_or None = Unspelled

@@ -5,8 +5,8 @@ ghost use Rattle.std.specs.Prelude.{◌≡◌, ◌<◌, length, IfOk, true, fals
 ghost use Rattle.std.specs.Option.{option_copied};
 ghost use Rattle.osi_base.specs.declared.syntax.Syntax.TheVariants as syntaxes;
 ghost use Rattle.osi_base.specs.Limits.{most_octets};
-ghost use Rattle.end_wire.specs.Heads.{value_at, typed_at, carried_at, value_or_lack};
-ghost use Rattle.module_contents.specs.Said.{room_in, spelled_or, value_needed};
+ghost use Rattle.end_wire.specs.Heads.{value_at, typed_at, carried_at, value_or_lack, room_in};
+ghost use Rattle.module_contents.specs.Said.{spelled_or, value_needed};
 
 use asn1_types::{TypeId, TypeTable, Val};
 use ber_reading::{ReadFault, ber_read, der_read};

@@ -19,7 +19,7 @@ use Rattle.notation_tokens.specs.declared.faults.NotationFault.TheVariants as fa
 use Rattle.notation_tokens.specs.declared.faults.NotationKind.{NotationKind}
 use Rattle.notation_tokens.specs.declared.faults.NotationKind.TheVariants.{BadCharacter, TextTooLong, TooManyTokens}
 use Rattle.notation_tokens.specs.Tokens.{Gap, outside, behind_all}
-use Rattle.notation_tokens.specs.Stops.{AreTokensTo, BeginsToken, BeginsNothing, StopsFor, Stops, IsLong, IsCuttingFault}
+use Rattle.notation_tokens.specs.Stops.{AreTokensTo, BeginsToken, BeginsNothing, StopsFor, Stops, IsTextTooLong, IsCuttingFault}
 use Rattle.notation_tokens.proofs.Gaps.{Fit, Passes, begins_outside, Passed_since, nothing_passed, more_passed}
 use Rattle.notation_tokens.proofs.Longest.{Longest, piece_longest, Stands, moves, slice_is, word_longest, number_longest, sign_longest, chosen_by}
 
@@ -163,7 +163,7 @@ module _ (text : List ℕ) (line column : ℕ) (kind : NotationKind) where
   stop_is fits None is e = absurd cc
   stop_is fits (Some j) is e = stops_of fits j is e
 
-  long_is : most_module_octets < length text → refused (faults.At 1 1 TextTooLong) ≡ refused (faults.At line column kind) → IsLong text line column kind
+  long_is : most_module_octets < length text → refused (faults.At 1 1 TextTooLong) ≡ refused (faults.At line column kind) → IsTextTooLong text line column kind
   long_is long e = record { long = long; at_line = cc; at_column = cc; is = cc }
 
   pub cutting_fault : tokens_of text ≡ refused (faults.At line column kind) → IsCuttingFault text (faults.At line column kind)

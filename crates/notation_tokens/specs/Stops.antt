@@ -46,7 +46,7 @@ pub record Stops (text : List ℕ) (line column : ℕ) (kind : NotationKind) : T
   pub what : StopsFor kind most_tokens (length tokens) (drop at text)
 
 -- more octets than a text may have
-pub record IsLong (text : List ℕ) (line column : ℕ) (kind : NotationKind) : Type 0 where
+pub record IsTextTooLong (text : List ℕ) (line column : ℕ) (kind : NotationKind) : Type 0 where
   pub long : most_module_octets < length text
   pub at_line : line ≡ 1
   pub at_column : column ≡ 1
@@ -55,4 +55,4 @@ pub record IsLong (text : List ℕ) (line column : ℕ) (kind : NotationKind) : 
 -- why a text has no tokens
 abbrev pub IsCuttingFault : List ℕ → NotationFault → Type 0
 IsCuttingFault text faults.NoMemory = Unit {0}
-IsCuttingFault text (faults.At line column kind) = IsLong text line column kind ⊎ Stops text line column kind
+IsCuttingFault text (faults.At line column kind) = IsTextTooLong text line column kind ⊎ Stops text line column kind

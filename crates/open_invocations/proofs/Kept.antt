@@ -235,7 +235,7 @@ calls_heard c taken.BadReject = refl
 calls_heard c (taken.Reject id problem) = refl
 
 -- an invocation of the peer was admitted
-pub admitted_quiet : (base : Base) (c new : Calls) (id : ℤ) (place at : ℕ) (linked : Option ℤ) → new ≡ rules.opening base (record { own = false; id = id; operation = place; context = at; parent = linked }) c → Quiet c new
+pub admitted_quiet : (base : Base) (c new : Calls) (id : ℤ) (place at : ℕ) (linked : Option ℤ) → new ≡ rules.with_opened base (record { own = false; id = id; operation = place; context = at; parent = linked }) c → Quiet c new
 admitted_quiet base c new id place at linked e = subst (Quiet c) (sym e) (opened base c at id place at linked (rules.is_silent_at base (Some place)))
 
 -- some base with these tables
@@ -293,7 +293,7 @@ module _ (es fs : List Entry) (i j : Invoking) (p : Kept) (operation context : �
 
 module _ (tables : Tables) (es fs : List Entry) (i : Invoking) (p q : Performing) (id : ℤ) (place at : ℕ) (linked : Option ℤ) where
   pub admitted_kept : AreKept es i p.kept → AreOpen true fs i.kept → AreOpen false fs q.kept → (r : Result (Unit {0}) NoMemory)
-      → OnOk r ((base : Base) (own : Invoking) → base.tables ≡ tables → calls_of fs own q.kept ≡ rules.opening base (record { own = false; id = id; operation = place; context = at; parent = linked }) (calls_of es own p.kept))
+      → OnOk r ((base : Base) (own : Invoking) → base.tables ≡ tables → calls_of fs own q.kept ≡ rules.with_opened base (record { own = false; id = id; operation = place; context = at; parent = linked }) (calls_of es own p.kept))
       → OnErr r ((q ≡ p) × (fs ≡ es)) → AreKept fs i q.kept
   admitted_kept h own peer (Ok u) opened_so none =
       quiet_kept es fs i i p.kept q.kept h own peer

@@ -5,7 +5,7 @@ ghost use Rattle.osi_base.specs.Limits.{last_invocation, most_open};
 ghost use Rattle.rose_roles.specs.Hearing.{Hears};
 ghost use Rattle.rose_roles.specs.end_rules.State.{opened_with, opens_of, close};
 ghost use Rattle.rose_roles.specs.end_rules.Base.{Base};
-ghost use Rattle.rose_roles.specs.end_rules.Hearing.{opening};
+ghost use Rattle.rose_roles.specs.end_rules.Hearing.{with_opened};
 ghost use Rattle.open_invocations.specs.Invocations.{is_link, is_link_back, called_in, operation_in, SomeCarried};
 
 use crate::listing::{called_at, open_calls_in};
@@ -169,7 +169,7 @@ impl Invocations {
         requires shut { opened_with false id.now self.old.opens ≡ None }
         requires linked { is_link_back linked self.old.opens ≡ true }
         ensures admitted { OnOk result ((base : Base) → base.tables ≡ tables.now →
-            self.new ≡ opening base (record {
+            self.new ≡ with_opened base (record {
               own = false;
               id = id.now;
               operation = called.operation;

@@ -5,6 +5,7 @@ use Rattle.std.specs.List.{AllByRecursion}
 use Rattle.std.proofs.lemmas.Bool.{ltb-true, ltb-false}
 use Rattle.std.proofs.lemmas.List.{append_cancel_right}
 use Rattle.osi_base.specs.Limits.{most_module_octets}
+use Rattle.notation_tokens.specs.Stops.{IsTextTooLong}
 use Rattle.notation_tokens.specs.Lexeme.{Lexeme, lexemes}
 use Rattle.notation_tokens.specs.Words.{is_unsupported}
 use Rattle.notation_tokens.specs.Forms.{has_form}
@@ -17,7 +18,7 @@ use Rattle.operation_notation.specs.GrammarTypes.{Extent, narrow, marked, wide, 
 use Rattle.operation_notation.specs.GrammarModules.{Module}
 use Rattle.notation_tokens.specs.Texts.{Answers, unless_stopped, too_long}
 use Rattle.operation_notation.specs.Modules.{ReadsAsModule, module_of, verdict, refused}
-use Rattle.operation_notation.specs.Faults.{IsFormed, Begins, IsUnsupported, IsKind, TooLong, TokenFault, EndFault, IsFirstFault}
+use Rattle.operation_notation.specs.Faults.{IsFormed, Begins, IsUnsupported, IsKind, TokenFault, EndFault, IsFirstFault}
 use Rattle.notation_tokens.specs.declared.faults.NotationFault.{NotationFault}
 use Rattle.notation_tokens.specs.declared.faults.NotationFault.TheVariants as faults
 use Rattle.notation_tokens.specs.declared.faults.NotationKind.{NotationKind}
@@ -169,7 +170,7 @@ verdict_fault : (text : List ℕ) → length text ≤ most_module_octets → Unr
 verdict_fault text fits unread (Ok x) is l c k e = inr (stopped_fault text fits unread (whole_begins (tokens text) x.0 x.1 is) x.0 (lexed_of text).stop refl l c k e)
 verdict_fault text fits unread (Err d) is l c k e = refused_fault text fits unread d.rest d.kind is l c k e
 
-long_fault : (text : List ℕ) → most_module_octets < length text → (l c : ℕ) (k : NotationKind) → answered (faults.At 1 1 TextTooLong) ≡ answered (faults.At l c k) → TooLong text l c k
+long_fault : (text : List ℕ) → most_module_octets < length text → (l c : ℕ) (k : NotationKind) → answered (faults.At 1 1 TextTooLong) ≡ answered (faults.At l c k) → IsTextTooLong text l c k
 long_fault text long l c k e = let q = same_at 1 1 TextTooLong l c k e in record { long = long; at_line = sym q.line; at_column = sym q.column; is = sym q.kind }
 
 not_read : (text : List ℕ) (m : ModuleText) (l c : ℕ) (k : NotationKind) → module_of text ≡ answered (faults.At l c k) → ReadsAsModule text m → ⊥

@@ -2,6 +2,7 @@
 use Rattle.std.specs.Prelude.{◌≡◌, ◌<◌, ◌≤◌, ◌⊎◌, ℕ, true, false, List, [], ◌∷◌, ◌++◌, length, unwrap_or}
 use Rattle.std.specs.List.{AllByRecursion}
 use Rattle.osi_base.specs.Limits.{most_module_octets}
+use Rattle.notation_tokens.specs.Stops.{IsTextTooLong}
 use Rattle.notation_tokens.specs.Forms.{has_form}
 use Rattle.notation_tokens.specs.Lexeme.{Lexeme, lexemes}
 use Rattle.notation_tokens.specs.Lexing.{lexed_of}
@@ -34,13 +35,6 @@ IsUnsupported front token behind = (kind_at (token ∷ behind) ≡ Unsupported) 
 abbrev pub IsKind : List Lexeme → Lexeme → List Lexeme → NotationKind → Type 0
 IsKind front token behind kind = ((kind ≡ Unsupported) × IsUnsupported front token behind) ⊎ ((kind ≡ UnexpectedToken) × (IsUnsupported front token behind → ⊥))
 
--- more octets than a text may have
-pub record TooLong (text : List ℕ) (line column : ℕ) (kind : NotationKind) : Type 0 where
-  pub long : most_module_octets < length text
-  pub at_line : line ≡ 1
-  pub at_column : column ≡ 1
-  pub is : kind ≡ TextTooLong
-
 -- The first token that can't stand where it stands. What stands before it begins a module, and no module begins with it too, whatever
 -- follows.
 pub record TokenFault (text : List ℕ) (line column : ℕ) (kind : NotationKind) : Type 0 where
@@ -68,7 +62,7 @@ pub record EndFault (text : List ℕ) (line column : ℕ) (kind : NotationKind) 
 -- the text's first fault
 abbrev pub IsFirstFault : List ℕ → NotationFault → Type 0
 IsFirstFault text faults.NoMemory = Unit {0}
-IsFirstFault text (faults.At line column kind) = TooLong text line column kind ⊎ (TokenFault text line column kind ⊎ EndFault text line column kind)
+IsFirstFault text (faults.At line column kind) = IsTextTooLong text line column kind ⊎ (TokenFault text line column kind ⊎ EndFault text line column kind)
 
 -- a text with a first fault
 pub record Faulty (text : List ℕ) : Type 0 where

@@ -136,8 +136,8 @@ abbrev pub most_connect_data : ℕ
 most_connect_data = 10240
 
 -- the last number of an activity: six digits, as X.225 is used here
-abbrev pub last_activity : ℕ
-last_activity = 999999
+abbrev pub last_serial : ℕ
+last_serial = 999999
 
 -- marks that are kept (this project's own)
 abbrev pub most_marks : ℕ

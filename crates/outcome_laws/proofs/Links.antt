@@ -28,7 +28,7 @@ use Rattle.end_model.specs.BothEnds.{Common, base_at, Two}
 use Rattle.reliable_model.specs.Ledgers.{Ledger}
 use Rattle.outcome_laws.specs.Exchanges.{Asked, asked_by, still_after, Exchanges, exchange_of, ReachedWithExchanges, begins, calls as asks, acts, takes, passes, fails as aborts_of_itself, breaks}
 use Rattle.outcome_laws.specs.Outcomes.{IsIn}
-use Rattle.outcome_laws.specs.Links.{Link, link_in, links_in, Fits, AllFit, LinksAreAllowed}
+use Rattle.outcome_laws.specs.Links.{Link, link_in, links_in, IsAllowedLink, AreAllowedLinks, LinksAreAllowed}
 use Rattle.outcome_laws.proofs.Shown.{in-later, notes_in, links-append, unnoted-links}
 use Rattle.outcome_laws.proofs.Open.{asked_in, Once, Found, found}
 use Rattle.outcome_laws.proofs.Hearing.{no-first, rest-none, with-reject, head-once}
@@ -38,25 +38,25 @@ use Rattle.outcome_laws.proofs.Transferred.{shown_of, shows-so}
 
 -- ---- links
 
-fit-append : (tables : Tables) (asked : List Asked) (xs ys : List Link) → AllFit tables asked xs → AllFit tables asked ys → AllFit tables asked (xs ++ ys)
+fit-append : (tables : Tables) (asked : List Asked) (xs ys : List Link) → AreAllowedLinks tables asked xs → AreAllowedLinks tables asked ys → AreAllowedLinks tables asked (xs ++ ys)
 fit-append tables asked [] ys h k = k
 fit-append tables asked (x ∷ xs) ys h k = (h.0, fit-append tables asked xs ys h.1 k)
 
-fit-on : (tables : Tables) (asked more : List Asked) (links : List Link) → AllFit tables asked links → AllFit tables (more ++ asked) links
+fit-on : (tables : Tables) (asked more : List Asked) (links : List Link) → AreAllowedLinks tables asked links → AreAllowedLinks tables (more ++ asked) links
 fit-on tables asked more [] h = tt
 fit-on tables asked more (link ∷ links) h =
     (record { invocation = h.0.invocation; is_own = in-later more asked h.0.invocation h.0.is_own; is_named = h.0.is_named; may_link = h.0.may_link }, fit-on tables asked more links h.1)
 
-fit-quiet : (tables : Tables) (asked : List Asked) (shown : List Indication) → notes_in shown ≡ [] → AllFit tables asked (links_in shown)
-fit-quiet tables asked shown e = subst (AllFit tables asked) (sym (unnoted-links shown e)) tt
+fit-quiet : (tables : Tables) (asked : List Asked) (shown : List Indication) → notes_in shown ≡ [] → AreAllowedLinks tables asked (links_in shown)
+fit-quiet tables asked shown e = subst (AreAllowedLinks tables asked) (sym (unnoted-links shown e)) tt
 
-fit-both : (tables : Tables) (asked : List Asked) (first second : List Indication) → AllFit tables asked (links_in first) → AllFit tables asked (links_in second) → AllFit tables asked (links_in (first ++ second))
-fit-both tables asked first second h k = subst (AllFit tables asked) (sym (links-append first second)) (fit-append tables asked (links_in first) (links_in second) h k)
+fit-both : (tables : Tables) (asked : List Asked) (first second : List Indication) → AreAllowedLinks tables asked (links_in first) → AreAllowedLinks tables asked (links_in second) → AreAllowedLinks tables asked (links_in (first ++ second))
+fit-both tables asked first second h k = subst (AreAllowedLinks tables asked) (sym (links-append first second)) (fit-append tables asked (links_in first) (links_in second) h k)
 
 -- ---- an APDU
 
 abbrev Links : Base → List Asked → Heard → Type 0
-Links base asked heard = AllFit base.tables asked (links_in heard.shown)
+Links base asked heard = AreAllowedLinks base.tables asked (links_in heard.shown)
 
 unless : (base : Base) (asked : List Asked) (o : Option ℕ) (refused : ℕ → Heard) (heard : Heard) → ((n : ℕ) → Links base asked (refused n)) → (o ≡ None → Links base asked heard) → Links base asked (unless_problem o refused heard)
 unless base asked None refused heard f h = h refl
@@ -70,7 +70,7 @@ last-none : (b : Bool) (n : ℕ) → problem_if (not b) n ≡ None → b ≡ tru
 last-none true n h = refl
 last-none false n h = cc
 
-link-of : (base : Base) (asked : List Asked) (calls : Calls) (shown : List Indication) (place : ℕ) (linked : ℤ) (o : Option OpenCall) → Once base.tables asked calls shown → opened_with true linked calls.opens ≡ o → is_linked_to (operation_of base o) place ≡ true → Fits base.tables asked (record { linked = linked; place = place })
+link-of : (base : Base) (asked : List Asked) (calls : Calls) (shown : List Indication) (place : ℕ) (linked : ℤ) (o : Option OpenCall) → Once base.tables asked calls shown → opened_with true linked calls.opens ≡ o → is_linked_to (operation_of base o) place ≡ true → IsAllowedLink base.tables asked (record { linked = linked; place = place })
 link-of base asked calls shown place linked None h e k = cc
 link-of base asked calls shown place linked (Some o) h e k =
     let f : Found asked calls.made linked o = found asked calls.made linked calls.opens o h.own e in
@@ -134,7 +134,7 @@ heard-links base asked calls shown context (RejectHead id problem) h = reject-li
 
 -- ---- values and words
 
-values-links : (base : Base) (asked : List Asked) (body : Body) (values : List DataValue) (before : List Indication) → Once base.tables asked body.calls before → AllFit base.tables asked (links_in (take_values base body values).shown)
+values-links : (base : Base) (asked : List Asked) (body : Body) (values : List DataValue) (before : List Indication) → Once base.tables asked body.calls before → AreAllowedLinks base.tables asked (links_in (take_values base body values).shown)
 values-links base asked body [] before h = tt
 values-links base asked body (value ∷ values) before h =
     let heard = hear base body.calls value.id (head_of base value) in
@@ -145,19 +145,19 @@ values-links base asked body (value ∷ values) before h =
     (fit-quiet base.tables asked with_it.shown (with-reject base (record body { calls = heard.calls }) value.id heard.reject).1))
     (values-links base asked first.body values (before ++ first.shown) (head-once base body value asked before h))
 
-taken-values-links : (base : Base) (asked : List Asked) (body : Body) (values : List DataValue) (before : List Indication) → Once base.tables asked body.calls before → AllFit base.tables asked (links_in (values_taken base body values).shown)
+taken-values-links : (base : Base) (asked : List Asked) (body : Body) (values : List DataValue) (before : List Indication) → Once base.tables asked body.calls before → AreAllowedLinks base.tables asked (links_in (values_taken base body values).shown)
 taken-values-links base asked body values before h = go (is_reliable base.mode) refl
   where
-    go : (b : Bool) → is_reliable base.mode ≡ b → AllFit base.tables asked (links_in (values_taken base body values).shown)
+    go : (b : Bool) → is_reliable base.mode ≡ b → AreAllowedLinks base.tables asked (links_in (values_taken base body values).shown)
     go true e = rw e tt
     go false e = rw e (values-links base asked body values before h)
 
-data-links : (base : Base) (asked : List Asked) (body : Body) (word : DataWord) (before : List Indication) → Once base.tables asked body.calls before → AllFit base.tables asked (links_in (shown_of_data base body word))
+data-links : (base : Base) (asked : List Asked) (body : Body) (word : DataWord) (before : List Indication) → Once base.tables asked body.calls before → AreAllowedLinks base.tables asked (links_in (shown_of_data base body word))
 data-links base asked body (Values values) before h = taken-values-links base asked body values before h
 data-links base asked body (AlterContext add delete) before h = tt
 data-links base asked body (AlterContextAck answers) before h = fit-quiet base.tables asked (shown_of_data base body (AlterContextAck answers)) (settled-none body.sets.own answers)
 
-activity-links : (base : Base) (asked : List Asked) (body : Body) (word : ActivityWord) (before : List Indication) → Once base.tables asked body.calls before → AllFit base.tables asked (links_in (shown_of_activity base body word))
+activity-links : (base : Base) (asked : List Asked) (body : Body) (word : ActivityWord) (before : List Indication) → Once base.tables asked body.calls before → AreAllowedLinks base.tables asked (links_in (shown_of_activity base body word))
 activity-links base asked body (Start activity) before h = tt
 activity-links base asked body (Resume activity mark) before h = tt
 activity-links base asked body (End number) before h = values-links base asked (received (λ r. record r { was_handed = true; active = false }) body) (handed_up base body) before h
@@ -167,7 +167,7 @@ activity-links base asked body InterruptAck before h = fit-quiet base.tables ask
 activity-links base asked body (Discard reason) before h = tt
 activity-links base asked body DiscardAck before h = fit-quiet base.tables asked (shown_of_activity base body DiscardAck) (discard-none body)
 
-message-links : (base : Base) (asked : List Asked) (body : Body) (message : Message) (before : List Indication) → Once base.tables asked body.calls before → AllFit base.tables asked (links_in (shown_of base body message))
+message-links : (base : Base) (asked : List Asked) (body : Body) (message : Message) (before : List Indication) → Once base.tables asked body.calls before → AreAllowedLinks base.tables asked (links_in (shown_of base body message))
 message-links base asked body (Transport unit) before h = fit-quiet base.tables asked (shown_of_transport unit) (transport-none unit)
 message-links base asked body (Session (OfAssociation word)) before h = fit-quiet base.tables asked (shown_of_association base body word) (association-none base body word)
 message-links base asked body (Session (OfData word)) before h = data-links base asked body word before h
@@ -177,13 +177,13 @@ message-links base asked body (Session (OfActivities word)) before h = activity-
 -- ---- two ends
 
 -- where the association begins anew, nothing of it was shown before, and the opening shows no invocation
-taken-links : (base : Base) (asked : List Asked) (body : Body) (message : Message) (later : Body) (answers : List Message) (before shown : List Indication) → react base body message ≡ Takes later answers shown → Once base.tables asked body.calls before → AllFit base.tables asked (links_in before) → AllFit base.tables (still_after base body message asked) (links_in (still_after base body message before ++ shown))
+taken-links : (base : Base) (asked : List Asked) (body : Body) (message : Message) (later : Body) (answers : List Message) (before shown : List Indication) → react base body message ≡ Takes later answers shown → Once base.tables asked body.calls before → AreAllowedLinks base.tables asked (links_in before) → AreAllowedLinks base.tables (still_after base body message asked) (links_in (still_after base body message before ++ shown))
 taken-links base asked body message later answers before shown h o k =
-    subst (λ (xs : List Asked). AllFit base.tables xs (links_in (still_after base body message before ++ shown))) (sym (still-keeps base body message asked))
-    (subst (λ (xs : List Indication). AllFit base.tables (if keeps base body message then asked else []) (links_in (xs ++ shown))) (sym (still-keeps base body message before)) (go (keeps base body message) refl))
+    subst (λ (xs : List Asked). AreAllowedLinks base.tables xs (links_in (still_after base body message before ++ shown))) (sym (still-keeps base body message asked))
+    (subst (λ (xs : List Indication). AreAllowedLinks base.tables (if keeps base body message then asked else []) (links_in (xs ++ shown))) (sym (still-keeps base body message before)) (go (keeps base body message) refl))
   where
-    of_message : AllFit base.tables asked (links_in shown)
-    of_message = subst (λ (xs : List Indication). AllFit base.tables asked (links_in xs)) (sym (shows-so base body message later answers shown h)) (message-links base asked body message before o)
+    of_message : AreAllowedLinks base.tables asked (links_in shown)
+    of_message = subst (λ (xs : List Indication). AreAllowedLinks base.tables asked (links_in xs)) (sym (shows-so base body message later answers shown h)) (message-links base asked body message before o)
 
     anew : (m : Message) → m ≡ message → keeps base body m ≡ false → links_in shown ≡ []
     anew (Session (OfAssociation word)) e f =
@@ -193,11 +193,11 @@ taken-links base asked body message later answers before shown h o k =
     anew (Session (OfMarks word)) e f = cc
     anew (Session (OfActivities word)) e f = cc
 
-    go : (b : Bool) → keeps base body message ≡ b → AllFit base.tables (if b then asked else []) (links_in ((if b then before else []) ++ shown))
+    go : (b : Bool) → keeps base body message ≡ b → AreAllowedLinks base.tables (if b then asked else []) (links_in ((if b then before else []) ++ shown))
     go true e = fit-both base.tables asked before shown k of_message
-    go false e = subst (AllFit base.tables []) (sym (anew message refl e)) tt
+    go false e = subst (AreAllowedLinks base.tables []) (sym (anew message refl e)) tt
 
-links : (common : Common) (two : Two) (ledger : Ledger) (exchanges : Exchanges) → ReachedWithExchanges common two ledger exchanges → (role : Role) → AllFit common.tables (exchange_of role exchanges).asked (links_in (exchange_of role exchanges).shown)
+links : (common : Common) (two : Two) (ledger : Ledger) (exchanges : Exchanges) → ReachedWithExchanges common two ledger exchanges → (role : Role) → AreAllowedLinks common.tables (exchange_of role exchanges).asked (links_in (exchange_of role exchanges).shown)
 links common two ledger exchanges begins Initiator = tt
 links common two ledger exchanges begins Responder = tt
 links common two ledger exchanges (asks x l d Initiator call answer reached h) Initiator = fit-on common.tables d.a.asked (asked_by call answer) (links_in d.a.shown) (links common x l d reached Initiator)

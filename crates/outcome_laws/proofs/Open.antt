@@ -11,7 +11,7 @@ use Rattle.stub_tables.specs.Lookup.{operation_at}
 use Rattle.dialogue.specs.declared.indication.Indication.{Indication}
 use Rattle.end_model.specs.end_rules.Base.{Base}
 use Rattle.end_model.specs.end_rules.State.{OpenCall, Calls, is_key, opened_with, closed, close, orphaned}
-use Rattle.end_model.specs.end_rules.Hearing.{is_silent_at, opening}
+use Rattle.end_model.specs.end_rules.Hearing.{is_silent_at, with_opened}
 use Rattle.end_model.proofs.Numbered.{opened-snoc, opened-closed, same-own, same-id, same-key, or-first, or-second, or-none}
 use Rattle.outcome_laws.specs.Exchanges.{AreDistinct, Asked, outcome_in, outcomes_in}
 use Rattle.outcome_laws.specs.Outcomes.{IsIn, IfOutcome, allows, Allowed, AreAllowed}
@@ -219,7 +219,7 @@ module _ (tables : Tables) where
       not-own : o.own ≡ false → o.own ≡ true → (is_made calls.made o.id ≡ true) × IsIn (asked_in o) asked
       not-own e w = cc
 
-  pub once-peer : (base : Base) (o : OpenCall) (asked : List Asked) (calls : Calls) (shown : List Indication) → o.own ≡ false → Once tables asked calls shown → Once tables asked (opening base o calls) shown
+  pub once-peer : (base : Base) (o : OpenCall) (asked : List Asked) (calls : Calls) (shown : List Indication) → o.own ≡ false → Once tables asked calls shown → Once tables asked (with_opened base o calls) shown
   once-peer base o asked calls shown e h = go (is_silent_at base (Some o.operation))
     where
       go : (b : Bool) → Once tables asked (if b then calls else record calls { opens = calls.opens ++ o ∷ [] }) shown
@@ -249,7 +249,7 @@ module _ (tables : Tables) where
         allowed = h.allowed;
       }
 
-  pub once-own : (base : Base) (o : OpenCall) (asked : List Asked) (calls : Calls) (shown : List Indication) → o.own ≡ true → o.id ≡ pos (suc calls.made) → Once tables asked calls shown → Once tables (asked_in o ∷ asked) (opening base o (record calls { made = suc calls.made })) shown
+  pub once-own : (base : Base) (o : OpenCall) (asked : List Asked) (calls : Calls) (shown : List Indication) → o.own ≡ true → o.id ≡ pos (suc calls.made) → Once tables asked calls shown → Once tables (asked_in o ∷ asked) (with_opened base o (record calls { made = suc calls.made })) shown
   once-own base o asked calls shown w e h = go (is_silent_at base (Some o.operation))
     where
       later : Once tables (asked_in o ∷ asked) (record calls { made = suc calls.made }) shown

@@ -22,16 +22,16 @@ abbrev pub links_in : List Indication → List Link
 links_in [] = []
 links_in (indication ∷ shown) = link_in indication ++ links_in shown
 
-pub record Fits (tables : Tables) (asked : List Asked) (link : Link) : Type 0 where
+pub record IsAllowedLink (tables : Tables) (asked : List Asked) (link : Link) : Type 0 where
   pub invocation : Asked
   pub is_own : IsIn invocation asked
   pub is_named : invocation.id ≡ link.linked
   pub may_link : is_linked_to (operation_at tables invocation.operation) link.place ≡ true
 
-abbrev pub AllFit : Tables → List Asked → List Link → Type 0
-AllFit tables asked [] = Unit {0}
-AllFit tables asked (link ∷ links) = Fits tables asked link × AllFit tables asked links
+abbrev pub AreAllowedLinks : Tables → List Asked → List Link → Type 0
+AreAllowedLinks tables asked [] = Unit {0}
+AreAllowedLinks tables asked (link ∷ links) = IsAllowedLink tables asked link × AreAllowedLinks tables asked links
 
 abbrev pub LinksAreAllowed : Type 0
 LinksAreAllowed =
-    EverExchanges (λ tables two ledger exchanges. (role : Role) → AllFit tables (exchange_of role exchanges).asked (links_in (exchange_of role exchanges).shown))
+    EverExchanges (λ tables two ledger exchanges. (role : Role) → AreAllowedLinks tables (exchange_of role exchanges).asked (links_in (exchange_of role exchanges).shown))

@@ -9,11 +9,12 @@ use Rattle.asn1_types.specs.declared.row.TextKind.{TextKind}
 use Rattle.asn1_types.specs.Defaults.{is_item}
 use Rattle.asn1_types.specs.Fits.{is_number, has_32_bits, is_octet, is_text, integer_fits, enumerated_fits, octets_fit, text_fits, object_id_fits}
 use Rattle.asn1_types.specs.Value.{Value, boolean, integer, null, octets, bits, object_id, text, parts, list, chosen, any}
+use Rattle.ber_spelling.specs.Rules.{in_range}
 use Rattle.ber_spelling.specs.Octets.{AreOctets}
 use Rattle.ber_spelling.specs.Primitives.{integer_of}
 use Rattle.packed_codec.specs.Numbers.{is_size, integer_octets}
 use Rattle.packed_codec.specs.ObjectIds.{arcs_of, arcs_octets}
-use Rattle.packed_codec.specs.Rules.{checked, in_range, number_rule, any_size, at_most, octets_rule, text_rule, object_id_rule}
+use Rattle.packed_codec.specs.Rules.{checked, number_rule, any_size, at_most, octets_rule, text_rule, object_id_rule}
 use Rattle.packed_codec.specs.Writing.{Writer, counted, with_size, number_written, octets_written, text_written, object_id_written, items}
 use Rattle.packed_codec.proofs.Spelled.{Sized, some_if, octets_all}
 use Rattle.packed_codec.proofs.Integers.{integer_sound, integer_complete}

@@ -5,11 +5,12 @@ use Rattle.std.specs.List.{list_all, flat_map, AllByRecursion}
 use Rattle.std.proofs.lemmas.Bool.{lt-ltb, le-ltb, ltb-false, ltb-true, and_parts}
 use Rattle.osi_base.specs.Oid.{is_oid}
 use Rattle.asn1_types.specs.Fits.{has_32_bits}
+use Rattle.asn1_types.specs.Writing.{subidentifiers}
 use Rattle.ber_spelling.specs.Octets.{AreOctets}
 use Rattle.ber_spelling.specs.Primitives.{subidentifiers_of}
 use Rattle.ber_spelling.specs.Spelling.{AreSubidentifiers}
 use Rattle.ber_spelling.proofs.Oids.{AllSmall, subs_found, subs_again, sized_subs, second_low, root_small}
-use Rattle.packed_codec.specs.ObjectIds.{first_arc, arcs_from, judged_arcs, arcs_of, base_128, subidentifiers, arcs_octets}
+use Rattle.packed_codec.specs.ObjectIds.{first_arc, arcs_from, judged_arcs, arcs_of, base_128, arcs_octets}
 use Rattle.packed_codec.proofs.Spelled.{some_if}
 use Rattle.packed_codec.proofs.Base128.{base_unique, base_128_is}
 

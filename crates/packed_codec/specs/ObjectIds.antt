@@ -3,6 +3,7 @@ use Rattle.std.specs.Prelude.{◌≡◌, ℕ, ◌<◌, ◌⊎◌, ◌++◌, leng
 use Rattle.std.specs.List.{list_all, flat_map}
 use Rattle.osi_base.specs.Oid.{is_oid}
 use Rattle.asn1_types.specs.Fits.{has_32_bits}
+use Rattle.asn1_types.specs.Writing.{subidentifiers}
 use Rattle.ber_spelling.specs.Primitives.{subidentifiers_of}
 
 -- ---- read: of the contents `subidentifiers_of` in `Primitives` of `ber_spelling` says the subidentifiers
@@ -50,12 +51,6 @@ without_zeros (digit ∷ digits) = if nat_eq digit 128 then without_zeros digits
 -- a subidentifier of at most 35 bits (X.690 8.19.2)
 unfoldable pub base_128 : ℕ → List ℕ
 base_128 n = without_zeros (digits_128 n)
-
--- the first two arcs make one subidentifier
-abbrev pub subidentifiers : List ℕ → List ℕ
-subidentifiers [] = []
-subidentifiers (root ∷ []) = root ∷ []
-subidentifiers (root ∷ second ∷ arcs) = (40 * root + second) ∷ arcs
 
 unfoldable pub arcs_octets : List ℕ → List ℕ
 arcs_octets arcs = flat_map base_128 (subidentifiers arcs)

@@ -1,5 +1,5 @@
 -- What each row is read as, from what the rows that it names are read as.
-use Rattle.std.specs.Prelude.{ℕ, zero, suc, ◌-◌, ℤ, Bool, true, false, not, ◌&&◌, ◌||◌, Option, Some, None, option_map, List, [], ◌∷◌, ◌++◌, length, Ok, nat_lt, nat_le, nat_eq, int_lt, slice_get, if◌then◌else◌}
+use Rattle.std.specs.Prelude.{ℕ, zero, suc, ◌-◌, ℤ, Bool, true, false, not, ◌&&◌, ◌||◌, Option, Some, None, option_map, List, [], ◌∷◌, ◌++◌, length, Ok, nat_lt, nat_le, nat_eq, slice_get, if◌then◌else◌}
 use Rattle.osi_base.specs.Limits.{most_items}
 use Rattle.asn1_types.specs.declared.row.Part.{Part}
 use Rattle.asn1_types.specs.declared.row.TextKind.{TextKind}
@@ -17,6 +17,7 @@ use Rattle.packed_codec.specs.Numbers.{is_size, integer_octets}
 use Rattle.packed_codec.specs.ObjectIds.{arcs_of}
 use Rattle.asn1_types.specs.Writing.{written}
 use Rattle.asn1_types.specs.Rising.{behind_last}
+use Rattle.ber_spelling.specs.Rules.{in_range}
 
 -- what stands at a spot, within a limit on the octets of the whole value
 abbrev pub Reader : Type 0
@@ -64,9 +65,6 @@ string_at few rule limit s = do
 abbrev pub checked : (ℤ → Bool) → Option ℤ → Option Value
 checked test None = None
 checked test (Some z) = if test z then Some (integer z) else None
-
-abbrev pub in_range : ℤ → ℤ → ℤ → Bool
-in_range low high z = not (int_lt z low) && not (int_lt high z)
 
 abbrev pub number_rule : (ℤ → Bool) → List ℕ → Option Value
 number_rule test contents = checked test (integer_of contents)

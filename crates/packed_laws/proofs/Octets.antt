@@ -17,9 +17,10 @@ use Rattle.asn1_types.specs.Table.{is_bad_range, AreSoundRows}
 use Rattle.asn1_types.specs.Value.{Value, boolean, integer, octets, bits, object_id, text, parts, list, chosen, MaybeValues, no_parts, absent, present, Values, no_values, value}
 use Rattle.asn1_types.specs.Writing as der
 use Rattle.asn1_types.proofs.Sound.{taken}
+use Rattle.asn1_types.specs.Writing.{subidentifiers}
 use Rattle.ber_spelling.specs.Primitives.{is_padded}
 use Rattle.packed_codec.specs.Numbers.{unpadded, integer_octets}
-use Rattle.packed_codec.specs.ObjectIds.{digits_128, without_zeros, base_128, subidentifiers, arcs_octets}
+use Rattle.packed_codec.specs.ObjectIds.{digits_128, without_zeros, base_128, arcs_octets}
 use Rattle.packed_codec.specs.Writing.{Writer, counted, how_many, part_written, parts_written, values_written, list_written, sequence_written, alternative_written, choice_written, nothing_written, write_by, packed}
 use Rattle.packed_codec.specs.Laws.{packs_by, packs}
 use Rattle.packed_laws.specs.Laws.{PackedAreOctets}

@@ -17,10 +17,11 @@ use Rattle.asn1_types.specs.Rising.{set_rises}
 use Rattle.asn1_types.specs.Value.{Value, boolean, integer, octets, bits, object_id, text, parts, list, chosen, MaybeValues, no_parts, absent, present, Values, no_values, value}
 use Rattle.asn1_types.specs.Writing as der
 use Rattle.asn1_types.specs.PackedSize as sizes
+use Rattle.asn1_types.specs.Writing.{subidentifiers}
 use Rattle.ber_spelling.proofs.UniqueDigits.{unique_128, unique_integer}
 use Rattle.ber_spelling.specs.Primitives.{is_padded, signed_of, integer_of}
 use Rattle.packed_codec.specs.Numbers.{is_size, integer_octets}
-use Rattle.packed_codec.specs.ObjectIds.{base_128, subidentifiers, arcs_octets}
+use Rattle.packed_codec.specs.ObjectIds.{base_128, arcs_octets}
 use Rattle.packed_codec.specs.Writing.{Writer, counted, how_many, part_written, parts_written, values_written, list_written, sequence_written, alternative_written, choice_written, nothing_written, write_by, packed}
 use Rattle.packed_codec.specs.Laws.{packs_by, packs}
 use Rattle.packed_codec.proofs.Base128.{base_128_is}

@@ -5,7 +5,7 @@ use Rattle.std.specs.List.{flat_map}
 use Rattle.ber_spelling.specs.Reading as spots
 use Rattle.association_reading.specs.Places as reading
 use Rattle.pdv_places.specs.declared.spots.Spot.{Spot}
-use Rattle.pdv_places.specs.Seen.{spot_of, is_done, Fits, AllFit, places_at}
+use Rattle.pdv_places.specs.Seen.{spot_of, is_done, HasSmallPlaces, HaveSmallPlaces, places_at}
 
 -- the place of the last, or else this one
 abbrev pub last_or : ℕ → List spots.Spot → ℕ
@@ -20,25 +20,25 @@ pub last_is : (ss : List spots.Spot) → last_or 0 ss ≡ reading.last_start ss
 last_is [] = refl
 last_is (s ∷ ss) = last_of 0 s ss
 
-pub fit_on : (xs : List Spot) (x : Spot) → AllFit xs → Fits x → AllFit (xs ++ x ∷ [])
+pub fit_on : (xs : List Spot) (x : Spot) → HaveSmallPlaces xs → HasSmallPlaces x → HaveSmallPlaces (xs ++ x ∷ [])
 fit_on [] x all one = (one, tt)
 fit_on (y ∷ xs) x all one = (all.0, fit_on xs x all.1 one)
 
-pub fit_first : (xs : List Spot) (i : ℕ) (d : Spot) → i < length xs → AllFit (drop i xs) → Fits (get_or xs i d)
+pub fit_first : (xs : List Spot) (i : ℕ) (d : Spot) → i < length xs → HaveSmallPlaces (drop i xs) → HasSmallPlaces (get_or xs i d)
 fit_first [] i d lt all = absurd (omega arith)
 fit_first (x ∷ xs) zero d lt all = all.0
 fit_first (x ∷ xs) (suc i) d lt all = fit_first xs i d (omega (arith, lt)) all
 
-fit_behind : (xs : List Spot) (i : ℕ) → AllFit (drop i xs) → AllFit (drop (suc i) xs)
+fit_behind : (xs : List Spot) (i : ℕ) → HaveSmallPlaces (drop i xs) → HaveSmallPlaces (drop (suc i) xs)
 fit_behind [] zero all = tt
 fit_behind [] (suc i) all = tt
 fit_behind (x ∷ xs) zero all = all.1
 fit_behind (x ∷ xs) (suc i) all = fit_behind xs i all
 
-pub fit_rest : (xs : List Spot) (i : ℕ) → AllFit (drop i xs) → AllFit (drop (i + 1) xs)
+pub fit_rest : (xs : List Spot) (i : ℕ) → HaveSmallPlaces (drop i xs) → HaveSmallPlaces (drop (i + 1) xs)
 fit_rest xs i all = rw add-one (fit_behind xs i all)
 
-pub fits_at : (xs : List Spot) (i : ℕ) (d : Spot) → i < length xs → AllFit xs → Fits (get_or xs i d)
+pub fits_at : (xs : List Spot) (i : ℕ) (d : Spot) → i < length xs → HaveSmallPlaces xs → HasSmallPlaces (get_or xs i d)
 fits_at [] i d lt all = absurd (omega arith)
 fits_at (x ∷ xs) zero d lt all = all.0
 fits_at (x ∷ xs) (suc i) d lt all = fits_at xs i d (omega (arith, lt)) all.1

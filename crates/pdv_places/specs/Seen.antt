@@ -13,12 +13,12 @@ abbrev pub spot_of : Spot → spots.Spot
 spot_of spot = record { place = spot.place; rest = spot.rest.now }
 
 -- the places of all its octets are numbers of 63 bits
-abbrev pub Fits : Spot → Type 0
-Fits spot = HasPlaces spot.place spot.rest.now
+abbrev pub HasSmallPlaces : Spot → Type 0
+HasSmallPlaces spot = HasPlaces spot.place spot.rest.now
 
-abbrev pub AllFit : List Spot → Type 0
-AllFit [] = Unit {0}
-AllFit (spot ∷ spots) = Fits spot × AllFit spots
+abbrev pub HaveSmallPlaces : List Spot → Type 0
+HaveSmallPlaces [] = Unit {0}
+HaveSmallPlaces (spot ∷ spots) = HasSmallPlaces spot × HaveSmallPlaces spots
 
 abbrev pub seen_places : PdvPlaces → reading.PdvPlaces
 seen_places at = record { name = at.name; identifier = at.identifier; form = at.form }

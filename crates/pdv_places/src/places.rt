@@ -4,7 +4,7 @@ ghost use Rattle.std.specs.Prelude.{◌≡◌, ◌++◌, ◌<◌, map, [], ◌�
 ghost use Rattle.std.specs.List.{flat_map};
 ghost use Rattle.osi_base.specs.OctetPlaces.{HasPlaces};
 ghost use Rattle.association_reading.specs.Places as reading;
-ghost use Rattle.pdv_places.specs.Seen.{spot_of, begins_with, user_data_of, Fits, AllFit, seen_places, place_in, places_at};
+ghost use Rattle.pdv_places.specs.Seen.{spot_of, begins_with, user_data_of, HasSmallPlaces, HaveSmallPlaces, seen_places, place_in, places_at};
 
 use crate::spots::{Spot, contents_of, values_in};
 use association_reading::presentation_pdus_layer::PpduPlace;
@@ -48,7 +48,7 @@ fn begins_with(first: u8, spot: &Spot<'_>) -> bool
 /// The place of the contents of the first value that begins with this octet.
 fn first_contents(first: u8, spots: &[Spot<'_>]) -> usize
     requires some { 0 < first }
-    requires fit { AllFit spots.now }
+    requires fit { HaveSmallPlaces spots.now }
     ensures { result ≡ reading.first_contents
         (reading.beginning_with first (map spot_of spots.now)) }
 {
@@ -74,7 +74,7 @@ fn last_start(spots: &[Spot<'_>]) -> usize
 
 /// The places of a value's fields: an OBJECT IDENTIFIER, which may lack, an INTEGER and the form.
 fn places_of(alloc: Global, pdv: Spot<'_>) -> Result<PdvPlaces, NoMemory>
-    requires { Fits pdv }
+    requires { HasSmallPlaces pdv }
     ensures { IfOk result (λ at. seen_places at ≡ reading.places_of (spot_of pdv.entry)) }
 {
     let fields = values_in(alloc, pdv)?;
@@ -89,11 +89,11 @@ fn places_of(alloc: Global, pdv: Spot<'_>) -> Result<PdvPlaces, NoMemory>
 #[tactic(auto, using(crate::proofs::Fitting::fit_on))]
 fn push_if<'a>(first: u8, spot: Spot<'a>, found: &mut Vec<Spot<'a>>) -> Result<(), NoMemory>
     requires some { 0 < first }
-    requires fit { Fits spot }
-    requires found_fit { AllFit found.old.items }
+    requires fit { HasSmallPlaces spot }
+    requires found_fit { HaveSmallPlaces found.old.items }
     ensures is { OnOk result (map spot_of found.new.items ≡ map spot_of found.old.items
         ++ reading.beginning_with first (spot_of spot.entry ∷ [])) }
-    ensures fit { OnOk result (AllFit found.new.items) }
+    ensures fit { OnOk result (HaveSmallPlaces found.new.items) }
 {
     if begins_with(first, &spot) {
         found.push(spot)?;
@@ -108,11 +108,11 @@ fn push_beginning<'a>(
     found: &mut Vec<Spot<'a>>,
 ) -> Result<(), NoMemory>
     requires some { 0 < first }
-    requires fit { AllFit spots.now }
-    requires found_fit { AllFit found.old.items }
+    requires fit { HaveSmallPlaces spots.now }
+    requires found_fit { HaveSmallPlaces found.old.items }
     ensures is { OnOk result (map spot_of found.new.items ≡ map spot_of found.old.items
         ++ reading.beginning_with first (map spot_of spots.now)) }
-    ensures fit { OnOk result (AllFit found.new.items) }
+    ensures fit { OnOk result (HaveSmallPlaces found.new.items) }
 {
     for spot in spots {
         push_if(first, *spot, found)?;
@@ -123,10 +123,10 @@ fn push_beginning<'a>(
 /// User data, [APPLICATION 1], among the values in these.
 #[tactic(auto, using(crate::proofs::Fitting::fit_on, crate::proofs::Fitting::fit_first, crate::proofs::Fitting::fit_rest))]
 fn user_data_in<'a>(alloc: Global, spots: &[Spot<'a>]) -> Result<Vec<Spot<'a>>, NoMemory>
-    requires { AllFit spots.now }
+    requires { HaveSmallPlaces spots.now }
     ensures is { IfOk result (λ v. map spot_of v.items ≡ flat_map user_data_of
         (map spot_of spots.now)) }
-    ensures fit { IfOk result (λ v. AllFit v.items) }
+    ensures fit { IfOk result (λ v. HaveSmallPlaces v.items) }
 {
     let mut found = Vec::new(alloc);
     for spot in spots {
@@ -139,10 +139,10 @@ fn user_data_in<'a>(alloc: Global, spots: &[Spot<'a>]) -> Result<Vec<Spot<'a>>, 
 /// The values in a unit that begin with this octet.
 fn fields_of<'a>(alloc: Global, first: u8, unit: Spot<'a>) -> Result<Vec<Spot<'a>>, NoMemory>
     requires some { 0 < first }
-    requires fits { Fits unit }
+    requires fits { HasSmallPlaces unit }
     ensures is { IfOk result (λ v. map spot_of v.items ≡ reading.beginning_with first
         (reading.values_in (spot_of unit.entry))) }
-    ensures fit { IfOk result (λ v. AllFit v.items) }
+    ensures fit { IfOk result (λ v. HaveSmallPlaces v.items) }
 {
     let values = values_in(alloc, unit)?;
     let mut found = Vec::new(alloc);
@@ -152,10 +152,10 @@ fn fields_of<'a>(alloc: Global, first: u8, unit: Spot<'a>) -> Result<Vec<Spot<'a
 
 /// The unit where it is user data.
 fn whole_unit<'a>(alloc: Global, unit: Spot<'a>) -> Result<Vec<Spot<'a>>, NoMemory>
-    requires { Fits unit }
+    requires { HasSmallPlaces unit }
     ensures is { IfOk result (λ v. map spot_of v.items ≡ reading.beginning_with 97
         (spot_of unit.entry ∷ [])) }
-    ensures fit { IfOk result (λ v. AllFit v.items) }
+    ensures fit { IfOk result (λ v. HaveSmallPlaces v.items) }
 {
     let mut found = Vec::new(alloc);
     if begins_with(97, &unit) {
@@ -166,10 +166,10 @@ fn whole_unit<'a>(alloc: Global, unit: Spot<'a>) -> Result<Vec<Spot<'a>>, NoMemo
 
 /// User data in the fields [2] of CP and CPA.
 fn inner_data<'a>(alloc: Global, unit: Spot<'a>) -> Result<Vec<Spot<'a>>, NoMemory>
-    requires { Fits unit }
+    requires { HasSmallPlaces unit }
     ensures is { IfOk result (λ v. map spot_of v.items ≡ flat_map user_data_of
         (reading.beginning_with 162 (reading.values_in (spot_of unit.entry)))) }
-    ensures fit { IfOk result (λ v. AllFit v.items) }
+    ensures fit { IfOk result (λ v. HaveSmallPlaces v.items) }
 {
     let fields = fields_of(alloc, 162, unit)?;
     user_data_in(alloc, &fields)
@@ -181,10 +181,10 @@ fn user_data<'a>(
     carrier: PpduPlace,
     unit: Spot<'a>,
 ) -> Result<Vec<Spot<'a>>, NoMemory>
-    requires { Fits unit }
+    requires { HasSmallPlaces unit }
     ensures is { IfOk result (λ v. map spot_of v.items ≡ reading.user_data carrier
         (spot_of unit.entry)) }
-    ensures fit { IfOk result (λ v. AllFit v.items) }
+    ensures fit { IfOk result (λ v. HaveSmallPlaces v.items) }
 {
     match carrier {
         PpduPlace::Cn => inner_data(alloc, unit),
@@ -204,10 +204,10 @@ fn user_data<'a>(
 /// All values in these.
 #[tactic(auto, using(crate::proofs::Fitting::fit_on, crate::proofs::Fitting::fit_first, crate::proofs::Fitting::fit_rest))]
 fn all_values<'a>(alloc: Global, spots: &[Spot<'a>]) -> Result<Vec<Spot<'a>>, NoMemory>
-    requires { AllFit spots.now }
+    requires { HaveSmallPlaces spots.now }
     ensures is { IfOk result (λ v. map spot_of v.items ≡ flat_map reading.values_in
         (map spot_of spots.now)) }
-    ensures fit { IfOk result (λ v. AllFit v.items) }
+    ensures fit { IfOk result (λ v. HaveSmallPlaces v.items) }
 {
     let mut all = Vec::new(alloc);
     for spot in spots {
@@ -220,11 +220,11 @@ fn all_values<'a>(alloc: Global, spots: &[Spot<'a>]) -> Result<Vec<Spot<'a>>, No
 /// Puts values behind the others.
 #[tactic(auto, using(crate::proofs::Fitting::fit_on, crate::proofs::Fitting::fit_first, crate::proofs::Fitting::fit_rest))]
 fn push_all<'a>(spots: &[Spot<'a>], all: &mut Vec<Spot<'a>>) -> Result<(), NoMemory>
-    requires fit { AllFit spots.now }
-    requires all_fit { AllFit all.old.items }
+    requires fit { HaveSmallPlaces spots.now }
+    requires all_fit { HaveSmallPlaces all.old.items }
     ensures is { OnOk result (map spot_of all.new.items ≡ map spot_of all.old.items
         ++ map spot_of spots.now) }
-    ensures fit { OnOk result (AllFit all.new.items) }
+    ensures fit { OnOk result (HaveSmallPlaces all.new.items) }
 {
     for spot in spots {
         all.push(*spot)?;
@@ -235,7 +235,7 @@ fn push_all<'a>(spots: &[Spot<'a>], all: &mut Vec<Spot<'a>>) -> Result<(), NoMem
 /// The places of the value with this number, counted from 0; all are 0 where there is none.
 #[tactic(auto, using(crate::proofs::Fitting::at_there, crate::proofs::Fitting::at_gone, crate::proofs::Fitting::fits_at))]
 fn places_at(alloc: Global, which: usize, values: &[Spot<'_>]) -> Result<PdvPlaces, NoMemory>
-    requires { AllFit values.now }
+    requires { HaveSmallPlaces values.now }
     ensures { IfOk result (λ at. seen_places at ≡ places_at which
         (map reading.places_of (map spot_of values.now))) }
 {

@@ -2,7 +2,7 @@
 
 ghost use Rattle.std.specs.Prelude.{◌≡◌, ◌+◌, ◌<◌, ◌≤◌, ◌^◌, length, map, [], IfOk};
 ghost use Rattle.association_reading.specs.Places as reading;
-ghost use Rattle.pdv_places.specs.Seen.{spot_of, is_done, Fits, AllFit};
+ghost use Rattle.pdv_places.specs.Seen.{spot_of, is_done, HasSmallPlaces, HaveSmallPlaces};
 
 use asn1_types::{behind_identifier, behind_whole, is_ended};
 use osi_base::NoMemory;
@@ -17,10 +17,10 @@ pub(crate) struct Spot<'a> {
 
 /// Further on, where this is left of the octets.
 fn on_to<'a>(rest: &'a [u8], spot: Spot<'_>) -> Spot<'a>
-    requires fits { Fits spot }
+    requires fits { HasSmallPlaces spot }
     requires less { length rest.now ≤ length spot.rest.now }
     ensures is { spot_of result ≡ reading.on_to rest.now (spot_of spot.entry) }
-    ensures fit { Fits result }
+    ensures fit { HasSmallPlaces result }
 {
     Spot {
         place: spot.place + (spot.rest.len() - rest.len()),
@@ -48,9 +48,9 @@ fn behind_size(octets: &[u8]) -> &[u8]
 
 /// Where the contents of the value begin.
 pub(crate) fn contents_of<'a>(spot: Spot<'a>) -> Spot<'a>
-    requires { Fits spot }
+    requires { HasSmallPlaces spot }
     ensures is { spot_of result ≡ reading.contents_of (spot_of spot.entry) }
-    ensures fit { Fits result }
+    ensures fit { HasSmallPlaces result }
 {
     match behind_identifier(spot.rest) {
         None => on_to(&[], spot),
@@ -60,9 +60,9 @@ pub(crate) fn contents_of<'a>(spot: Spot<'a>) -> Spot<'a>
 
 /// Behind the whole value.
 fn behind_value<'a>(spot: Spot<'a>) -> Spot<'a>
-    requires { Fits spot }
+    requires { HasSmallPlaces spot }
     ensures is { spot_of result ≡ reading.behind_value (spot_of spot.entry) }
-    ensures fit { Fits result }
+    ensures fit { HasSmallPlaces result }
 {
     match behind_whole(32, spot.rest) {
         None => on_to(&[], spot),
@@ -85,10 +85,10 @@ fn values_until<'a>(
     left: usize,
     spot: Spot<'a>,
 ) -> Result<Vec<Spot<'a>>, NoMemory>
-    requires { Fits spot }
+    requires { HasSmallPlaces spot }
     ensures is { IfOk result (λ v. map spot_of v.items ≡ reading.values_until turns left
         (spot_of spot.entry)) }
-    ensures fit { IfOk result (λ v. AllFit v.items) }
+    ensures fit { IfOk result (λ v. HaveSmallPlaces v.items) }
 {
     let mut at = spot;
     let mut values = Vec::new(alloc);
@@ -104,9 +104,9 @@ fn values_until<'a>(
 
 /// The values in the contents of a constructed one.
 pub(crate) fn values_in<'a>(alloc: Global, spot: Spot<'a>) -> Result<Vec<Spot<'a>>, NoMemory>
-    requires { Fits spot }
+    requires { HasSmallPlaces spot }
     ensures is { IfOk result (λ v. map spot_of v.items ≡ reading.values_in (spot_of spot.entry)) }
-    ensures fit { IfOk result (λ v. AllFit v.items) }
+    ensures fit { IfOk result (λ v. HaveSmallPlaces v.items) }
 {
     let left = behind_value(spot).rest.len();
     values_until(alloc, spot.rest.len(), left, contents_of(spot))

@@ -15,7 +15,7 @@ use Rattle.end_model.specs.end_rules.State.{Body, OpenCall, Calls, Queued, Piece
 use Rattle.end_model.specs.end_rules.State.{is_key, opened_with, orphaned, closed, close, from_mark, up_to, newest_set, highest, pieces_of, confirmed_of}
 use Rattle.end_model.specs.end_rules.State.{resumed_set, on_transfer, on_current}
 use Rattle.end_model.specs.end_rules.Invoking.{is_on_module}
-use Rattle.end_model.specs.end_rules.Hearing.{is_silent_at, opening, Heard, showing, Rejecting, unless_problem, invoked, invoke_problem}
+use Rattle.end_model.specs.end_rules.Hearing.{is_silent_at, with_opened, Heard, showing, Rejecting, unless_problem, invoked, invoke_problem}
 use Rattle.end_model.specs.end_rules.Hearing.{result_problem, hear_result_of, error_problem, showing_error, hear_error_of, is_of_invocation, hear_reject, hear}
 use Rattle.end_model.specs.end_rules.Hearing.{with_reject, take_head, take_values}
 use Rattle.end_model.specs.end_rules.Requesting.{begun, resumed}
@@ -106,7 +106,7 @@ pub queue-append : (name : List ℕ) (first : List SetItem) (xs ys : List Queued
 queue-append name first [] ys h i = i
 queue-append name first (x ∷ xs) ys h i = (h.0, queue-append name first xs ys h.1 i)
 
-pub opened-loose : (name : List ℕ) (first : List SetItem) (base : Base) (o : OpenCall) (calls : Calls) → OpensLoose name first calls.opens → IsLoose name first o.context → OpensLoose name first (opening base o calls).opens
+pub opened-loose : (name : List ℕ) (first : List SetItem) (base : Base) (o : OpenCall) (calls : Calls) → OpensLoose name first calls.opens → IsLoose name first o.context → OpensLoose name first (with_opened base o calls).opens
 opened-loose name first base o calls h l = go (is_silent_at base (Some o.operation))
   where
     go : (b : Bool) → OpensLoose name first (if b then calls else record calls { opens = calls.opens ++ o ∷ [] }).opens

@@ -6,7 +6,7 @@ use Rattle.std.proofs.Math.Seq.{drop-append_seam}
 use Rattle.std.proofs.lemmas.List.{append-nil, append_assoc, length-append, take-append-drop}
 use Rattle.osi_base.specs.declared.layer_words.SetItem.{SetItem}
 use Rattle.osi_base.specs.declared.layer_words.Proposal.{Proposal}
-use Rattle.osi_base.specs.Limits.{most_marks, most_transferred, last_activity}
+use Rattle.osi_base.specs.Limits.{most_marks, most_transferred, last_serial}
 use Rattle.end_model.specs.dialogue.declared.config.Mode.TheVariants.{Reliable}
 use Rattle.end_model.specs.end_rules.Base.{Base}
 use Rattle.osi_base.specs.SetPlaces.{pair_of}
@@ -83,7 +83,7 @@ on-transfer base body own t e h = go t.progress refl t.encoded refl h
 
 on-queue : (base : Base) (body : Body) (own : OwnAct) (queue : List Queued) → body.sending.current ≡ None → body.sending.queue ≡ queue → next_start (at Reliable base) body queue ≡ Some own → Kind body own
 on-queue base body own [] e q h = cc
-on-queue base body own (item ∷ items) e q h = go (is_some (carrier_in (at Reliable base) body item.context) && nat_lt body.sending.started last_activity) h
+on-queue base body own (item ∷ items) e q h = go (is_some (carrier_in (at Reliable base) body item.context) && nat_lt body.sending.started last_serial) h
   where
     go : (b : Bool) → (if b then Some (SendsNow (Session (OfActivities (Start (suc body.sending.started))))) else None) ≡ Some own → Kind body own
     go true h = StartsNext item items e q (some-own _ own h)

@@ -11,7 +11,7 @@ use Rattle.end_model.specs.dialogue.declared.config.Mode.TheVariants.{Reliable}
 use Rattle.end_model.specs.dialogue.declared.config.Phase.TheVariants.{Up, Releasing, Over}
 use Rattle.end_model.specs.dialogue.declared.indication.Indication.{Indication}
 use Rattle.end_model.specs.end_rules.Base.{Base, Spellings, Item, Whole}
-use Rattle.end_model.specs.end_rules.Messages.{DataValue, Word, OfAssociation, OfData, OfMarks, OfActivities, Finish, Disconnect, Abort}
+use Rattle.end_model.specs.end_rules.Messages.{DataValue, Word, OfAssociation, OfData, OfMarks, OfActivities, Finish, Disconnect, Abort, value_of_item}
 use Rattle.end_model.specs.end_rules.Messages.{Values, AlterContext, AlterContextAck, Part, Mark, MarkAck, Please, GiveConfirm, GiveAck}
 use Rattle.end_model.specs.end_rules.Messages.{Start, Resume, End, EndAck, Interrupt, InterruptAck, Discard, DiscardAck}
 use Rattle.end_model.specs.end_rules.Messages.{Message, Session, unit_of}
@@ -28,7 +28,7 @@ use Rattle.end_model.specs.end_rules.TakesData.{alteration, settled, part_in}
 use Rattle.end_model.specs.end_rules.TakesActivities.{received, arrived_now, handed_up, values_arrived, invocation_in, cut_invocation}
 use Rattle.end_model.specs.end_rules.Reacting.{Passes, Takes, react, react_to_word, fails, on_word}
 use Rattle.end_model.specs.end_rules.Reacting.{word_fault, after_word, answers_to_word, shown_of_word}
-use Rattle.agreement.specs.Sets.{Role, is_initiator, lookup, Item as ModelItem, Result, Fits}
+use Rattle.agreement.specs.Sets.{Role, is_initiator, lookup, Item as ModelItem, Result, AnswersEach}
 use Rattle.agreement.specs.Sets.{altered as model_altered}
 use Rattle.agreement.specs.Sets.Role.{Initiator}
 use Rattle.agreement.specs.Messages as model
@@ -57,7 +57,7 @@ use Rattle.end_model.specs.Seen.{Free, role_seen, pair_seen, set_seen, phase_see
 use Rattle.end_model.specs.Seen.{apdu_seen, incoming_seen, calls_seen, seen, setup_seen}
 use Rattle.end_model.specs.Rows.{at}
 use Rattle.end_model.specs.OpenInvocations.{AreNumberedCalls}
-use Rattle.end_model.specs.Words.{Means, results_seen, value_of_item}
+use Rattle.end_model.specs.Words.{Means, results_seen}
 use Rattle.end_model.specs.Acting.{IsSoundBody, TakenAs, ReadsBack}
 use Rattle.end_model.specs.Heard.{IsExpected}
 use Rattle.end_model.specs.Takings.{IsJoined, TakenWhere, nothing}
@@ -243,7 +243,7 @@ module _ (free : Free) (tables : Tables) (spellings : Spellings) (a b : Config) 
         taking = λ message means may.
             let asked : Alteration = means.0 in
             let there : MayTake setup role (seen (base role) body) (model_alter_answer (results_seen asked answers)) = subst (λ m. MayTake setup role (seen (base role) body) m) means.2 may in
-            let o = first-own (λ items. Fits items (results_seen asked answers)) body.sets.own there.fits in
+            let o = first-own (λ items. AnswersEach items (results_seen asked answers)) body.sets.own there.fits in
             let f = fits-too o.0 asked answers means.1 o.3 in
             let its : MayTake setup role (seen (base role) body) (model_alter_answer (results_seen o.0 answers)) = subst (λ rs. MayTake setup role (seen (base role) body) (model_alter_answer rs)) (sym f.same) there in
             subst (λ m. TakenAs free Reliable (base role) proposed body (OfData (AlterContextAck answers)) m Nothing) (ap model_alter_answer f.same ∙ sym means.2)

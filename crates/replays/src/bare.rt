@@ -2,7 +2,7 @@
 
 ghost use Rattle.std.specs.Prelude.{◌≡◌, true, false, [], None, IfOk};
 ghost use Rattle.dialogue.specs.declared.config.Mode.TheVariants as modes;
-ghost use Rattle.dialogue.specs.Config.{config_refusal, IsBare};
+ghost use Rattle.dialogue.specs.Config.{bare_config_refusal, IsBare};
 ghost use Rattle.bare_duo.specs.bare_end.View.{StandsFor};
 ghost use Rattle.schedule_text.specs.Schedules.{configs_and_events};
 ghost use Rattle.replays.specs.Runs.{BareRanOver, RanBare};
@@ -19,7 +19,7 @@ use stub_tables::Tables;
 /// lack.
 fn new_end<'t>(alloc: Global, tables: &'t Tables, config: Config) -> Result<End<'t>, NoMemory>
     requires bare { config.mode ≡ modes.Bare }
-    requires accepted { config_refusal config ≡ None }
+    requires accepted { bare_config_refusal config ≡ None }
     ensures tables { IfOk result (λ end. end.tables ≡ tables.entry.now) }
     ensures config { IfOk result (λ end. end.config ≡ config) }
     ensures new { IfOk result (λ end. StandsFor end []) }

@@ -3,6 +3,7 @@ use Rattle.std.proofs.Common.{◌≡◌, ℕ, ◌≤◌, Bool, true, false, not,
 use Rattle.osi_base.specs.declared.syntax.Syntax.{Syntax}
 use Rattle.osi_base.specs.declared.syntax.Syntax.TheVariants as syntax
 use Rattle.asn1_types.specs.declared.value.Val.{Val}
+use Rattle.end_wire.specs.Heads.{room_in}
 use Rattle.stub_tables.specs.declared.tables.Tables.{Tables}
 use Rattle.stub_tables.specs.declared.operation.Use.{Use}
 use Rattle.stub_tables.specs.Readable.{IsReadable}
@@ -12,7 +13,7 @@ use Rattle.apdu_spelling.proofs.OneHead.{one_carried}
 use Rattle.end_wire.specs.end_rules.Base.{Carried, Absent, Spelled, Unspelled}
 use Rattle.end_wire.specs.end_rules.Hearing.{problem_if, value_in}
 use Rattle.rose_roles.specs.declared.apdu_problems.ValueOrProblem.TheVariants as value_or_problem
-use Rattle.rose_roles.specs.Heads.{room_in, Carries}
+use Rattle.rose_roles.specs.Heads.{Carries}
 use Rattle.rose_roles.specs.Values.{IsAllowedIn}
 use Rattle.rose_roles.specs.ApduProblems.{is_right, IsAllowed, IsValueOrProblem}
 

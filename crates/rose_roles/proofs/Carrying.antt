@@ -18,9 +18,9 @@ use Rattle.stub_tables.specs.declared.operation.Use.{Use}
 use Rattle.apdu_spelling.specs.declared.head.ApduHead.{ApduHead}
 use Rattle.apdu_spelling.specs.Spellings.{CarriedAs}
 use Rattle.end_wire.specs.end_rules.Base.{Carried, Absent, Spelled, Unspelled}
-use Rattle.end_wire.specs.Heads.{whole_value, packed_value, value_at, typed_at, carried_at}
+use Rattle.end_wire.specs.Heads.{whole_value, packed_value, value_at, typed_at, carried_at, room_in}
 use Rattle.end_wire.proofs.ValueLaws.{carried_is, carried_spelled}
-use Rattle.rose_roles.specs.Heads.{room_in, Carries, HeadCarries, use_by}
+use Rattle.rose_roles.specs.Heads.{Carries, HeadCarries, use_by}
 use Rattle.rose_roles.specs.Laws.{carried_by}
 
 not_absent : (w : Val) (b : Bool) → (if b then Spelled w else Unspelled) ≡ Absent → ⊥

@@ -169,10 +169,10 @@ module _ (base : Base) (t : Tables) (same : base.tables ≡ t) (o : ends.OpenCal
   silent_same : (b : Bool) → of_apdus.silent (placed (operation_at t) (Some o.operation)) ≡ b → rules.is_silent_at base (Some o.operation) ≡ b
   silent_same b e = silent_is base (Some o.operation) ∙ ap (λ (x : Tables). of_apdus.silent (placed (operation_at x) (Some o.operation))) same ∙ e
 
-  pub not_admitted : of_apdus.silent (placed (operation_at t) (Some o.operation)) ≡ true → calls ≡ rules.opening base o calls
+  pub not_admitted : of_apdus.silent (placed (operation_at t) (Some o.operation)) ≡ true → calls ≡ rules.with_opened base o calls
   not_admitted e = sym (ap (λ (b : Bool). cond b calls (record calls { opens = calls.opens ++ o ∷ [] })) (silent_same true e))
 
-  pub admitted : of_apdus.silent (placed (operation_at t) (Some o.operation)) ≡ false → record calls { opens = calls.opens ++ o ∷ [] } ≡ rules.opening base o calls
+  pub admitted : of_apdus.silent (placed (operation_at t) (Some o.operation)) ≡ false → record calls { opens = calls.opens ++ o ∷ [] } ≡ rules.with_opened base o calls
   admitted e = sym (ap (λ (b : Bool). cond b calls (record calls { opens = calls.opens ++ o ∷ [] })) (silent_same false e))
 
 module _ (base : Base) (t : Tables) (same : base.tables ≡ t) (es : List Entry) (own : Invoking) (performed : Kept) (mine : AreOpen true es own.kept) (theirs : AreOpen false es performed) (apart : AreApart es) (once : Once performed)

@@ -1,12 +1,11 @@
 -- What a head says, with what the octets of its value carry.
-use Rattle.std.specs.Prelude.{ℕ, min, ℤ, Bool, true, false, List, Option, Some, None}
+use Rattle.std.specs.Prelude.{ℕ, ℤ, Bool, true, false, List, Option, Some, None}
 use Rattle.std.specs.Option.{option_map}
 use Rattle.osi_base.specs.declared.syntax.Syntax.{Syntax}
-use Rattle.osi_base.specs.declared.syntax.Syntax.TheVariants.{Ber, Der, Packed}
 use Rattle.osi_base.specs.declared.layer_words.Problem.{Problem}
-use Rattle.osi_base.specs.Limits.{most_octets}
 use Rattle.asn1_types.specs.declared.value.Val.{Val}
 use Rattle.asn1_types.specs.declared.table.TypeTable.{TypeTable}
+use Rattle.end_wire.specs.Heads.{room_in}
 use Rattle.stub_tables.specs.declared.tables.Tables.{Tables}
 use Rattle.stub_tables.specs.declared.operation.Code.{Code}
 use Rattle.stub_tables.specs.declared.operation.Use.{Use}
@@ -17,12 +16,6 @@ use Rattle.apdu_spelling.specs.declared.head.ApduKind.{ApduKind}
 use Rattle.apdu_spelling.specs.declared.head.ApduKind.TheVariants.{Invoke, Result, Error, Reject}
 use Rattle.apdu_spelling.specs.Spellings.{CarriedAs}
 use Rattle.end_wire.specs.end_rules.Base.{Carried, Absent, Spelled, Unspelled, HeardHead, BadReject, InvokeHead, ResultHead, ErrorHead, RejectHead}
-
--- an APDU has at most 262,144 octets, in the packed syntax with those before its value
-abbrev pub room_in : Syntax → ℕ → ℕ
-room_in Ber room = most_octets
-room_in Der room = most_octets
-room_in Packed room = min room most_octets
 
 -- The octets carry this: nothing, a value that they spell, or none that they spell.
 abbrev pub Carries : Syntax → TypeTable → ℕ → Option Use → Option (List ℕ) → Carried → Type 0

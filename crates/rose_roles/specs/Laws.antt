@@ -9,8 +9,8 @@ use Rattle.apdu_spelling.specs.declared.head.ApduHead.{ApduHead}
 use Rattle.end_wire.specs.end_rules.Base.{Base, Carried, HeardHead}
 use Rattle.end_wire.specs.end_rules.State.{Calls, opens_of}
 use Rattle.end_wire.specs.end_rules.Hearing.{hear}
-use Rattle.end_wire.specs.Heads.{carried_at}
-use Rattle.rose_roles.specs.Heads.{HeadCarries, room_in, use_by}
+use Rattle.end_wire.specs.Heads.{carried_at, room_in}
+use Rattle.rose_roles.specs.Heads.{HeadCarries, use_by}
 
 -- what reading the octets behind a head gives
 abbrev pub carried_by : Tables → Syntax → ApduHead → Carried

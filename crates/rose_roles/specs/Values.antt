@@ -4,10 +4,10 @@ use Rattle.osi_base.specs.declared.syntax.Syntax.{Syntax}
 use Rattle.asn1_types.specs.declared.value.Val.{Val}
 use Rattle.asn1_types.specs.declared.table.TypeTable.{TypeTable}
 use Rattle.asn1_types.specs.Fits.{fits}
+use Rattle.end_wire.specs.Heads.{room_in}
 use Rattle.stub_tables.specs.declared.operation.Use.{Use}
 use Rattle.stub_tables.specs.Uses.{is_carried}
 use Rattle.apdu_spelling.specs.Spellings.{SpelledAs, CarriedAs}
-use Rattle.rose_roles.specs.Heads.{room_in}
 
 -- They spell this value, which fits, or none that does.
 abbrev pub IsReadAs : Syntax → TypeTable → ℕ → ℕ → List ℕ → Option Val → Type 0

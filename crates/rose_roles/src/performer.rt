@@ -9,7 +9,7 @@ ghost use Rattle.apdu_spelling.specs.declared.head.ApduKind.TheVariants as kinds
 ghost use Rattle.linked_ops.specs.Entries.{Entry, IsForest, is_open, is_open_or_none};
 ghost use Rattle.end_wire.specs.end_rules.Base.{Base, Carried};
 ghost use Rattle.end_wire.specs.end_rules.State.{close, opens_of};
-ghost use Rattle.end_wire.specs.end_rules.Hearing.{opening, invoked, value_in, first_problem, problem_if};
+ghost use Rattle.end_wire.specs.end_rules.Hearing.{with_opened, invoked, value_in, first_problem, problem_if};
 ghost use Rattle.rose_roles.specs.Calls.{Kept, Invoking, called, key_of, AreOpen, calls_of, open_calls_in, PerformerKeeps};
 ghost use Rattle.rose_roles.specs.Heads.{is_invocation, Carries};
 ghost use Rattle.rose_roles.specs.ApduProblems.{silent, known_problem, early_problem, invoke_problem, IsValueOrProblem, IsFree};
@@ -226,7 +226,7 @@ impl Performer {
         requires peer { AreOpen false forest.old self.old.kept }
         ensures admitted { OnOk result ((base : Base) (own : Invoking) → base.tables ≡ tables.now →
             calls_of forest.new own self.new.kept
-            ≡ opening base (record {
+            ≡ with_opened base (record {
               own = false;
               id = id.now;
               operation = place;

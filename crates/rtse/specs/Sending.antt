@@ -1,6 +1,6 @@
 -- What an end gives of a transfer (X.228 7.3, 8.2): chunks, each but the last with a mark behind it, and the end.
 use Rattle.std.specs.Prelude.{◌≡◌, ℕ, ◌+◌, ◌-◌, ◌*◌, ◌<◌, ◌≤◌, ◌==◌, ◌||◌, nat_le, Bool, true, false, List, length, take, drop, if◌then◌else◌, IsTrue, ◌≢◌}
-use Rattle.osi_base.specs.Limits.{most_transferred, last_activity, most_checkpoint, most_window, checkpoint_unit}
+use Rattle.osi_base.specs.Limits.{most_transferred, last_serial, most_checkpoint, most_window, checkpoint_unit}
 use Rattle.rtse.specs.declared.outgoing.Step.{Step}
 use Rattle.rtse.specs.declared.outgoing.Step.TheVariants.{Chunk, Mark, End, Wait}
 
@@ -71,7 +71,7 @@ IsNext s n = (n ≡ s.confirmed + 1) × (n ≤ marks_given s)
 
 -- what may be sent as a transfer
 pub record MayStart (number : ℕ) (octets : List ℕ) (checkpoint window : ℕ) : Type 0 where
-  pub numbered : (1 ≤ number) × (number ≤ last_activity)
+  pub numbered : (1 ≤ number) × (number ≤ last_serial)
   pub some : 1 ≤ length octets
   pub within : length octets ≤ most_transferred
   pub checkpoint_within : checkpoint ≤ most_checkpoint

@@ -13,7 +13,7 @@ use Rattle.end_rules.specs.History.{Step, took, answered, passed, fault, aborted
 use Rattle.end_rules.specs.World.{World, Ends, base_at, body_at}
 use Rattle.end_rules.specs.Base.{ber_name}
 use Rattle.end_rules.specs.Cases.{base_for, opening, invokes, adds, deletes, Event, CallsA, CallsB, TakesA, TakesB, Breaks}
-use Rattle.run_laws.specs.Passing.{Passed, sent_in}
+use Rattle.run_laws.specs.Passing.{PairedMessage, sent_in}
 
 abbrev pub ends_in : Mode → Ends
 ends_in mode = record { a = base_for true mode; b = base_for false mode }
@@ -78,15 +78,15 @@ abbrev pub world_of : Mode → List Event → World
 world_of mode events = (played_on mode (record { world = []; to_a = []; to_b = [] }) events).world
 
 -- what B read of what A sent: all of it, each under its pair at the sending
-abbrev pub all_read : List Passed → List (Option Passed)
+abbrev pub all_read : List PairedMessage → List (Option PairedMessage)
 all_read all = map Some all
 
 -- the pairs of all values sent, and of all values read
-abbrev pub pairs_sent : List Passed → List (Option Pair)
+abbrev pub pairs_sent : List PairedMessage → List (Option Pair)
 pairs_sent [] = []
 pairs_sent (p ∷ all) = p.pairs ++ pairs_sent all
 
-abbrev pub pairs_read : List (Option Passed) → List (Option Pair)
+abbrev pub pairs_read : List (Option PairedMessage) → List (Option Pair)
 pairs_read [] = []
 pairs_read (None ∷ all) = pairs_read all
 pairs_read (Some p ∷ all) = p.pairs ++ pairs_read all

@@ -42,16 +42,16 @@ values_in _ = []
 
 -- ---- a message with a pair for each of its values
 
-pub record Passed : Type 0 where
+pub record PairedMessage : Type 0 where
   pub message : Message
   pub pairs : List (Option Pair)
 
 -- the pairs that the shared set gave the identifiers just before its sending
-abbrev pub at_sending : Ends → World → Message → Passed
+abbrev pub at_sending : Ends → World → Message → PairedMessage
 at_sending ends w message = record { message = message; pairs = map (λ (v : DataValue). pair_at_sending ends w v.id) (values_in message) }
 
 -- the pairs under which its values were read
-abbrev pub as_read : Message → Passed
+abbrev pub as_read : Message → PairedMessage
 as_read message = record { message = message; pairs = map (λ (v : DataValue). v.pair) (values_in message) }
 
 -- ---- on this connection, the oldest first
@@ -62,25 +62,25 @@ on_connection broke xs = []
 on_connection _ xs = xs
 
 -- what one end sent
-abbrev pub sendings : Ends → Side → World → List Passed
+abbrev pub sendings : Ends → Side → World → List PairedMessage
 sendings ends side [] = []
 sendings ends side (m ∷ w) =
     on_connection m.step (if is_side side m.side then sendings ends side w ++ map (at_sending ends w) (sent_in m.step) else sendings ends side w)
 
 -- what it took, and none where it passed a message over
-abbrev pub read_in : Step → List (Option Passed)
+abbrev pub read_in : Step → List (Option PairedMessage)
 read_in (took message) = Some (as_read message) ∷ []
 read_in passed = None ∷ []
 read_in _ = []
 
-abbrev pub readings : Side → World → List (Option Passed)
+abbrev pub readings : Side → World → List (Option PairedMessage)
 readings side [] = []
 readings side (m ∷ w) = on_connection m.step (if is_side side m.side then readings side w ++ read_in m.step else readings side w)
 
 -- ---- in its place
 
 -- each message that was taken is the one that was sent in its place
-abbrev pub AreInPlace : List (Option Passed) → List Passed → Type 0
+abbrev pub AreInPlace : List (Option PairedMessage) → List PairedMessage → Type 0
 AreInPlace [] all = Unit {0}
 AreInPlace (reading ∷ more) [] = ⊥
 AreInPlace (None ∷ more) (first ∷ all) = AreInPlace more all
@@ -92,7 +92,7 @@ TakenInPlace ends w = (side : Side) → AreInPlace (readings (other side) w) (se
 -- ---- taken as sent
 
 -- each reading is the sending in its place
-abbrev pub AreAsSent : List (Option Passed) → List Passed → Type 0
+abbrev pub AreAsSent : List (Option PairedMessage) → List PairedMessage → Type 0
 AreAsSent [] all = Unit {0}
 AreAsSent (reading ∷ more) [] = ⊥
 AreAsSent (None ∷ more) (first ∷ all) = AreAsSent more all

@@ -18,7 +18,7 @@ use Rattle.dialogue.specs.declared.indication.Indication.TheVariants as indicati
 use Rattle.end_rules.specs.Base.{Base, HeardHead, General, BadReject, InvokeHead, ResultHead, ErrorHead, RejectHead, Carried}
 use Rattle.end_rules.specs.State.{OpenCall, Calls, opened_with, close}
 use Rattle.end_rules.specs.Invoking.{result_apdu, error_apdu, returned_with}
-use Rattle.end_rules.specs.Hearing.{Heard, showing, unless_problem, invoke_problem, invoked, opening, is_silent_at, result_problem, hear_result_of, error_problem, showing_error, hear_error_of, is_of_invocation, hear_reject, hear, head_of_apdu, carried_in, code_returned, value_returned}
+use Rattle.end_rules.specs.Hearing.{Heard, showing, unless_problem, invoke_problem, invoked, with_opened, is_silent_at, result_problem, hear_result_of, error_problem, showing_error, hear_error_of, is_of_invocation, hear_reject, hear, head_of_apdu, carried_in, code_returned, value_returned}
 use Rattle.end_rules.specs.Requesting.{result_for, error_for}
 use Rattle.outcome_laws.specs.Outcomes.{value_of}
 use Rattle.run_laws.specs.Outcomes.{Invocation, ToldOutcome, returned, failed, IsIn}
@@ -68,7 +68,7 @@ noted-peer tables own made more given later shown h =
 -- ---- what is heard
 
 -- an invocation that opens counts
-pub opened-made : (base : Base) (o : OpenCall) (calls : Calls) → (opening base o calls).made ≡ calls.made
+pub opened-made : (base : Base) (o : OpenCall) (calls : Calls) → (with_opened base o calls).made ≡ calls.made
 opened-made base o calls = go (is_silent_at base (Some o.operation))
   where
     go : (b : Bool) → (if b then calls else record calls { opens = calls.opens ++ o ∷ [] }).made ≡ calls.made

@@ -135,8 +135,8 @@ behind-row false refusal later h = h
 pub accepted : (config : Config) → config_refusal config ≡ None → Accepted config
 accepted config h =
     let early = none-first (early_refusal config) (late_refusal config) h in
-    let contexts = none-first (context_refusal (bad_context config.mode [] config.contexts) (length config.contexts)) (values.config_refusal config) early in
-    let rest = none-second (context_refusal (bad_context config.mode [] config.contexts) (length config.contexts)) (values.config_refusal config) early in
+    let contexts = none-first (context_refusal (bad_context config.mode [] config.contexts) (length config.contexts)) (values.bare_config_refusal config) early in
+    let rest = none-second (context_refusal (bad_context config.mode [] config.contexts) (length config.contexts)) (values.bare_config_refusal config) early in
     let selectors = no-refusal (values.is_bad_selector config.calling || values.is_bad_selector config.called) refusals.BadSelector _ rest in
     let behind = behind-row (values.is_bad_selector config.calling || values.is_bad_selector config.called) refusals.BadSelector _ rest in
     let references = no-refusal (values.is_bad_reference config.reference config.common) refusals.BadReference _ behind in

@@ -12,7 +12,7 @@ use Rattle.end_config.specs.presentation_pdus.Words.{written_ppdu}
 use Rattle.stub_tables.specs.declared.tables.Tables.{Tables}
 use Rattle.apdu_spelling.specs.Writing.{written_apdu, IsWritable}
 use Rattle.end_rules.specs.Base.{Base, Item}
-use Rattle.end_rules.specs.Messages.{DataValue, Word, OfData, OfMarks, DataWord, MarkWord, Values, AlterContext, AlterContextAck, Mark, MarkAck, Restart, RestartAck, Give, Please, GiveConfirm, GiveAck}
+use Rattle.end_rules.specs.Messages.{DataValue, Word, OfData, OfMarks, DataWord, MarkWord, Values, AlterContext, AlterContextAck, Mark, MarkAck, Restart, RestartAck, Give, Please, GiveConfirm, GiveAck, value_of_item}
 use Rattle.association_worlds.specs.association_wire.Values.{in_form}
 use Rattle.association_worlds.specs.association_wire.Written.{session_units, tsdu_of}
 use Rattle.association_worlds.specs.association_reading.Laws.{IsSendable}
@@ -21,7 +21,7 @@ use Rattle.transfer_spelling.specs.Laws.{IsModule}
 use Rattle.transfer_spelling.proofs.Writable.{transferables-writable}
 use Rattle.der_octets.specs.Laws.{AreOctets}
 use Rattle.said_words.specs.Fields.{IsContext, IsAlteration, AreAnswers}
-use Rattle.said_words.specs.Words.{IsRestart, value_of_item, IsOfData, IsOfMarks}
+use Rattle.said_words.specs.Words.{IsRestart, IsOfData, IsOfMarks}
 use Rattle.said_spellings.proofs.Session.{each-octet, numeral-are, Sayable, Written, alone, behind}
 use Rattle.said_spellings.proofs.Contents.{content-is, content-few}
 use Rattle.said_spellings.proofs.Ppdus.{content_length}

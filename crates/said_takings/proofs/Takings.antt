@@ -21,7 +21,7 @@ use Rattle.end_rules.specs.Base.{Base, Spellings, Fault, Item}
 use Rattle.end_rules.specs.Sets.{Alteration, is_fixed, below, next_number}
 use Rattle.osi_base.specs.SetPlaces.{pair_of}
 use Rattle.end_rules.specs.State.{Body, Sets, Calls, OpenCall, NoAnswer, opened_with, is_up, is_carrying, is_joined, passes_over}
-use Rattle.end_rules.specs.Messages.{Message, Transport, Session, TransportUnit, ConnectionRequest, ConnectionConfirm, DisconnectRequest, TransportError, DataValue, Accepting}
+use Rattle.end_rules.specs.Messages.{Message, Transport, Session, TransportUnit, ConnectionRequest, ConnectionConfirm, DisconnectRequest, TransportError, DataValue, Accepting, value_of_item}
 use Rattle.end_rules.specs.Messages.{Word, OfAssociation, OfData, OfMarks, OfActivities, Connect, Accept, Refuse, Finish, Disconnect, Abort, AbortAccept, Values, AlterContext, AlterContextAck, Mark, MarkAck, Restart, RestartAck, Give, Please, GiveConfirm, GiveAck, unit_of}
 use Rattle.end_rules.specs.Writing.{acse_pair, session_connect, presentation_connect, connect_values, user_abort, proposals}
 use Rattle.end_rules.specs.Hearing.{Rejecting, with_reject, sent_on, hear, head_of_apdu}
@@ -64,7 +64,7 @@ use Rattle.reliable_model.proofs.Firm.{IsLoose, OwnSpares, OpensLoose, on-module
 use Rattle.reliable_model.proofs.OnWay.{took-unit, SharedHas, AnswersHave, all-answered_has}
 use Rattle.said_words.proofs.Lists.{few-identifiers}
 use Rattle.said_words.specs.Calls.{IsCall, AreCalls}
-use Rattle.said_words.specs.Words.{value_of_item, the_connect, the_acceptance, IsWord, IsUnit, IsMessage, AreMessages}
+use Rattle.said_words.specs.Words.{the_connect, the_acceptance, IsWord, IsUnit, IsMessage, AreMessages}
 use Rattle.said_words.proofs.First.{first_of, first-pair, none-refused}
 use Rattle.said_words.proofs.Sharing.{no-own, sets-there}
 use Rattle.said_words.proofs.Worlds.{coming-said, called-said, all-said}

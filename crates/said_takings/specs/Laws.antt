@@ -4,7 +4,7 @@ use Rattle.dialogue.specs.declared.config.Config.{Config}
 use Rattle.dialogue.specs.declared.indication.Indication.{Indication}
 use Rattle.stub_tables.specs.declared.tables.Tables.{Tables}
 use Rattle.end_rules.specs.Base.{Base, Spellings, Item}
-use Rattle.end_rules.specs.Messages.{Message, Word, OfAssociation, OfData, OfMarks, Finish, Disconnect, Values, Please, Session}
+use Rattle.end_rules.specs.Messages.{Message, Word, OfAssociation, OfData, OfMarks, Finish, Disconnect, Values, Please, Session, value_of_item}
 use Rattle.osi_base.specs.SetPlaces.{pair_of}
 use Rattle.end_rules.specs.State.{Body}
 use Rattle.end_rules.specs.Reacting.{Takes, react}
@@ -19,7 +19,7 @@ use Rattle.reliable_model.specs.Codecs.{Carries}
 use Rattle.reliable_model.specs.Ledgers.{Ledger}
 use Rattle.reliable_model.specs.ReliableEnds.{reliable_common, IsFit}
 use Rattle.said_words.specs.Calls.{Speaks}
-use Rattle.said_words.specs.Words.{rtse_pair, value_of_item}
+use Rattle.said_words.specs.Words.{rtse_pair}
 use Rattle.said_words.specs.Laws.{ProposesContexts}
 
 -- the APDU is on a context of the module, as the set has it

@@ -7,7 +7,7 @@ use Rattle.osi_base.specs.declared.syntax.Pair.{Pair}
 use Rattle.osi_base.specs.declared.layer_words.SetItem.{SetItem}
 use Rattle.osi_base.specs.declared.layer_words.Answers.{Answers}
 use Rattle.osi_base.specs.declared.acse_word.Acse.TheVariants as acse
-use Rattle.osi_base.specs.Limits.{most_marks, last_activity}
+use Rattle.osi_base.specs.Limits.{most_marks, last_serial}
 use Rattle.asn1_types.specs.declared.value.Val.{Val}
 use Rattle.stub_tables.specs.declared.tables.Tables.{Tables}
 use Rattle.stub_tables.specs.declared.apdu.Apdu.{Apdu}
@@ -135,13 +135,13 @@ HasStarted None started = Unit {0}
 HasStarted (Some t) started = 1 ≤ started
 
 pub record IsStarted (sending : Sending) : Type 0 where
-  pub high : sending.started ≤ last_activity
+  pub high : sending.started ≤ last_serial
   pub low : HasStarted sending.current sending.started
 
 same-started : (sending later : Sending) → later.started ≡ sending.started → later.current ≡ sending.current → IsStarted sending → IsStarted later
 same-started sending later n c s =
     record {
-      high = subst (λ (k : ℕ). k ≤ last_activity) (sym n) s.high;
+      high = subst (λ (k : ℕ). k ≤ last_serial) (sym n) s.high;
       low = subst (λ (x : Option Transfer). HasStarted x later.started) (sym c) (subst (HasStarted sending.current) (sym n) s.low);
     }
 
@@ -152,7 +152,7 @@ changed-started change sending s = go sending.current s.low
     go None h = record { high = s.high; low = tt }
     go (Some t) h = record { high = s.high; low = h }
 
-begun-started : (started : ℕ) (current : Option Transfer) (queue : List Queued) → suc started ≤ last_activity → IsStarted (begun (record { started = started; current = current; queue = queue }))
+begun-started : (started : ℕ) (current : Option Transfer) (queue : List Queued) → suc started ≤ last_serial → IsStarted (begun (record { started = started; current = current; queue = queue }))
 begun-started started current [] h = record { high = h; low = tt }
 begun-started started current (item ∷ items) h = record { high = h; low = omega arith }
 
@@ -401,16 +401,16 @@ module _ (free : Free) (tables : Tables) (spellings : Spellings) (a b : Config) 
     OwnSays role body own = RootedAndSaid role (after_step (base role) body (step_of own)) (own_messages own)
 
     -- the next activity has a number
-    starts-low : (role : Role) (body : Body) (own : OwnAct) (item : Queued) (items : List Queued) → body.sending.current ≡ None → body.sending.queue ≡ item ∷ items → next_in (base role) body body.sending.current ≡ Some own → suc body.sending.started ≤ last_activity
+    starts-low : (role : Role) (body : Body) (own : OwnAct) (item : Queued) (items : List Queued) → body.sending.current ≡ None → body.sending.queue ≡ item ∷ items → next_in (base role) body body.sending.current ≡ Some own → suc body.sending.started ≤ last_serial
     starts-low role body own item items e q next =
         let none : next_start (base role) body body.sending.queue ≡ Some own = subst (λ c. next_in (base role) body c ≡ Some own) e next in
         let there : next_start (base role) body (item ∷ items) ≡ Some own = subst (λ qs. next_start (base role) body qs ≡ Some own) q none in
-        go _ (is_some (carrier_in (base role) body item.context)) (nat_lt body.sending.started last_activity) refl there
+        go _ (is_some (carrier_in (base role) body item.context)) (nat_lt body.sending.started last_serial) refl there
       where
         less : (n : ℕ) → nat_lt n 999999 ≡ true → suc n ≤ 999999
         less n h = grind (arith, nat_tests)
 
-        go : (act : OwnAct) (x y : Bool) → nat_lt body.sending.started last_activity ≡ y → (if x && y then Some act else None) ≡ Some own → suc body.sending.started ≤ last_activity
+        go : (act : OwnAct) (x y : Bool) → nat_lt body.sending.started last_serial ≡ y → (if x && y then Some act else None) ≡ Some own → suc body.sending.started ≤ last_serial
         go act true true e h = less body.sending.started e
         go act true false e h = cc
         go act false y e h = cc

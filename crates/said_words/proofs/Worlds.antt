@@ -22,7 +22,7 @@ use Rattle.dialogue.specs.declared.indication.Indication.{Indication}
 use Rattle.end_model.specs.end_rules.Base.{Base, Spellings, Fault, Item}
 use Rattle.end_model.specs.end_rules.Sets.{Alteration, count_added, next_number, below, newest, listed}
 use Rattle.end_model.specs.end_rules.State.{Body, Calls, OpenCall, NoAnswer, Carrying, opened_with, is_up, is_carrying, is_joined, is_asked, is_unused, is_empty, is_free, passes_over}
-use Rattle.end_model.specs.end_rules.Messages.{Message, Transport, Session, TransportUnit, ConnectionRequest, ConnectionConfirm, DisconnectRequest, TransportError, Association, UserValues}
+use Rattle.end_model.specs.end_rules.Messages.{Message, Transport, Session, TransportUnit, ConnectionRequest, ConnectionConfirm, DisconnectRequest, TransportError, Association, UserValues, value_of_item}
 use Rattle.end_model.specs.end_rules.Messages.{Word, OfAssociation, OfData, OfMarks, OfActivities, Connect, Accept, Refuse, Finish, Disconnect, Abort, AbortAccept, Values, AlterContext, AlterContextAck, Mark, MarkAck, Restart, RestartAck, Give, Please, GiveConfirm, GiveAck, unit_of}
 use Rattle.end_model.specs.end_rules.Writing.{acse_pair, acse_context, session_connect, presentation_connect, connect_values, connect_message, is_recovering, user_abort, proposals}
 use Rattle.end_model.specs.end_rules.Hearing.{Rejecting, reject_apdu, with_reject, sent_on, hear, head_of_apdu}
@@ -56,7 +56,7 @@ use Rattle.reliable_model.proofs.FirmSteps.{in-place}
 use Rattle.reliable_model.proofs.Phases.{only-open, only-abort, over-calls}
 use Rattle.reliable_model.proofs.Opening.{First}
 use Rattle.said_words.specs.Calls.{IsCall, AreCalls}
-use Rattle.said_words.specs.Words.{IsRestart, value_of_item, the_connect, the_acceptance, the_disconnect, IsWord, IsUnit, IsMessage, AreMessages}
+use Rattle.said_words.specs.Words.{IsRestart, the_connect, the_acceptance, the_disconnect, IsWord, IsUnit, IsMessage, AreMessages}
 use Rattle.said_words.specs.Laws.{DirectSaysWords}
 use Rattle.said_words.proofs.Lists.{AreListed, IsHeld, AreMarks, AreAsked, altered-listed, altered-few, policy-few, count-append, asked-append, few-identifiers, next-low, next-high, newest-held, below-marks, marks-more, listed-restored, listed-few}
 use Rattle.said_words.proofs.Answers.{answers-so}

@@ -4,11 +4,11 @@ use Rattle.osi_base.specs.declared.syntax.Pair.{Pair}
 use Rattle.osi_base.specs.declared.syntax.Syntax.TheVariants.{Ber}
 use Rattle.osi_base.specs.declared.layer_words.RestoredItem.{RestoredItem}
 use Rattle.osi_base.specs.declared.acse_word.Acse.TheVariants as acse
-use Rattle.osi_base.specs.Limits.{most_marks, last_activity, most_contexts}
+use Rattle.osi_base.specs.Limits.{most_marks, last_serial, most_contexts}
 use Rattle.dialogue.specs.declared.config.Mode.{Mode}
 use Rattle.dialogue.specs.declared.config.Mode.TheVariants.{Bare, Direct, Reliable}
 use Rattle.end_model.specs.end_rules.Base.{Base, Item, rtse_name}
-use Rattle.end_model.specs.end_rules.Messages.{TransportUnit, ConnectionRequest, ConnectionConfirm, DisconnectRequest, TransportError, ValueContent, DataValue, Remote, Plea, Part, UserValues, Word, OfAssociation, OfData, OfMarks, OfActivities, AssociationWord, Connect, Accept, Refuse, Finish, Disconnect, Abort, AbortAccept, DataWord, Values, AlterContext, AlterContextAck, MarkWord, Mark, MarkAck, Restart, RestartAck, Give, Please, GiveConfirm, GiveAck, ActivityWord, Start, Resume, End, EndAck, Interrupt, InterruptAck, Discard, DiscardAck, Message, Transport, Session}
+use Rattle.end_model.specs.end_rules.Messages.{TransportUnit, ConnectionRequest, ConnectionConfirm, DisconnectRequest, TransportError, ValueContent, DataValue, Plea, Part, UserValues, Word, OfAssociation, OfData, OfMarks, OfActivities, AssociationWord, Connect, Accept, Refuse, Finish, Disconnect, Abort, AbortAccept, DataWord, Values, AlterContext, AlterContextAck, MarkWord, Mark, MarkAck, Restart, RestartAck, Give, Please, GiveConfirm, GiveAck, ActivityWord, Start, Resume, End, EndAck, Interrupt, InterruptAck, Discard, DiscardAck, Message, Transport, Session, value_of_item}
 use Rattle.end_model.specs.end_rules.Writing.{acse_value, session_connect, presentation_connect, connect_values}
 use Rattle.end_model.specs.end_rules.Connecting.{acceptance_message}
 use Rattle.said_words.specs.Fields.{IsContext, IsAlteration, AreAnswers, AreRestored}
@@ -26,9 +26,6 @@ pub record IsRestart (number : ℕ) (list : Option (List RestoredItem)) : Type 0
   pub count : length items ≤ most_contexts
 
 -- ---- data: one APDU on a context
-
-abbrev pub value_of_item : Item → DataValue
-value_of_item item = record { id = item.id; pair = Some item.pair; content = Remote item.apdu }
 
 pub record IsData (base : Base) (values : List DataValue) : Type 0 where
   pub item : Item
@@ -129,7 +126,7 @@ IsOfTurn GiveConfirm = Unit {0}
 IsOfTurn GiveAck = Unit {0}
 
 abbrev pub IsActivityNumber : ℕ → Type 0
-IsActivityNumber activity = (1 ≤ activity) × (activity ≤ last_activity)
+IsActivityNumber activity = (1 ≤ activity) × (activity ≤ last_serial)
 
 -- the number of an end is one that the next mark would have
 abbrev pub IsOfActivity : ActivityWord → Type 0

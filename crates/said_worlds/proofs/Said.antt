@@ -9,7 +9,7 @@ use Rattle.end_rules.specs.Base.{Base, Item, acse_name}
 use Rattle.end_rules.specs.Sets.{same_name, fit_proposals}
 use Rattle.osi_base.specs.SetPlaces.{pair_of}
 use Rattle.end_rules.specs.State.{Body, is_carrying, is_joined}
-use Rattle.end_rules.specs.Messages.{Message, Transport, Session, DataValue, Word, OfAssociation, OfData, OfMarks, OfActivities, AssociationWord, Connect, Accept, Refuse, Finish, Disconnect, Abort, AbortAccept, Values, AlterContext, AlterContextAck, Mark, MarkAck, Restart, RestartAck, Give, Please, GiveConfirm, GiveAck, unit_of}
+use Rattle.end_rules.specs.Messages.{Message, Transport, Session, DataValue, Word, OfAssociation, OfData, OfMarks, OfActivities, AssociationWord, Connect, Accept, Refuse, Finish, Disconnect, Abort, AbortAccept, Values, AlterContext, AlterContextAck, Mark, MarkAck, Restart, RestartAck, Give, Please, GiveConfirm, GiveAck, unit_of, value_of_item}
 use Rattle.end_rules.specs.Writing.{acse_context, proposals, session_connect, presentation_connect, connect_values}
 use Rattle.end_rules.specs.Policy.{opening_policy}
 use Rattle.end_rules.specs.Connecting.{has_acse}
@@ -36,7 +36,7 @@ use Rattle.transfer_laws.proofs.Configs.{identifiers-right}
 use Rattle.said_spellings.specs.association_worlds.InTransit.{AreCarried}
 use Rattle.said_words.specs.Calls.{Speaks}
 use Rattle.said_words.specs.Laws.{ProposesContexts}
-use Rattle.said_words.specs.Words.{IsWord, AreMessages, IsOfAssociation, value_of_item, the_connect, the_acceptance}
+use Rattle.said_words.specs.Words.{IsWord, AreMessages, IsOfAssociation, the_connect, the_acceptance}
 use Rattle.said_words.proofs.First.{first_of, first-pair, first-acse, first-context}
 use Rattle.said_words.proofs.Worlds.{direct-says}
 use Rattle.said_takings.specs.Laws.{IsTaken}

@@ -17,8 +17,8 @@ second_none None b e = e
 second_none (Some r) b e = absurd (let no : ⊥ = cc in no)
 
 -- of its values no row holds
-pub fine_values : (c : Config) → config_refusal c ≡ None → values.config_refusal c ≡ None
-fine_values c e = second_none _ (values.config_refusal c) (first_none _ (late_refusal c) e)
+pub fine_values : (c : Config) → config_refusal c ≡ None → values.bare_config_refusal c ≡ None
+fine_values c e = second_none _ (values.bare_config_refusal c) (first_none _ (late_refusal c) e)
 
 pub bare_common : (a b : Config) → Meet a b → a.mode ≡ Bare → IsBare true a × IsBare false b
 bare_common a b m e = (

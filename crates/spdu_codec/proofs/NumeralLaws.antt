@@ -4,7 +4,7 @@ use Rattle.std.specs.Int.Digits.{digits_of, number_from_digits_after, AllBelowBa
 use Rattle.std.proofs.lemmas.Bool.{le-ltb, cases_Bool}
 use Rattle.std.proofs.lemmas.List.{map_push}
 use Rattle.std.proofs.lemmas.Int.Digits.{digits_of_step, all_below_base_digits_of, first_digits_of, number_after_ge, number_digits_of}
-use Rattle.osi_base.specs.Limits.{last_activity}
+use Rattle.osi_base.specs.Limits.{last_serial}
 use Rattle.spdu_codec.specs.Values.{more_digits, number_of, mark_of}
 use Rattle.spdu_codec.specs.Written.{numeral, mark_numeral}
 
@@ -43,7 +43,7 @@ first_read : (ds : List ℕ) → 0 < get_or ds 0 0 → more_digits 0 (map (λ d.
 first_read [] first = absurd (omega arith)
 first_read (d ∷ ds) first = (let e : (d + 48 == 48) ≡ false = other (d + 48) 48 (λ f. omega (arith, f, first)) in rw e refl)
 
-pub number_again : (n : ℕ) → 0 < n → n ≤ last_activity → number_of (numeral n) ≡ Some n
+pub number_again : (n : ℕ) → 0 < n → n ≤ last_serial → number_of (numeral n) ≡ Some n
 number_again n some le =
     let is = number_digits_of 10 n (omega arith) in
     sym (first_read (digits_of 10 n) (first_digits_of 10 n (omega arith) some)) ∙ digits_read 0 (digits_of 10 n) (all_below_base_digits_of 10 n (omega arith)) (omega (arith, is, le)) ∙ ap as_some is
@@ -57,7 +57,7 @@ mark_is_number (d ∷ []) n some e = go (d == 48) refl
     go false f = e
 mark_is_number (d ∷ x ∷ ds) n some e = e
 
-pub mark_again : (n : ℕ) → n ≤ last_activity → mark_of (mark_numeral n) ≡ Some n
+pub mark_again : (n : ℕ) → n ≤ last_serial → mark_of (mark_numeral n) ≡ Some n
 mark_again n le =
     elim (cases_Bool (n == 0)) [
       | inl e ↦ subst (λ (k : ℕ). mark_of (mark_numeral k) ≡ Some k) (sym (eq_is n 0 e)) refl

@@ -7,7 +7,7 @@ use Rattle.std.proofs.lemmas.List.{append-nil, length-append}
 use Rattle.osi_base.specs.declared.session_word.SessionConnect.{SessionConnect}
 use Rattle.osi_base.specs.declared.session_word.SessionWord.{SessionWord}
 use Rattle.osi_base.specs.declared.session_word.SessionWord.TheVariants as words
-use Rattle.osi_base.specs.Limits.{last_activity}
+use Rattle.osi_base.specs.Limits.{last_serial}
 use Rattle.spdu_codec.specs.declared.kind.SpduKind.{SpduKind}
 use Rattle.spdu_codec.specs.declared.kind.SpduKind.TheVariants as kinds
 use Rattle.spdu_codec.specs.declared.parameters.Slot.{Slot}
@@ -409,7 +409,7 @@ same_number n = grind arith
 abbrev linked : ℕ → ℕ → Parameters
 linked activity mark = record none_yet { linking = true; old_activity = Some activity; old_mark = Some mark }
 
-linking_inside : (activity mark : ℕ) → IsNumber activity → mark ≤ last_activity → AllPut ItemPut linking_table ((41, numeral activity) ∷ (42, mark_numeral mark) ∷ []) (record none_yet { linking = true }) (linked activity mark)
+linking_inside : (activity mark : ℕ) → IsNumber activity → mark ≤ last_serial → AllPut ItemPut linking_table ((41, numeral activity) ∷ (42, mark_numeral mark) ∷ []) (record none_yet { linking = true }) (linked activity mark)
 linking_inside activity mark h le =
     let p : Parameters = record none_yet { linking = true } in
     let q : Parameters = record p { old_activity = Some activity } in

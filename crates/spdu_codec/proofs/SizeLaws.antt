@@ -8,7 +8,7 @@ use Rattle.std.proofs.lemmas.Int.Digits.{length-digits_of-le}
 use Rattle.osi_base.specs.declared.session_word.SessionConnect.{SessionConnect}
 use Rattle.osi_base.specs.declared.session_word.SessionWord.{SessionWord}
 use Rattle.osi_base.specs.declared.session_word.SessionWord.TheVariants as words
-use Rattle.osi_base.specs.Limits.{last_activity}
+use Rattle.osi_base.specs.Limits.{last_serial}
 use Rattle.spdu_codec.specs.Written.{written_length, coded, spelled, optional, group, octet, pair, numeral, mark_numeral, connect_data, identifier_items, connect_items, accept_items, reason_value, connection_parameters, transfer_parameters, parameters_written, IsNumber, AreFields, length_of, octets_in}
 use Rattle.spdu_codec.proofs.SpellingLaws.{spelled-append}
 
@@ -38,10 +38,10 @@ octet_size code o = value_size octet 1 code o (λ x _. omega arith)
 pair_size : (code : ℕ) (o : Option ℕ) → length (spelled (optional code (option_map pair o))) ≤ 6
 pair_size code o = value_size pair 2 code o (λ x _. omega arith)
 
-numeral_size : (n : ℕ) → n ≤ last_activity → length (numeral n) ≤ 6
+numeral_size : (n : ℕ) → n ≤ last_serial → length (numeral n) ≤ 6
 numeral_size n le = omega (arith, length-digits_of-le 10 6 n (omega arith) (omega arith), length-map (digits_of 10 n) (λ d. d + 48))
 
-mark_size : (n : ℕ) → n ≤ last_activity → length (mark_numeral n) ≤ 6
+mark_size : (n : ℕ) → n ≤ last_serial → length (mark_numeral n) ≤ 6
 mark_size n le = go (n == 0)
   where
     go : (b : Bool) → length (cond b (48 ∷ []) (numeral n)) ≤ 6
@@ -107,7 +107,7 @@ reason_size reason (Some user) = omega (arith, value_size (reason_value (Some us
 one_number : (code n : ℕ) → IsNumber n → length (spelled ((code, numeral n) ∷ [])) ≤ 10
 one_number code n h = omega (arith, one_size code (numeral n), numeral_size n h.1)
 
-resume_size : (activity mark : ℕ) → IsNumber activity → mark ≤ last_activity → length (spelled (transfer_parameters (words.ActivityResume activity mark))) ≤ 80
+resume_size : (activity mark : ℕ) → IsNumber activity → mark ≤ last_serial → length (spelled (transfer_parameters (words.ActivityResume activity mark))) ≤ 80
 resume_size activity mark h le =
     let a : List (ℕ × List ℕ) = (41, numeral activity) ∷ [] in
     let m : List (ℕ × List ℕ) = (42, mark_numeral mark) ∷ [] in

@@ -1,6 +1,6 @@
 -- The values of parameters (X.225 8.3).
 use Rattle.std.specs.Prelude.{ℕ, ◌+◌, ◌-◌, ◌*◌, ◌==◌, ◌||◌, List, [], ◌∷◌, Option, Some, None, nat_lt, if◌then◌else◌}
-use Rattle.osi_base.specs.Limits.{last_activity}
+use Rattle.osi_base.specs.Limits.{last_serial}
 
 -- one octet
 abbrev pub octet_of : List ℕ → Option ℕ
@@ -18,7 +18,7 @@ pair_of (high ∷ low ∷ x ∷ xs) = None
 -- the number that more digits make of a number, up to the last number of an activity
 unfoldable pub more_digits : ℕ → List ℕ → Option ℕ
 more_digits number [] = Some number
-more_digits number (d ∷ ds) = if nat_lt d 48 || nat_lt 57 d || nat_lt last_activity (10 * number + (d - 48)) then None else more_digits (10 * number + (d - 48)) ds
+more_digits number (d ∷ ds) = if nat_lt d 48 || nat_lt 57 d || nat_lt last_serial (10 * number + (d - 48)) then None else more_digits (10 * number + (d - 48)) ds
 
 -- decimal digits without a leading zero, 1 to 999,999
 abbrev pub number_of : List ℕ → Option ℕ

@@ -6,7 +6,7 @@ use Rattle.std.specs.Int.Digits.{digits_of}
 use Rattle.osi_base.specs.declared.session_word.SessionConnect.{SessionConnect}
 use Rattle.osi_base.specs.declared.session_word.SessionWord.{SessionWord}
 use Rattle.osi_base.specs.declared.session_word.SessionWord.TheVariants.{Connect, Accept, Refuse, Finish, Disconnect, Abort, AbortAccept, GiveTokens, PleaseTokens, GiveTokensConfirm, GiveTokensAck, TypedData, Data, Mark, MarkAck, Resynchronize, ResynchronizeAck, ActivityStart, ActivityResume, ActivityInterrupt, ActivityInterruptAck, ActivityDiscard, ActivityDiscardAck, ActivityEnd, ActivityEndAck}
-use Rattle.osi_base.specs.Limits.{last_activity, most_connect_data, most_short_data, past_two_octets}
+use Rattle.osi_base.specs.Limits.{last_serial, most_connect_data, most_short_data, past_two_octets}
 
 -- a length below 65,536, in one octet where it can be
 abbrev pub written_length : ℕ → List ℕ
@@ -143,7 +143,7 @@ units_written words = flat_map unit_written words
 
 -- a serial number of a mark, or an activity's number
 abbrev pub IsNumber : ℕ → Type 0
-IsNumber n = (0 < n) × (n ≤ last_activity)
+IsNumber n = (0 < n) × (n ≤ last_serial)
 
 -- user data of a refusal stand behind the code 2, and there are some
 abbrev pub IsRefusal : Option ℕ → Option (List ℕ) → Type 0
@@ -161,7 +161,7 @@ AreFields (MarkAck number) = IsNumber number
 AreFields (Resynchronize number user) = IsNumber number
 AreFields (ResynchronizeAck number user) = IsNumber number
 AreFields (ActivityStart activity) = IsNumber activity
-AreFields (ActivityResume activity mark) = IsNumber activity × (mark ≤ last_activity)
+AreFields (ActivityResume activity mark) = IsNumber activity × (mark ≤ last_serial)
 AreFields (ActivityEnd number) = IsNumber number
 AreFields (ActivityEndAck number) = IsNumber number
 AreFields _ = Unit {0}

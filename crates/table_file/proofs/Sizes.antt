@@ -8,9 +8,10 @@ use Rattle.std.proofs.lemmas.Bool.Decides.{nat_tests}
 use Rattle.asn1_types.specs.declared.row.TypeRow.{TypeRow}
 use Rattle.asn1_types.specs.Value.{integer, object_id}
 use Rattle.osi_base.specs.Oid.{IsOid, starts_well}
+use Rattle.asn1_types.specs.Writing.{subidentifiers}
 use Rattle.ber_spelling.specs.Primitives.{is_padded}
 use Rattle.packed_codec.specs.Numbers.{unpadded, integer_octets}
-use Rattle.packed_codec.specs.ObjectIds.{digits_128, without_zeros, base_128, subidentifiers, arcs_octets}
+use Rattle.packed_codec.specs.ObjectIds.{digits_128, without_zeros, base_128, arcs_octets}
 use Rattle.packed_codec.specs.Writing.{packed}
 use Rattle.table_file.specs.FieldTypes.{field_types}
 

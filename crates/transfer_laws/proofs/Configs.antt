@@ -62,7 +62,7 @@ none-bad (Some id) count h = cc
 pub identifiers-right : (config : Config) → config_refusal config ≡ None → list_any is_no_context (1 ∷ 3 ∷ proposed_ids config.contexts) ≡ false
 identifiers-right config h =
     right-ids config.mode [] config.contexts
-    (none-bad (bad_context config.mode [] config.contexts) (length config.contexts) (none-first (context_refusal (bad_context config.mode [] config.contexts) (length config.contexts)) (values.config_refusal config) (early config h)))
+    (none-bad (bad_context config.mode [] config.contexts) (length config.contexts) (none-first (context_refusal (bad_context config.mode [] config.contexts) (length config.contexts)) (values.bare_config_refusal config) (early config h)))
 
 -- ---- the window
 
@@ -74,7 +74,7 @@ ladder false false false x y z h = refl
 
 pub has-window : (config : Config) → config_refusal config ≡ None → 1 ≤ config.window
 has-window config h =
-    let v = none-second (context_refusal (bad_context config.mode [] config.contexts) (length config.contexts)) (values.config_refusal config) (early config h) in
+    let v = none-second (context_refusal (bad_context config.mode [] config.contexts) (length config.contexts)) (values.bare_config_refusal config) (early config h) in
     let w = ladder (is_bad_selector config.calling || is_bad_selector config.called) (is_bad_reference config.reference config.common) (is_bad_window config.checkpoint config.window) _ _ _ v in
     some config.window (or-right (nat_lt 255 config.checkpoint) (nat_eq config.window 0) (or-left (nat_lt 255 config.checkpoint || nat_eq config.window 0) (nat_lt 255 config.window) w))
   where

@@ -148,7 +148,7 @@ module _ (tables : Tables) (readable : IsReadable tables) where
       go None h = absurd h
       go (Some of) h = subst Are (sym h.are) (packed-octets tables.types of.0 v readable.types h.fit)
 
-  returned-are : (limit : ℕ) (r : Option Returned) (o : Option heads.Outcome) (id : ℤ) → ReturnedAs tables Packed limit r o → Are (heads.carried (heads.result id o))
+  returned-are : (limit : ℕ) (r : Option Returned) (o : Option heads.ReturnedOctets) (id : ℤ) → ReturnedAs tables Packed limit r o → Are (heads.carried (heads.result id o))
   returned-are limit None None id h = refl
   returned-are limit None (Some o) id h = absurd h
   returned-are limit (Some r) None id h = absurd h

@@ -39,8 +39,8 @@ pub data Happened {X Y : Type 0} (p : Conduct X) (q : Conduct Y) : Event → Ent
       → Happened p q events.Break entries.Break a b a_after b_after
 
 -- From these two ends, the events made these entries one after the other, and changed the ends so.
-pub data Passed {X Y : Type 0} (p : Conduct X) (q : Conduct Y) (a : X) (b : Y) : List Event → List Entry → X → Y → Type 0 where
-  nothing_yet : Passed p q a b [] [] a b
+pub data AllHappened {X Y : Type 0} (p : Conduct X) (q : Conduct Y) (a : X) (b : Y) : List Event → List Entry → X → Y → Type 0 where
+  nothing_yet : AllHappened p q a b [] [] a b
   one_more : {all : List Event} {told : List Entry} {a_then : X} {b_then : Y} {a_after : X} {b_after : Y} (event : Event) (entry : Entry)
-      → Passed p q a b all told a_then b_then → Happened p q event entry a_then b_then a_after b_after
-      → Passed p q a b (all ++ event ∷ []) (told ++ entry ∷ []) a_after b_after
+      → AllHappened p q a b all told a_then b_then → Happened p q event entry a_then b_then a_after b_after
+      → AllHappened p q a b (all ++ event ∷ []) (told ++ entry ∷ []) a_after b_after

@@ -2,7 +2,7 @@
 
 ghost use Rattle.std.specs.Prelude.{IfOk};
 ghost use Rattle.dialogue.specs.declared.event.Event.TheVariants as the_events;
-ghost use Rattle.two_ends.specs.Events.{AnsweredAt, CarriedOver, CarriedFrom, Happened, Passed};
+ghost use Rattle.two_ends.specs.Events.{AnsweredAt, CarriedOver, CarriedFrom, Happened, AllHappened};
 
 use crate::giving::give_octets;
 use crate::run_end::RunEnd;
@@ -134,7 +134,7 @@ pub fn run_events<R, A: RunEnd<R>, B: RunEnd<R>>(
     b: &mut B,
     events: &Events,
 ) -> Result<Entries, NoMemory>
-    ensures { IfOk result (λ entries. Passed A.conduct B.conduct a.old b.old events.now entries
+    ensures { IfOk result (λ entries. AllHappened A.conduct B.conduct a.old b.old events.now entries
         a.new b.new) }
 {
     let mut entries = ListOf::new(alloc);

@@ -1,5 +1,5 @@
 use Rattle.std.proofs.Common.{length}
-use Rattle.module_contents.specs.Said.{room_in}
+use Rattle.end_wire.specs.Heads.{room_in}
 use Rattle.module_contents.proofs.Missing.{no_row, not_there}
 use Rattle.module_contents.proofs.module_values.some_row_value.Goals as goal
 

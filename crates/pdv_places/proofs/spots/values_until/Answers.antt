@@ -3,7 +3,7 @@ use Rattle.std.proofs.lemmas.List.{append-nil}
 use Rattle.std.proofs.lemmas.Grind.{common_steps}
 use Rattle.ber_spelling.specs.Reading as readings
 use Rattle.association_reading.specs.Places as reading
-use Rattle.pdv_places.specs.Seen.{spot_of, AllFit}
+use Rattle.pdv_places.specs.Seen.{spot_of, HaveSmallPlaces}
 use Rattle.pdv_places.proofs.Fitting.{fit_on, map_on, until_done, until_more}
 use Rattle.pdv_places.proofs.spots.values_until.Goals as goal
 
@@ -33,5 +33,5 @@ loop-turn-preserved c =
           ∙ ap (λ (t : List readings.Spot). found ++ t) (sym more)
           ∙ c.loop-turn.invariant.going;
       fits = c.behind_value-at.ensures.fit;
-      all = subst AllFit (sym items) (fit_on c.loop-turn.values.items c.loop-turn.at c.loop-turn.invariant.all c.loop-turn.invariant.fits);
+      all = subst HaveSmallPlaces (sym items) (fit_on c.loop-turn.values.items c.loop-turn.at c.loop-turn.invariant.all c.loop-turn.invariant.fits);
     }

@@ -1,5 +1,5 @@
 use Rattle.std.proofs.Common.{length}
-use Rattle.rose_roles.specs.Heads.{room_in}
+use Rattle.end_wire.specs.Heads.{room_in}
 use Rattle.rose_roles.proofs.Rows.{no_row, not_there}
 use Rattle.rose_roles.proofs.values.row_value.Goals as goal
 

@@ -1,6 +1,7 @@
 use Rattle.std.proofs.Common.{refl, ap, sym, ◌∙◌}
+use Rattle.end_rules.specs.Invoking.{is_memory}
 use Rattle.association_end.specs.View.{EndView}
-use Rattle.association_end.specs.Called.{is_memory, BeganCall, DiedCalled}
+use Rattle.association_end.specs.Called.{BeganCall, DiedCalled}
 use Rattle.association_end.proofs.Inside.{view_in}
 use Rattle.association_end.proofs.Sounds.{sound_dead}
 use Rattle.association_end.proofs.Calls.{died_called, dead_so, alive_so}

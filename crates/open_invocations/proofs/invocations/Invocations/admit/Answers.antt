@@ -1,6 +1,6 @@
 use Rattle.std.proofs.Common.{◌≡◌, None, true, false, sym, ap, subst, ◌∙◌}
 use Rattle.rose_roles.specs.end_rules.State.{Calls, opened_with}
-use Rattle.rose_roles.specs.end_rules.Hearing.{opening}
+use Rattle.rose_roles.specs.end_rules.Hearing.{with_opened}
 use Rattle.rose_roles.specs.Calls.{Performing, called, calls_of}
 use Rattle.open_invocations.specs.Invocations.{AreKept, is_link_back}
 use Rattle.open_invocations.proofs.Kept.{shut_is, link_back_is, admitted_kept, on_ok}
@@ -30,5 +30,5 @@ returns-clause-admitted c =
     on_ok c.admit.result c.admit.ensures.admitted
     (λ opened base same.
     opened base i.invoker same
-    ∙ ap (λ (x : Performing). opening base (record { own = false; id = c.args.id.now; operation = c.args.called.operation; context = x.context; parent = c.args.linked }) (calls_of i.forest i.invoker x.kept)) c.set_context.ensures
-    ∙ ap (opening base (record { own = false; id = c.args.id.now; operation = c.args.called.operation; context = c.args.called.context; parent = c.args.linked })) c.self.view_is)
+    ∙ ap (λ (x : Performing). with_opened base (record { own = false; id = c.args.id.now; operation = c.args.called.operation; context = x.context; parent = c.args.linked }) (calls_of i.forest i.invoker x.kept)) c.set_context.ensures
+    ∙ ap (with_opened base (record { own = false; id = c.args.id.now; operation = c.args.called.operation; context = c.args.called.context; parent = c.args.linked })) c.self.view_is)
