@@ -39,7 +39,7 @@ abbrev pub null_fits : Value → Bool
 null_fits null = true
 null_fits v = false
 
--- arcs have 32 bits
+-- a number of 32 bits, as arcs and the identifiers of contexts have
 abbrev pub has_32_bits : ℕ → Bool
 has_32_bits n = nat_lt n (2 ^ 32)
 

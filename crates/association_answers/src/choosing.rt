@@ -7,7 +7,7 @@ ghost use Rattle.end_rules.specs.Altering.{used};
 ghost use Rattle.end_rules.specs.Policy.{answer_to_deletion, policy};
 ghost use Rattle.association_calls.specs.association_state.Seen.{base_in, seen};
 
-use association_calls::association_state_layer::{Body, Ground};
+use association_calls::association_state_layer::{Body, Basis};
 use association_calls::contexts_in_use;
 use association_ground::is_among;
 use association_sends::set_rules_layer::answers_to_additions;
@@ -59,7 +59,7 @@ fn contexts_counted(body: &Body) -> usize
 /// The answers to a peer's alteration; the own additions that aren't answered count too.
 #[tactic(auto, using(crate::proofs::Counted::capped))]
 pub fn alteration_answers(
-    basis: &Ground<'_>,
+    basis: &Basis<'_>,
     body: &Body,
     asked: &Alteration,
 ) -> Result<Answers, NoMemory>

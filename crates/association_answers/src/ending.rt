@@ -10,7 +10,7 @@ ghost use Rattle.association_answers.specs.BroughtAs.{FailsAs};
 
 use crate::brought::{Messages, Reaction, one_message};
 use crate::telling::push_cuts;
-use association_calls::association_state_layer::{Body, Ground};
+use association_calls::association_state_layer::{Body, Basis};
 use association_sends::abort_of;
 use association_sends::association_words_layer::Fault;
 use dialogue::{Indication, Indications, Phase};
@@ -69,7 +69,7 @@ fn shown_at(
 /// Ends the association for a fault by an own abort, which goes on these contexts. What the fault
 /// tells is shown first, and is no longer in the fault that is answered.
 pub fn fail_association(
-    basis: &Ground<'_>,
+    basis: &Basis<'_>,
     body: &mut Body,
     accepted: &[SetItem],
     fault: Fault,

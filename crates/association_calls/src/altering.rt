@@ -12,12 +12,12 @@ use association_state::association_ground_layer::{is_among, is_reliable};
 use association_state::association_sets_layer::{
     Alteration, count_added, has_parity, is_bad_alteration, is_fixed, is_named_in,
 };
-use association_state::{Body, Ground};
+use association_state::{Body, Basis};
 use dialogue::CallRefusal;
 use osi_base::{NoMemory, Proposal, pair_of};
 
 /// Why one addition is refused.
-fn addition_refusal(basis: &Ground<'_>, body: &Body, id: u32) -> Option<CallRefusal>
+fn addition_refusal(basis: &Basis<'_>, body: &Body, id: u32) -> Option<CallRefusal>
     ensures { result ≡ addition_refusal (base_in basis.now) (seen body.now) id }
 {
     if !has_parity(basis.config.initiator, id) {
@@ -53,7 +53,7 @@ fn deletion_refusal(body: &Body, in_use: &[u32], id: u32) -> Option<CallRefusal>
 }
 
 /// The first refusal of an addition.
-fn additions_refusal(basis: &Ground<'_>, body: &Body, add: &[Proposal]) -> Option<CallRefusal>
+fn additions_refusal(basis: &Basis<'_>, body: &Body, add: &[Proposal]) -> Option<CallRefusal>
     ensures { result ≡ additions_refusal (base_in basis.now) (seen body.now) add.now }
 {
     for proposal in add {
@@ -90,7 +90,7 @@ fn is_set_full(body: &Body, asked: &Alteration) -> bool
 
 /// Why an alteration is refused that isn't bad.
 fn alteration_refusal(
-    basis: &Ground<'_>,
+    basis: &Basis<'_>,
     body: &Body,
     asked: &Alteration,
 ) -> Result<Option<CallRefusal>, NoMemory>
@@ -111,7 +111,7 @@ fn alteration_refusal(
 }
 
 /// Whether an alteration may be asked for.
-pub fn can_alter(basis: &Ground<'_>, body: &Body, asked: &Alteration) -> Reply
+pub fn can_alter(basis: &Basis<'_>, body: &Body, asked: &Alteration) -> Reply
     ensures { Replies (can_alter (base_in basis.now) (seen body.now) asked.now) result }
 {
     if !body.link.manages {

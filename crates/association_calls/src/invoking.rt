@@ -16,7 +16,7 @@ use association_state::apdu_codec_layer::is_too_long_with;
 use association_state::association_ground_layer::{is_direct, is_reliable};
 use association_state::association_sets_layer::{has_abstract, is_deleted_in};
 use association_state::rose_roles_layer::{invoke_apdu, is_linked_to};
-use association_state::{Body, Ground};
+use association_state::{Body, Basis};
 use dialogue::CallRefusal;
 use osi_base::pair_of;
 use stub_tables::{Apdu, Operation};
@@ -42,14 +42,14 @@ pub struct Making {
 }
 
 /// Whether an own restart that isn't answered stops invocations and outcomes.
-pub(crate) fn is_stopped(basis: &Ground<'_>, body: &Body) -> bool
+pub(crate) fn is_stopped(basis: &Basis<'_>, body: &Body) -> bool
     ensures { result ≡ is_stopped (base_in basis.now) (seen body.now) }
 {
     is_direct(basis.config.mode) && !body.link.awaits.is_free()
 }
 
 /// Whether the queue of transfers is full.
-pub(crate) fn is_queue_full(basis: &Ground<'_>, body: &Body) -> bool
+pub(crate) fn is_queue_full(basis: &Basis<'_>, body: &Body) -> bool
     ensures { result ≡ is_queue_full (base_in basis.now) (seen body.now) }
 {
     is_reliable(basis.config.mode) && body.sending.queue.len() >= MOST_QUEUED
@@ -63,7 +63,7 @@ fn next_id(body: &Body) -> i64
 }
 
 /// Whether the identifier is in the set, with the module's abstract syntax.
-fn is_on_module(basis: &Ground<'_>, body: &Body, context: u32) -> bool
+fn is_on_module(basis: &Basis<'_>, body: &Body, context: u32) -> bool
     ensures { result ≡ is_on_module (base_in basis.now) (seen body.now) context }
 {
     has_abstract(
@@ -74,7 +74,7 @@ fn is_on_module(basis: &Ground<'_>, body: &Body, context: u32) -> bool
 
 /// Why an invocation may not be linked so.
 fn linking_refusal(
-    basis: &Ground<'_>,
+    basis: &Basis<'_>,
     body: &Body,
     place: u32,
     linked: Option<i64>,
@@ -94,7 +94,7 @@ fn linking_refusal(
 }
 
 /// Why there is no room or no number for one more invocation of an operation.
-fn room_refusal(basis: &Ground<'_>, body: &Body, operation: &Operation) -> Option<CallRefusal>
+fn room_refusal(basis: &Basis<'_>, body: &Body, operation: &Operation) -> Option<CallRefusal>
     ensures { IsRoomy (base_in basis.now) (seen body.now) operation.now result }
 {
     if !operation.is_silent() && body.calls.own_count() >= MOST_OPEN {
@@ -112,7 +112,7 @@ fn room_refusal(basis: &Ground<'_>, body: &Body, operation: &Operation) -> Optio
 /// The APDU of the next invocation of an operation of the module on a context of it, linked as it
 /// may be. The operation says how its argument is used, so its code isn't looked up.
 fn check_send(
-    basis: &Ground<'_>,
+    basis: &Basis<'_>,
     body: &Body,
     operation: &Operation,
     argument: &Option<Val>,
@@ -144,7 +144,7 @@ fn check_send(
 /// The APDU of the next invocation, or why it may not be made.
 #[tactic(auto, using(crate::proofs::Uses::own_operation))]
 pub fn check_invoke(
-    basis: &Ground<'_>,
+    basis: &Basis<'_>,
     body: &Body,
     making: Making,
     argument: &Option<Val>,

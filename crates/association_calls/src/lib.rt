@@ -22,7 +22,7 @@ pub use invoking::{Making, check_invoke};
 pub use marks::{can_give, can_mark, can_please, can_restart, has_activity};
 pub use outcomes::{carrier_in, check_answer, check_refuse};
 pub use rows::check_phase;
-pub use transfers::{can_release, can_resume, can_stop, has_item};
+pub use transfers::{can_release, can_resume, can_stop, has_transfer};
 pub use units::{
     has_activities, has_marks, has_restarts, has_token, has_typed_data, has_units, has_version_two,
     manages_with, needed_units, selected_with,

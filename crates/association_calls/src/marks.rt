@@ -7,14 +7,14 @@ ghost use Rattle.association_state.specs.Seen.{base_in, seen};
 use crate::Reply;
 use crate::units::{has_marks, has_restarts, has_token};
 use association_state::association_ground_layer::is_direct;
-use association_state::{Body, Ground};
+use association_state::{Body, Basis};
 use dialogue::CallRefusal;
 
 /// The most marks that are kept.
 const MOST_MARKS: u32 = 65_536;
 
 /// Whether a mark may be set.
-pub fn can_mark(basis: &Ground<'_>, body: &Body) -> Reply
+pub fn can_mark(basis: &Basis<'_>, body: &Body) -> Reply
     ensures { result ≡ can_mark (base_in basis.now) (seen body.now) }
 {
     if !(is_direct(basis.config.mode) && has_marks(body.link.selected)) {
@@ -46,7 +46,7 @@ pub fn has_activity(body: &Body) -> bool
 }
 
 /// Whether the turn may be given.
-pub fn can_give(basis: &Ground<'_>, body: &Body) -> Reply
+pub fn can_give(basis: &Basis<'_>, body: &Body) -> Reply
     ensures { result ≡ can_give (base_in basis.now) (seen body.now) }
 {
     if !has_token(basis, body) {
@@ -68,7 +68,7 @@ pub fn can_give(basis: &Ground<'_>, body: &Body) -> Reply
 }
 
 /// Whether the turn may be asked for.
-pub fn can_please(basis: &Ground<'_>, body: &Body) -> Reply
+pub fn can_please(basis: &Basis<'_>, body: &Body) -> Reply
     ensures { result ≡ can_please (base_in basis.now) (seen body.now) }
 {
     if !has_token(basis, body) {
@@ -84,7 +84,7 @@ pub fn can_please(basis: &Ground<'_>, body: &Body) -> Reply
 }
 
 /// Whether a restart to this number may be asked for.
-pub fn can_restart(basis: &Ground<'_>, body: &Body, n: u32) -> Reply
+pub fn can_restart(basis: &Basis<'_>, body: &Body, n: u32) -> Reply
     ensures { result ≡ can_restart (base_in basis.now) (seen body.now) n }
 {
     if !(is_direct(basis.config.mode) && has_restarts(body.link.selected)) {

@@ -18,12 +18,12 @@ use association_state::apdu_codec_layer::is_too_long_with;
 use association_state::association_ground_layer::is_direct;
 use association_state::association_sets_layer::carrier;
 use association_state::rose_roles_layer::{error_apdu, result_apdu};
-use association_state::{Body, Ground};
+use association_state::{Body, Basis};
 use dialogue::CallRefusal;
 use stub_tables::{Apdu, ErrorRow, Operation, Use};
 
 /// The context on which what belongs to a context travels.
-pub fn carrier_in(basis: &Ground<'_>, body: &Body, context: u32) -> Option<u32>
+pub fn carrier_in(basis: &Basis<'_>, body: &Body, context: u32) -> Option<u32>
     ensures { result ≡ carrier_in (base_in basis.now) (seen body.now) context }
 {
     carrier(
@@ -35,7 +35,7 @@ pub fn carrier_in(basis: &Ground<'_>, body: &Body, context: u32) -> Option<u32>
 }
 
 /// Whether an outcome for a context has no context on which it travels.
-fn lacks_carrier(basis: &Ground<'_>, body: &Body, context: u32) -> bool
+fn lacks_carrier(basis: &Basis<'_>, body: &Body, context: u32) -> bool
     ensures { result ≡ lacks_carrier (base_in basis.now) (seen body.now) context }
 {
     is_direct(basis.config.mode) && carrier_in(basis, body, context).is_none()
@@ -43,7 +43,7 @@ fn lacks_carrier(basis: &Ground<'_>, body: &Body, context: u32) -> bool
 
 /// An outcome for a context whose value is used so, or why it may not be sent.
 fn check_outcome(
-    basis: &Ground<'_>,
+    basis: &Basis<'_>,
     body: &Body,
     context: u32,
     used: Option<Use>,
@@ -82,7 +82,7 @@ fn result_use(operation: &Operation, value: &Option<Val>) -> Option<Use>
 /// sent. The operation says how the value is used, so its code isn't looked up.
 #[tactic(auto, using(crate::proofs::Uses::result_used))]
 fn check_result(
-    basis: &Ground<'_>,
+    basis: &Basis<'_>,
     body: &Body,
     context: u32,
     id: &i64,
@@ -109,7 +109,7 @@ fn check_result(
 /// The result of an open invocation of the peer, or why it may not be sent.
 #[tactic(auto, using(crate::proofs::Uses::own_operation))]
 pub fn check_answer(
-    basis: &Ground<'_>,
+    basis: &Basis<'_>,
     body: &Body,
     id: &i64,
     value: &Option<Val>,
@@ -132,7 +132,7 @@ pub fn check_answer(
 /// An error of the module for an operation that was invoked on a context, or why it may not be
 /// sent. The error says how its parameter is used, so its code isn't looked up.
 fn check_error(
-    basis: &Ground<'_>,
+    basis: &Basis<'_>,
     body: &Body,
     context: u32,
     id: &i64,
@@ -154,7 +154,7 @@ fn check_error(
 /// The error of an open invocation of the peer, or why it may not be sent.
 #[tactic(auto, using(crate::proofs::Uses::own_error))]
 pub fn check_refuse(
-    basis: &Ground<'_>,
+    basis: &Basis<'_>,
     body: &Body,
     id: &i64,
     place: u32,

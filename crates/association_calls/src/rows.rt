@@ -8,12 +8,12 @@ ghost use Rattle.association_calls.specs.Replies.{IsRefusal};
 use association_state::association_ground_layer::{
     is_bare, is_dead, is_initiators, is_of_bare_mode, is_phase_for,
 };
-use association_state::{Body, Ground};
+use association_state::{Body, Basis};
 use dialogue::{Call, CallRefusal};
 
 /// Why a call is refused whatever its own rows say: the end is dead, the call is the initiator's,
 /// the phase is another, or it isn't one of bare mode.
-pub fn check_phase(basis: &Ground<'_>, body: &Body, call: &Call) -> Option<CallRefusal>
+pub fn check_phase(basis: &Basis<'_>, body: &Body, call: &Call) -> Option<CallRefusal>
     ensures { IsRefusal (can_call (base_in basis.now) (seen body.now) call.now)
         (can_by_rows (base_in basis.now) (seen body.now) call.now) result }
 {

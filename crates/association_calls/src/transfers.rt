@@ -10,11 +10,11 @@ ghost use Rattle.association_calls.specs.Replies.{Replies, IsCounted};
 use crate::Reply;
 use crate::marks::has_activity;
 use association_state::association_ground_layer::{is_direct, is_reliable};
-use association_state::{Body, Ground};
+use association_state::{Body, Basis};
 use dialogue::CallRefusal;
 
 /// Whether there is a current transfer.
-pub fn has_item(body: &Body) -> bool
+pub fn has_transfer(body: &Body) -> bool
     ensures { result ≡ not (is_none (seen body.now).sending.current) }
 {
     match &body.sending.current {
@@ -44,7 +44,7 @@ fn is_suspended(body: &Body) -> bool
 }
 
 /// Whether the current transfer may be interrupted or discarded.
-pub fn can_stop(basis: &Ground<'_>, body: &Body) -> Reply
+pub fn can_stop(basis: &Basis<'_>, body: &Body) -> Reply
     ensures { result ≡ can_stop (base_in basis.now) (seen body.now) }
 {
     if is_direct(basis.config.mode) {
@@ -63,7 +63,7 @@ pub fn can_stop(basis: &Ground<'_>, body: &Body) -> Reply
 }
 
 /// Whether the suspended transfer may be resumed.
-pub fn can_resume(basis: &Ground<'_>, body: &Body) -> Reply
+pub fn can_resume(basis: &Basis<'_>, body: &Body) -> Reply
     ensures { result ≡ can_resume (base_in basis.now) (seen body.now) }
 {
     if is_direct(basis.config.mode) {
@@ -105,7 +105,7 @@ fn invocations_open(count: usize) -> CallRefusal
 }
 
 /// Whether the association may be released.
-pub fn can_release(basis: &Ground<'_>, body: &Body) -> Reply
+pub fn can_release(basis: &Basis<'_>, body: &Body) -> Reply
     ensures { Replies (can_release (base_in basis.now) (seen body.now)) result }
 {
     if !body.link.awaits.is_free() {
@@ -117,7 +117,7 @@ pub fn can_release(basis: &Ground<'_>, body: &Body) -> Reply
     if body.sets.own.len() != 0 {
         return Err(CallRefusal::AlterPending);
     }
-    if has_item(body) {
+    if has_transfer(body) {
         return Err(CallRefusal::ActivityOpen(body.sending.started));
     }
     let queued = body.sending.queue.len();

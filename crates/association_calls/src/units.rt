@@ -5,7 +5,7 @@ ghost use Rattle.end_rules.specs.Units.{has_units, has_marks, has_restarts, has_
 ghost use Rattle.association_state.specs.Seen.{base_in, seen};
 
 use association_state::association_ground_layer::{is_direct, is_reliable, proposed_units};
-use association_state::{Body, Ground};
+use association_state::{Body, Basis};
 use dialogue::Mode;
 use osi_base::BitString;
 
@@ -92,7 +92,7 @@ pub fn manages_with(requirements: &Option<BitString>, selected: u16) -> bool
 }
 
 /// Whether there is a token that can be given and asked for.
-pub fn has_token(basis: &Ground<'_>, body: &Body) -> bool
+pub fn has_token(basis: &Basis<'_>, body: &Body) -> bool
     ensures { result ≡ has_token (base_in basis.now) (seen body.now) }
 {
     is_reliable(basis.config.mode) || is_direct(basis.config.mode) && has_marks(body.link.selected)

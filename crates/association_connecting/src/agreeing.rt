@@ -7,7 +7,7 @@ ghost use Rattle.association_connecting.specs.Agreed.{seen_agreed, names_recover
 ghost use Rattle.association_answers.specs.association_state.Seen.{base_in, seen};
 
 use association_answers::association_sends_layer::connection_data;
-use association_answers::association_state_layer::{Body, Ground};
+use association_answers::association_state_layer::{Body, Basis};
 use association_ground::is_broken;
 use osi_base::{ConnectionData, Copied, NoMemory, Octets, Rtse};
 
@@ -83,7 +83,7 @@ fn agreed_checkpoint(own: u32, theirs: u32) -> u32
 }
 
 /// What is agreed with what came.
-pub(crate) fn agreed_with(basis: &Ground<'_>, apdu: Option<&Rtse>) -> Agreed
+pub(crate) fn agreed_with(basis: &Basis<'_>, apdu: Option<&Rtse>) -> Agreed
     ensures { seen_agreed result ≡ agreed_with (base_in basis.now) (option_copied apdu.entry) }
 {
     match apdu {
@@ -130,7 +130,7 @@ pub(crate) fn names_recovery(apdu: Option<&Rtse>) -> bool
 }
 
 /// The connection data of the answer to what came: of the form that came.
-pub(crate) fn data_for(basis: &Ground<'_>, apdu: Option<&Rtse>) -> Result<ConnectionData, NoMemory>
+pub(crate) fn data_for(basis: &Basis<'_>, apdu: Option<&Rtse>) -> Result<ConnectionData, NoMemory>
     ensures { IfOk result (λ d. d ≡ answering_data (base_in basis.now) (data_named (base_in
         basis.now) (option_copied apdu.entry))) }
 {

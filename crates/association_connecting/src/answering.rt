@@ -15,14 +15,14 @@ use crate::joining::Terms;
 use association_answers::association_sends_layer::{
     Response, accept_message, provider_refusal, refuse_message, rtse_context, rtse_information,
 };
-use association_answers::association_state_layer::{Body, Ground};
+use association_answers::association_state_layer::{Body, Basis};
 use association_words::{Information, Message, UserInformation, Value};
 use osi_base::{AddAnswers, ListOf, NoMemory, PresentationConnect, Rtse, SessionConnect, SetItem};
 use set_rules::opening_policy;
 
 /// What the list of a CN is answered.
 fn results_for(
-    basis: &Ground<'_>,
+    basis: &Basis<'_>,
     presentation: &PresentationConnect,
 ) -> Result<AddAnswers, NoMemory>
     ensures { IfOk result (λ answers. answers ≡ results_for (base_in basis.now) presentation.now) }
@@ -36,7 +36,7 @@ fn results_for(
 }
 
 /// What is agreed with a CN.
-pub(crate) fn agreed_for(basis: &Ground<'_>, values: &[Value]) -> Agreed
+pub(crate) fn agreed_for(basis: &Basis<'_>, values: &[Value]) -> Agreed
     ensures { seen_agreed result ≡ agreed_for (base_in basis.now) (seen_values values.now) }
 {
     agreed_with(basis, rtse_in(user_of(values)))
@@ -44,7 +44,7 @@ pub(crate) fn agreed_for(basis: &Ground<'_>, values: &[Value]) -> Agreed
 
 /// The user information that accepts: RTOAC.
 fn accepting_information(
-    basis: &Ground<'_>,
+    basis: &Basis<'_>,
     accepted: &[SetItem],
     values: &[Value],
 ) -> Result<UserInformation, NoMemory>
@@ -63,7 +63,7 @@ fn accepting_information(
 
 /// AC.
 pub(crate) fn acceptance_message(
-    basis: &Ground<'_>,
+    basis: &Basis<'_>,
     terms: &Terms<'_>,
     presentation: &PresentationConnect,
     values: &[Value],
@@ -90,7 +90,7 @@ pub(crate) fn acceptance_message(
 
 /// The user information that refuses: an RTORJ stands where it alone refuses.
 fn rejecting_information(
-    basis: &Ground<'_>,
+    basis: &Basis<'_>,
     session: &SessionConnect,
     accepted: &[SetItem],
     reason: Option<u8>,
@@ -116,7 +116,7 @@ fn rejecting_information(
 
 /// The user information of a refusal.
 fn refusing_information(
-    basis: &Ground<'_>,
+    basis: &Basis<'_>,
     body: &Body,
     session: &SessionConnect,
     accepted: &[SetItem],
@@ -136,7 +136,7 @@ fn refusing_information(
 
 /// RF.
 pub(crate) fn refusal_message(
-    basis: &Ground<'_>,
+    basis: &Basis<'_>,
     body: &Body,
     accepted: &[SetItem],
     session: &SessionConnect,

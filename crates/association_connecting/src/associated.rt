@@ -7,7 +7,7 @@ ghost use Rattle.end_rules.specs.TakesAssociation.{is_release_request, is_releas
 ghost use Rattle.association_words.specs.Seen.{seen_fault, seen_information, seen_values};
 ghost use Rattle.association_connecting.specs.Associated.{only_one, first_fault};
 
-use association_answers::association_state_layer::Ground;
+use association_answers::association_state_layer::Basis;
 use association_sets::has_abstract;
 use association_words::{Fault, Information, Value, ValueContent};
 use osi_base::{Acse, Copied, Layer, NoMemory, Oid, Rtse, SetItem, pair_of};
@@ -92,7 +92,7 @@ pub(crate) fn is_release_response(values: &[Value]) -> bool
 
 /// The application context that a request names.
 #[tactic(auto, using(crate::proofs::Ones::the_one_is))]
-pub(crate) fn context_named(basis: &Ground<'_>, values: &[Value]) -> Result<Oid, NoMemory>
+pub(crate) fn context_named(basis: &Basis<'_>, values: &[Value]) -> Result<Oid, NoMemory>
     requires { is_request (the_one (seen_values values.now)) ≡ true }
     ensures { IfOk result (λ name. name ≡ context_named (the_one (seen_values values.now))) }
 {
@@ -163,7 +163,7 @@ fn is_open_accept(apdu: &Rtse) -> bool
 /// What may not stand as the first of user information: another context, or an APDU that isn't
 /// meant, as is told.
 fn information_fault(
-    basis: &Ground<'_>,
+    basis: &Basis<'_>,
     accepted: &[SetItem],
     first: &Information,
     meant: bool,
@@ -187,7 +187,7 @@ fn information_fault(
 
 /// What may not stand in the user information of a request.
 pub(crate) fn request_information_fault(
-    basis: &Ground<'_>,
+    basis: &Basis<'_>,
     accepted: &[SetItem],
     user: &[Information],
 ) -> Option<Fault>
@@ -204,7 +204,7 @@ pub(crate) fn request_information_fault(
 
 /// What may not stand in the user information of an acceptance.
 pub(crate) fn accept_information_fault(
-    basis: &Ground<'_>,
+    basis: &Basis<'_>,
     accepted: &[SetItem],
     user: &[Information],
 ) -> Option<Fault>

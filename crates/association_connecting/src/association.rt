@@ -16,7 +16,7 @@ use crate::connect_faults::connect_fault;
 use crate::taking_accept::{accept_fault, take_accept};
 use crate::taking_connect::take_connect;
 use association_answers::association_sends_layer::disconnect_message;
-use association_answers::association_state_layer::{Awaited, Body, Ground};
+use association_answers::association_state_layer::{Awaited, Body, Basis};
 use association_answers::{Brought, end_association, one_message, push_cuts, with_indication};
 use association_sets::copy_set;
 use association_words::{AssociationWord, Fault, Value};
@@ -26,7 +26,7 @@ use set_rules::set_for;
 
 /// What may not stand in a CN.
 fn connect_fault_in(
-    basis: &Ground<'_>,
+    basis: &Basis<'_>,
     presentation: &PresentationConnect,
     values: &[Value],
 ) -> Result<Option<Fault>, NoMemory>
@@ -38,7 +38,7 @@ fn connect_fault_in(
 }
 
 /// A fault of association control unless this is so.
-fn acse_fault_unless(basis: &Ground<'_>, so: bool) -> Option<Fault>
+fn acse_fault_unless(basis: &Basis<'_>, so: bool) -> Option<Fault>
     ensures { option_map seen_fault result ≡ fault_if (not so) acse_fault }
 {
     if so {
@@ -50,7 +50,7 @@ fn acse_fault_unless(basis: &Ground<'_>, so: bool) -> Option<Fault>
 
 /// Why a unit of the association may not be taken.
 pub fn association_fault(
-    basis: &Ground<'_>,
+    basis: &Basis<'_>,
     body: &Body,
     word: &AssociationWord,
 ) -> Result<Option<Fault>, NoMemory>
@@ -85,7 +85,7 @@ pub fn association_fault(
 
 /// The contexts on which an abort for a unit would go: those of a CN are answered as it comes.
 pub fn contexts_for(
-    basis: &Ground<'_>,
+    basis: &Basis<'_>,
     body: &Body,
     word: &AssociationWord,
 ) -> Result<SetList, NoMemory>
@@ -106,14 +106,14 @@ pub fn contexts_for(
 }
 
 /// The contexts that were accepted.
-fn own_contexts(basis: &Ground<'_>, body: &Body) -> Result<SetList, NoMemory>
+fn own_contexts(basis: &Basis<'_>, body: &Body) -> Result<SetList, NoMemory>
     ensures { IfOk result (λ set. set ≡ (seen body.now).link.accepted) }
 {
     copy_set(basis.alloc, body.link.accepted.as_slice())
 }
 
 /// What is shown as the association ends: the cuts, and then this.
-fn shown_end(basis: &Ground<'_>, body: &Body, last: Indication) -> Result<Indications, NoMemory>
+fn shown_end(basis: &Basis<'_>, body: &Body, last: Indication) -> Result<Indications, NoMemory>
     ensures { IfOk result (λ shown. shown ≡ cuts (seen body.now) ++ last ∷ []) }
 {
     let mut shown: Indications = ListOf::new(basis.alloc);
@@ -126,7 +126,7 @@ fn shown_end(basis: &Ground<'_>, body: &Body, last: Indication) -> Result<Indica
 }
 
 /// The association ends without an answer, and this is shown.
-fn end_quietly(basis: &Ground<'_>, body: &mut Body, last: Indication) -> Result<Brought, NoMemory>
+fn end_quietly(basis: &Basis<'_>, body: &mut Body, last: Indication) -> Result<Brought, NoMemory>
     ensures body { OnOk result (seen body.new ≡ over (seen body.old)) }
     ensures taken { IfOk result (TakenAs [] (cuts (seen body.old) ++ last ∷ [])) }
 {
@@ -139,7 +139,7 @@ fn end_quietly(basis: &Ground<'_>, body: &mut Body, last: Indication) -> Result<
 }
 
 /// Takes FN.
-fn take_finish(basis: &Ground<'_>, body: &mut Body) -> Result<Brought, NoMemory>
+fn take_finish(basis: &Basis<'_>, body: &mut Body) -> Result<Brought, NoMemory>
     ensures body { OnOk result (seen body.new ≡ over (seen body.old)) }
     ensures taken { IfOk result (TakenAs (disconnect_message (seen body.old) ∷ []) (cuts (seen
         body.old) ++ indications.Released ∷ [])) }
@@ -152,7 +152,7 @@ fn take_finish(basis: &Ground<'_>, body: &mut Body) -> Result<Brought, NoMemory>
 }
 
 /// Takes DN.
-fn take_disconnect(basis: &Ground<'_>, body: &mut Body) -> Result<Brought, NoMemory>
+fn take_disconnect(basis: &Basis<'_>, body: &mut Body) -> Result<Brought, NoMemory>
     ensures body { OnOk result (seen body.new ≡ awaiting NoAnswer (over (seen body.old))) }
     ensures taken { IfOk result (TakenAs [] (cuts (seen body.old) ++ indications.Released ∷ [])) }
 {
@@ -175,7 +175,7 @@ fn aborted_by_peer() -> Indication
 
 /// Takes a unit of the association, in which nothing is faulty.
 pub fn take_association(
-    basis: &Ground<'_>,
+    basis: &Basis<'_>,
     body: &mut Body,
     word: AssociationWord,
 ) -> Result<Brought, NoMemory>

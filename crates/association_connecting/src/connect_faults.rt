@@ -10,7 +10,7 @@ use crate::associated::{is_request, request_information_fault, rtse_in, user_of}
 use association_answers::association_calls_layer::{
     has_units, has_version_two, needed_units, selected_with,
 };
-use association_answers::association_state_layer::{Body, Ground};
+use association_answers::association_state_layer::{Body, Basis};
 use association_ground::is_reliable;
 use association_words::{Fault, Value};
 use osi_base::{Layer, PresentationConnect, SessionConnect, SetItem};
@@ -34,7 +34,7 @@ pub(crate) fn has_rtse(accepted: &[SetItem]) -> bool
 /// association control is accepted, it carries no AARQ; or, where reliable transfer is, the AARQ
 /// carries what is no RTORQ.
 pub(crate) fn connect_fault(
-    basis: &Ground<'_>,
+    basis: &Basis<'_>,
     accepted: &[SetItem],
     presentation: &PresentationConnect,
     values: &[Value],
@@ -82,7 +82,7 @@ fn gives_token(setting: Option<u8>) -> bool
 
 /// Whether the session refuses: version 2 lacks, or a unit that the mode needs; another initial
 /// number than 1; a token at the responder.
-pub(crate) fn session_refuses(basis: &Ground<'_>, session: &SessionConnect) -> bool
+pub(crate) fn session_refuses(basis: &Basis<'_>, session: &SessionConnect) -> bool
     ensures { result ≡ session_refuses (base_in basis.now) session.now }
 {
     let mode = basis.config.mode;
@@ -96,7 +96,7 @@ pub(crate) fn session_refuses(basis: &Ground<'_>, session: &SessionConnect) -> b
 }
 
 /// Whether reliable transfer isn't accepted, or there is no RTORQ.
-pub(crate) fn lacks_request(basis: &Ground<'_>, accepted: &[SetItem], values: &[Value]) -> bool
+pub(crate) fn lacks_request(basis: &Basis<'_>, accepted: &[SetItem], values: &[Value]) -> bool
     ensures { result ≡ lacks_request (base_in basis.now) accepted.now (seen_values values.now) }
 {
     is_reliable(basis.config.mode) && (!has_rtse(accepted) || rtse_in(user_of(values)).is_none())
@@ -105,7 +105,7 @@ pub(crate) fn lacks_request(basis: &Ground<'_>, accepted: &[SetItem], values: &[
 /// Whether the presentation or association control refuses: a default context stands; association
 /// control isn't accepted, or in reliable mode reliable transfer; or there is no RTORQ.
 pub(crate) fn presentation_refuses(
-    basis: &Ground<'_>,
+    basis: &Basis<'_>,
     accepted: &[SetItem],
     presentation: &PresentationConnect,
     values: &[Value],
@@ -120,7 +120,7 @@ pub(crate) fn presentation_refuses(
 }
 
 /// The reason for which reliable transfer rejects, if it does.
-pub(crate) fn transfer_rejection(basis: &Ground<'_>, body: &Body, values: &[Value]) -> Option<u8>
+pub(crate) fn transfer_rejection(basis: &Basis<'_>, body: &Body, values: &[Value]) -> Option<u8>
     ensures { result ≡ transfer_rejection (base_in basis.now) (seen body.now) (seen_values
         values.now) }
 {
@@ -133,7 +133,7 @@ pub(crate) fn transfer_rejection(basis: &Ground<'_>, body: &Body, values: &[Valu
 
 /// Whether a CN whose accepted contexts are these is refused.
 pub(crate) fn is_refused(
-    basis: &Ground<'_>,
+    basis: &Basis<'_>,
     body: &Body,
     accepted: &[SetItem],
     session: &SessionConnect,

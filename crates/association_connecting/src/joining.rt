@@ -7,7 +7,7 @@ ghost use Rattle.association_connecting.specs.Joined.{kept_first, stood};
 ghost use Rattle.association_answers.specs.association_state.Seen.{base_in, seen};
 
 use crate::agreeing::Agreed;
-use association_answers::association_state_layer::{Awaited, Body, Ground, SavedSets, Stage};
+use association_answers::association_state_layer::{Awaited, Body, Basis, SavedSets, Stage};
 use association_ground::is_broken;
 use association_sets::copy_set;
 use dialogue::{Mode, Phase};
@@ -26,7 +26,7 @@ pub(crate) struct Terms<'a> {
 
 /// In direct mode number 0 saves the accepted contexts; in reliable mode they are the
 /// inter-activity set.
-fn keep_first(basis: &Ground<'_>, body: &mut Body, accepted: &[SetItem]) -> Result<(), NoMemory>
+fn keep_first(basis: &Basis<'_>, body: &mut Body, accepted: &[SetItem]) -> Result<(), NoMemory>
     ensures { OnOk result (seen body.new ≡ kept_first basis.now.config.mode accepted.now (seen
         body.old)) }
 {
@@ -46,7 +46,7 @@ fn keep_first(basis: &Ground<'_>, body: &mut Body, accepted: &[SetItem]) -> Resu
 }
 
 /// The association stands on these terms.
-fn stand(basis: &Ground<'_>, body: &mut Body, terms: &Terms<'_>, accepted: SetList)
+fn stand(basis: &Basis<'_>, body: &mut Body, terms: &Terms<'_>, accepted: SetList)
     requires { accepted ≡ terms.now.accepted.now }
     ensures { seen body.new ≡ stood basis.now.config.initiator accepted terms.now.selected
         terms.now.manages (seen_agreed terms.now.agreed) (seen body.old) }
@@ -64,7 +64,7 @@ fn stand(basis: &Ground<'_>, body: &mut Body, terms: &Terms<'_>, accepted: SetLi
 }
 
 /// Both ends hold the accepted contexts, and the association stands.
-pub(crate) fn join(basis: &Ground<'_>, body: &mut Body, terms: &Terms<'_>) -> Result<(), NoMemory>
+pub(crate) fn join(basis: &Basis<'_>, body: &mut Body, terms: &Terms<'_>) -> Result<(), NoMemory>
     ensures { OnOk result (seen body.new ≡ joined_with (base_in basis.now) terms.now.accepted.now
         terms.now.selected terms.now.manages (seen_agreed terms.now.agreed) (seen body.old)) }
 {
@@ -79,7 +79,7 @@ pub(crate) fn join(basis: &Ground<'_>, body: &mut Body, terms: &Terms<'_>) -> Re
 
 /// An opening begins anew, with the references of its CN.
 pub(crate) fn begin(
-    basis: &Ground<'_>,
+    basis: &Basis<'_>,
     body: &mut Body,
     session: &SessionConnect,
 ) -> Result<(), NoMemory>

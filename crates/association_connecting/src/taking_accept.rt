@@ -17,7 +17,7 @@ use crate::associated::{accept_information_fault, is_accepting, rtse_in, user_of
 use crate::connect_faults::{has_acse, has_rtse};
 use crate::joining::{Terms, join};
 use association_answers::association_calls_layer::{manages_with, selected_with};
-use association_answers::association_state_layer::{Body, Ground};
+use association_answers::association_state_layer::{Body, Basis};
 use association_answers::{Brought, push_losses};
 use association_ground::{is_recovering, is_reliable};
 use association_sets::fit_proposals;
@@ -37,7 +37,7 @@ fn lacks_accept(apdu: Option<&Rtse>) -> bool
 }
 
 /// What may not stand in the user information of an AC.
-fn transfer_fault(basis: &Ground<'_>, accepted: &[SetItem], values: &[Value]) -> Option<Fault>
+fn transfer_fault(basis: &Basis<'_>, accepted: &[SetItem], values: &[Value]) -> Option<Fault>
     ensures { option_map seen_fault result ≡ or_fault (information_fault is_open_accept accepted.now
         (user_of (the_one (seen_values values.now)))) (fault_if (lacks_accept (rtse_in (user_of
         (the_one (seen_values values.now))))) rtse_fault) }
@@ -53,7 +53,7 @@ fn transfer_fault(basis: &Ground<'_>, accepted: &[SetItem], values: &[Value]) ->
 }
 
 /// Whether the contexts of the association lack among the accepted ones.
-fn lacks_contexts(basis: &Ground<'_>, accepted: &[SetItem]) -> bool
+fn lacks_contexts(basis: &Basis<'_>, accepted: &[SetItem]) -> bool
     ensures { result ≡ (not (has_acse accepted.now) || is_reliable basis.now.config.mode
         && not (has_rtse accepted.now)) }
 {
@@ -62,7 +62,7 @@ fn lacks_contexts(basis: &Ground<'_>, accepted: &[SetItem]) -> bool
 
 /// What may not stand in the values of an AC: there is no AARE that accepts; in reliable mode no
 /// RTOAC.
-fn values_fault(basis: &Ground<'_>, accepted: &[SetItem], values: &[Value]) -> Option<Fault>
+fn values_fault(basis: &Basis<'_>, accepted: &[SetItem], values: &[Value]) -> Option<Fault>
     ensures { option_map seen_fault result
         ≡ values_fault (base_in basis.now) accepted.now (seen_values values.now) }
 {
@@ -76,7 +76,7 @@ fn values_fault(basis: &Ground<'_>, accepted: &[SetItem], values: &[Value]) -> O
 }
 
 /// What may not stand in an AC whose results fit and accept these contexts.
-fn accepted_fault(basis: &Ground<'_>, accepted: &[SetItem], values: &[Value]) -> Option<Fault>
+fn accepted_fault(basis: &Basis<'_>, accepted: &[SetItem], values: &[Value]) -> Option<Fault>
     ensures { option_map seen_fault result
         ≡ accepted_fault (base_in basis.now) accepted.now (seen_values values.now) }
 {
@@ -89,7 +89,7 @@ fn accepted_fault(basis: &Ground<'_>, accepted: &[SetItem], values: &[Value]) ->
 /// What may not stand in an AC: its results don't fit the proposals or refuse the contexts of the
 /// association; it has no AARE that accepts; in reliable mode no RTOAC.
 pub(crate) fn accept_fault(
-    basis: &Ground<'_>,
+    basis: &Basis<'_>,
     presentation: &PresentationAccept,
     values: &[Value],
 ) -> Result<Option<Fault>, NoMemory>
@@ -105,7 +105,7 @@ pub(crate) fn accept_fault(
 }
 
 /// What is shown of an AC.
-fn shown_at_accept(basis: &Ground<'_>, body: &Body) -> Result<Indications, NoMemory>
+fn shown_at_accept(basis: &Basis<'_>, body: &Body) -> Result<Indications, NoMemory>
     ensures { IfOk result (λ shown. shown ≡ shown_at_accept (seen body.now)) }
 {
     let mut shown: Indications = ListOf::new(basis.alloc);
@@ -120,7 +120,7 @@ fn shown_at_accept(basis: &Ground<'_>, body: &Body) -> Result<Indications, NoMem
 
 /// The terms of an AC that accepts these contexts.
 fn terms_of<'a>(
-    basis: &Ground<'_>,
+    basis: &Basis<'_>,
     session: &Accepting,
     presentation: &PresentationAccept,
     values: &[Value],
@@ -146,7 +146,7 @@ fn terms_of<'a>(
 /// The association stands on the terms of an AC that accepts these contexts.
 #[tactic(auto, using(crate::proofs::OnTerms::stands_on))]
 fn stand_on(
-    basis: &Ground<'_>,
+    basis: &Basis<'_>,
     body: &mut Body,
     session: &Accepting,
     presentation: &PresentationAccept,
@@ -163,7 +163,7 @@ fn stand_on(
 
 /// Takes an AC.
 pub(crate) fn take_accept(
-    basis: &Ground<'_>,
+    basis: &Basis<'_>,
     body: &mut Body,
     session: &Accepting,
     presentation: &PresentationAccept,

@@ -14,7 +14,7 @@ use crate::associated::{rtse_in, user_of};
 use crate::connect_faults::is_refused;
 use crate::joining::{Terms, begin, join, refuse};
 use association_answers::association_calls_layer::{manages_with, selected_with};
-use association_answers::association_state_layer::{Body, Ground};
+use association_answers::association_state_layer::{Body, Basis};
 use association_answers::{Brought, one_message, push_cuts, push_losses, with_answer};
 use association_ground::{is_broken, is_reliable};
 use association_words::Value;
@@ -23,14 +23,14 @@ use osi_base::{ListOf, NoMemory, PresentationConnect, SessionConnect, SetItem};
 use set_rules::set_for;
 
 /// Whether a CN names the association that is broken.
-fn recovers_in(basis: &Ground<'_>, values: &[Value]) -> bool
+fn recovers_in(basis: &Basis<'_>, values: &[Value]) -> bool
     ensures { result ≡ recovers_in (base_in basis.now) (seen_values values.now) }
 {
     is_reliable(basis.config.mode) && names_recovery(rtse_in(user_of(values)))
 }
 
 /// What is shown of an opening: one that reaches a broken end gives the old association up.
-fn shown_opening(basis: &Ground<'_>, body: &Body, recovers: bool) -> Result<Indications, NoMemory>
+fn shown_opening(basis: &Basis<'_>, body: &Body, recovers: bool) -> Result<Indications, NoMemory>
     ensures { IfOk result (λ shown. shown ≡ shown_opening (seen body.now) recovers) }
 {
     let mut shown: Indications = ListOf::new(basis.alloc);
@@ -59,7 +59,7 @@ pub(crate) struct Asked<'a> {
 }
 
 /// The terms of a CN.
-fn terms_of<'a>(basis: &Ground<'_>, asked: &Asked<'a>) -> Terms<'a>
+fn terms_of<'a>(basis: &Basis<'_>, asked: &Asked<'a>) -> Terms<'a>
     requires { asked.now.accepted.now ≡ set_for (base_in basis.now) asked.now.presentation.now }
     ensures { TermsOf (base_in basis.now) asked.now.session.now asked.now.presentation.now
         (seen_values asked.now.values.now) result }
@@ -75,7 +75,7 @@ fn terms_of<'a>(basis: &Ground<'_>, asked: &Asked<'a>) -> Terms<'a>
 
 /// What the end holds once a CN is accepted: an opening begins anew, a recovery goes on.
 fn begin_and_join(
-    basis: &Ground<'_>,
+    basis: &Basis<'_>,
     body: &mut Body,
     session: &SessionConnect,
     recovers: bool,
@@ -92,7 +92,7 @@ fn begin_and_join(
 }
 
 /// Accepts a CN.
-fn accept(basis: &Ground<'_>, body: &mut Body, asked: &Asked<'_>) -> Result<Brought, NoMemory>
+fn accept(basis: &Basis<'_>, body: &mut Body, asked: &Asked<'_>) -> Result<Brought, NoMemory>
     requires accepted { asked.now.accepted.now ≡ set_for (base_in basis.now)
         asked.now.presentation.now }
     requires request { is_request (the_one (seen_values asked.now.values.now)) ≡ true }
@@ -113,7 +113,7 @@ fn accept(basis: &Ground<'_>, body: &mut Body, asked: &Asked<'_>) -> Result<Brou
 }
 
 /// Refuses a CN.
-fn refuse_asked(basis: &Ground<'_>, body: &mut Body, asked: &Asked<'_>) -> Result<Brought, NoMemory>
+fn refuse_asked(basis: &Basis<'_>, body: &mut Body, asked: &Asked<'_>) -> Result<Brought, NoMemory>
     requires accepted { asked.now.accepted.now ≡ set_for (base_in basis.now)
         asked.now.presentation.now }
     requires request { has_acse asked.now.accepted.now ≡ true → is_request (the_one (seen_values
@@ -137,7 +137,7 @@ fn refuse_asked(basis: &Ground<'_>, body: &mut Body, asked: &Asked<'_>) -> Resul
 
 /// Takes a CN, which is answered by AC or RF.
 pub(crate) fn take_connect(
-    basis: &Ground<'_>,
+    basis: &Basis<'_>,
     body: &mut Body,
     session: &SessionConnect,
     presentation: &PresentationConnect,

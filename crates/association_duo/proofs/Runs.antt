@@ -2,6 +2,7 @@
 use Rattle.std.proofs.Common.{◌≡◌, ℕ, List, [], ◌∷◌, ◌++◌, length, Option, Some, None, refl, sym, ap, subst, ◌∙◌}
 use Rattle.osi_base.specs.declared.layer_words.Side.{Side}
 use Rattle.osi_base.specs.declared.layer_words.Side.TheVariants.{A, B}
+use Rattle.dialogue.specs.Carries.{first_octets}
 use Rattle.dialogue.specs.declared.call.Call.{Call}
 use Rattle.dialogue.specs.declared.event.Event.{Event}
 use Rattle.dialogue.specs.declared.event.Event.TheVariants as events
@@ -9,7 +10,7 @@ use Rattle.dialogue.specs.declared.event.Entry.{Entry}
 use Rattle.dialogue.specs.declared.event.Entry.TheVariants as entries
 use Rattle.dialogue.specs.declared.event.Carried.{Carried}
 use Rattle.dialogue.specs.declared.event.Transcript.{Transcript}
-use Rattle.two_ends.specs.Conduct.{given_out, first_octets as passed_octets}
+use Rattle.two_ends.specs.Conduct.{given_out}
 use Rattle.two_ends.specs.Events.{AnsweredOne, AnsweredAt, CarriedOver, CarriedFrom, Happened, called as was_called, carried_over, both_broke, AllHappened, nothing_yet, one_more}
 use Rattle.end_rules.specs.Base.{Base}
 use Rattle.end_rules.specs.Invoking.{Reply}
@@ -18,7 +19,7 @@ use Rattle.end_rules.specs.History.{Step, History, gave, broke}
 use Rattle.end_rules.specs.World.{World, Ends, base_at, other, history_of}
 use Rattle.association_end.specs.association_line.Line.{End, end_of, going_on}
 use Rattle.association_end.specs.association_line.Feeding.{Feeds, Makes}
-use Rattle.association_runs.specs.Worlds.{end_at, stepping, first_octets, Runs, rests, calls, carries, breaks}
+use Rattle.association_runs.specs.Worlds.{end_at, stepping, Runs, rests, calls, carries, breaks}
 use Rattle.association_end.specs.View.{EndView, base, Stepped, StandsFor}
 use Rattle.association_end.proofs.Histories.{same_base, stands_on}
 use Rattle.association_duo.specs.Ran.{StandsAt, Stand, Told}
@@ -66,11 +67,6 @@ other_alone B w steps = left_alone A w steps
 -- what was given out is a step
 gave_so : (e f : EndView) (n : ℕ) → f ≡ given_out conduct n e → Stepped e f (gave n ∷ [])
 gave_so e f n is = record { tables = ap (λ (x : EndView). x.tables) is; config = ap (λ (x : EndView). x.config) is; end = ap (λ (x : EndView). x.end) is }
-
--- the first octets are the same in both words
-same_octets : (most : Option ℕ) (octets : List ℕ) → passed_octets most octets ≡ first_octets most octets
-same_octets None octets = refl
-same_octets (Some most) octets = refl
 
 module _ (ends : Ends) where
   -- an end that made steps stands for its history with them
@@ -126,7 +122,7 @@ module _ (ends : Ends) where
       → CarriedOver conduct conduct most carried from to from1 to1 → CarryRan side w most carried from1 to1
   carry_ran side w most carried from to from1 to1 s r h =
       let octets : List ℕ = first_octets most (end_at ends side w).line.waiting in
-      let moved : carried.octets ≡ octets = h.octets_are ∙ same_octets most from.end.line.waiting ∙ ap (λ (x : End). first_octets most x.line.waiting) (its_end side w from s) in
+      let moved : carried.octets ≡ octets = h.octets_are ∙ ap (λ (x : End). first_octets most x.line.waiting) (its_end side w from s) in
       let give : List Step = gave (length octets) ∷ [] in
       let u : World = stepping side w give in
       let v : World = stepping (other side) u h.feeds.steps in

@@ -35,7 +35,7 @@ use Rattle.end_rules.specs.History.{Step, called, sent, after_steps, call_steps,
 use Rattle.association_writing.specs.association_wire.Written.{request_ends}
 use Rattle.association_line.specs.Line.{End, after, after_all}
 use Rattle.association_line.specs.Feeding.{OwnAfter, BeginsByItself}
-use Rattle.association_requests.specs.declared.call_outcome.CallOutcome as call_outcomes
+use Rattle.association_requests.specs.declared.accepted_call.AcceptedCall as call_outcomes
 use Rattle.association_requests.specs.Called.{sent_by, CalledAs}
 use Rattle.association_end.specs.View.{EndView, base, Stepped}
 use Rattle.association_end.specs.Called.{Answered, nothing_made, made, BeganCall, DiedCalled}
@@ -155,12 +155,12 @@ module _ (b : Base) (body : Body) (room : HasRoom (request_ends 1 (Some 10) b.co
   due_stands call (Err refusal) = tt
 
 -- as the code comes by it
-pub called_stands : (old : EndView) (new : EndView) (call : Call) (c : call_outcomes.CallOutcome) → config_refusal old.config ≡ None → AcceptedSo old new call c → AllMayStand (sent_by c)
+pub called_stands : (old : EndView) (new : EndView) (call : Call) (c : call_outcomes.AcceptedCall) → config_refusal old.config ≡ None → AcceptedSo old new call c → AllMayStand (sent_by c)
 called_stands old new call c h a = subst AllMayStand (sym a.due) (due_stands (base old) old.end.body (request_stands old.config h) call (Ok c.answer))
 
 -- ---- a call that was accepted
 
-module _ (old changed now : EndView) (call : Call) (c : call_outcomes.CallOutcome) (a : AcceptedSo old changed call c) (s : now ≡ sending (sent_by c) changed) where
+module _ (old changed now : EndView) (call : Call) (c : call_outcomes.AcceptedCall) (a : AcceptedSo old changed call c) (s : now ≡ sending (sent_by c) changed) where
   abbrev b : Base
   b = base old
 
@@ -302,28 +302,28 @@ module _ (b : Base) (body : Body) (call : Call) where
 
 -- ---- what a call changes
 
-pub changed_so : (e : EndView) (body : Body) (call : Call) (r : Result call_outcomes.CallOutcome CallRefusal) → CalledAs (base e) e.end.body body call r → ChangedBy e (with_body body e) call r
+pub changed_so : (e : EndView) (body : Body) (call : Call) (r : Result call_outcomes.AcceptedCall CallRefusal) → CalledAs (base e) e.end.body body call r → ChangedBy e (with_body body e) call r
 changed_so e body call (Ok c) a = record { answer = a.answer; due = a.due; new_is = ap (λ (x : Body). with_body x e) a.body }
 changed_so e body call (Err refusals.NoMemory) a = record { tables = refl; config = refl; waiting = refl }
 changed_so e body call (Err refusal) a = record { answer = a.answer; same = ap (λ (x : Body). with_body x e) a.body }
 
-pub changed_sound : (e : EndView) (body : Body) (call : Call) (r : Result call_outcomes.CallOutcome CallRefusal) → IsSoundEnd e → wants_memory r ≡ false → CalledAs (base e) e.end.body body call r → IsSoundEnd (with_body body e)
+pub changed_sound : (e : EndView) (body : Body) (call : Call) (r : Result call_outcomes.AcceptedCall CallRefusal) → IsSoundEnd e → wants_memory r ≡ false → CalledAs (base e) e.end.body body call r → IsSoundEnd (with_body body e)
 changed_sound e body call (Ok c) s w a = sound_body e body s (up_some e s (accepted_up (base e) e.end.body call c.answer a.answer))
 changed_sound e body call (Err refusals.NoMemory) s w a = absurd cc
 changed_sound e body call (Err refusal) s w a = sound_same e body s (ap (λ (x : Body). x.link.phase) a.body)
 
 -- where memory was refused
-pub memory_changed : (old new : EndView) (call : Call) (r : Result call_outcomes.CallOutcome CallRefusal) → wants_memory r ≡ true → Keeps old new → ChangedBy old new call r
+pub memory_changed : (old new : EndView) (call : Call) (r : Result call_outcomes.AcceptedCall CallRefusal) → wants_memory r ≡ true → Keeps old new → ChangedBy old new call r
 memory_changed old new call (Ok c) w k = absurd cc
 memory_changed old new call (Err refusals.NoMemory) w k = k
 memory_changed old new call (Err refusal) w k = absurd cc
 
-pub changed_room : (old new : EndView) (call : Call) (r : Result call_outcomes.CallOutcome CallRefusal) → config_refusal old.config ≡ None → ChangedBy old new call r → IfOk r (λ c. AllMayStand (sent_by c))
+pub changed_room : (old new : EndView) (call : Call) (r : Result call_outcomes.AcceptedCall CallRefusal) → config_refusal old.config ≡ None → ChangedBy old new call r → IfOk r (λ c. AllMayStand (sent_by c))
 changed_room old new call (Ok c) h a = called_stands old new call c h a
 changed_room old new call (Err refusal) h a = tt
 
 -- a message that couldn't be put behind what waits
-pub kept_changed : (old changed new : EndView) (call : Call) (c : call_outcomes.CallOutcome) → AcceptedSo old changed call c → new ≡ changed → BeganCall old new call
+pub kept_changed : (old changed new : EndView) (call : Call) (c : call_outcomes.AcceptedCall) → AcceptedSo old changed call c → new ≡ changed → BeganCall old new call
 kept_changed old changed new call c a n =
     began_nothing old new call (kept_body old changed new (after_steps (base old) old.end.body (call_steps (base old) old.end.body call)) a.new_is (kept_same changed new n))
 

@@ -6,13 +6,13 @@ use Rattle.dialogue.specs.declared.call.CallRefusal.TheVariants.{NoMemory}
 use Rattle.end_rules.specs.Calling.{can_call}
 use Rattle.end_rules.specs.Requesting.{due_of}
 use Rattle.end_rules.specs.History.{after_steps, call_steps}
-use Rattle.association_requests.specs.declared.call_outcome.CallOutcome.{CallOutcome}
+use Rattle.association_requests.specs.declared.accepted_call.AcceptedCall.{AcceptedCall}
 use Rattle.association_requests.specs.Called.{sent_by}
 use Rattle.association_end.specs.View.{EndView, base}
 use Rattle.association_end.specs.Progress.{Keeps}
 use Rattle.association_end.specs.OneMessage.{with_body}
 
-pub record AcceptedSo (old new : EndView) (call : Call) (called : CallOutcome) : Type 0 where
+pub record AcceptedSo (old new : EndView) (call : Call) (called : AcceptedCall) : Type 0 where
   pub answer : can_call (base old) old.end.body call ≡ Ok called.answer
   pub due : sent_by called ≡ due_of (base old) old.end.body call (Ok called.answer)
   pub new_is : new ≡ with_body (after_steps (base old) old.end.body (call_steps (base old) old.end.body call)) old
@@ -22,12 +22,12 @@ pub record RefusedSo (old new : EndView) (call : Call) (refusal : CallRefusal) :
   pub same : new ≡ old
 
 -- memory was refused
-abbrev pub wants_memory : Result CallOutcome CallRefusal → Bool
+abbrev pub wants_memory : Result AcceptedCall CallRefusal → Bool
 wants_memory (Ok called) = false
 wants_memory (Err NoMemory) = true
 wants_memory (Err refusal) = false
 
-abbrev pub ChangedBy : EndView → EndView → Call → Result CallOutcome CallRefusal → Type 0
+abbrev pub ChangedBy : EndView → EndView → Call → Result AcceptedCall CallRefusal → Type 0
 ChangedBy old new call (Ok called) = AcceptedSo old new call called
 ChangedBy old new call (Err NoMemory) = Keeps old new
 ChangedBy old new call (Err refusal) = RefusedSo old new call refusal

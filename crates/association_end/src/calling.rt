@@ -11,7 +11,7 @@ ghost use Rattle.association_end.specs.Changed.{wants_memory, ChangedBy};
 ghost use Rattle.association_end.specs.OneMessage.{AllMayStand, sending};
 
 use crate::end::End;
-use association_requests::{CallOutcome, make_call};
+use association_requests::{AcceptedCall, make_call};
 use association_words::Message;
 use dialogue::{Call, CallRefusal, Phase};
 use osi_base::NoMemory;
@@ -24,7 +24,7 @@ fn is_memory(answer: &Result<Option<i64>, CallRefusal>) -> bool
 }
 
 /// Whether memory was refused as a call was looked at.
-fn wants_memory(called: &Result<CallOutcome, CallRefusal>) -> bool
+fn wants_memory(called: &Result<AcceptedCall, CallRefusal>) -> bool
     ensures { result ≡ wants_memory called.now }
 {
     matches!(called, Err(CallRefusal::NoMemory))
@@ -32,7 +32,7 @@ fn wants_memory(called: &Result<CallOutcome, CallRefusal>) -> bool
 
 impl<'t> End<'t> {
     /// Changes what the end holds by a call; where memory is refused, the end dies.
-    fn change(&mut self, asked: &Call) -> Result<CallOutcome, CallRefusal>
+    fn change(&mut self, asked: &Call) -> Result<AcceptedCall, CallRefusal>
         ensures is { ChangedBy self.old self.new asked.now result }
         ensures room { IfOk result (λ called. AllMayStand (sent_by called)) }
     {
@@ -63,7 +63,7 @@ impl<'t> End<'t> {
         ensures { AnswersCall self.old self.new asked.now result }
     {
         let called = self.change(asked)?;
-        let CallOutcome { answer, message } = called;
+        let AcceptedCall { answer, message } = called;
         let sent = self.send_due(&message);
         drop(message);
         sent?;

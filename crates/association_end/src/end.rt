@@ -8,7 +8,7 @@ use association_ground::is_up;
 use association_meaning::apdu_codec_layer::Heads;
 use association_meaning::association_codecs_layer::Codecs;
 use association_meaning::association_intake_layer::Intake;
-use association_reacting::association_state_layer::{Body, Ground};
+use association_reacting::association_state_layer::{Body, Basis};
 use association_requests::connection_broke;
 use dialogue::{Config, ConfigRefusal, Phase};
 use end_config::check_config;
@@ -20,7 +20,7 @@ use stub_tables::Tables;
 /// One end of an association in direct or reliable mode.
 #[derive(Drop)]
 pub struct End<'t> {
-    pub(crate) basis: Ground<'t>,
+    pub(crate) basis: Basis<'t>,
     pub(crate) codecs: Codecs,
     pub(crate) body: Body,
     pub(crate) waiting: OctetQueue,
@@ -92,7 +92,7 @@ impl<'t> End<'t> {
         let size = first_size(config.initiator);
         let codecs = Codecs::new(alloc)?;
         let heads = Heads::new(alloc)?;
-        let basis = Ground {
+        let basis = Basis {
             alloc,
             tables,
             config,

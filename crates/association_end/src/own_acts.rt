@@ -17,7 +17,7 @@ use crate::end::End;
 use association_line::own_acts_end;
 use association_meaning::association_codecs_layer::Codecs;
 use association_reacting::association_sends_layer::pair_copied;
-use association_reacting::association_state_layer::{Body, Encoded, Ground, Queued, Transfer};
+use association_reacting::association_state_layer::{Body, Encoded, Basis, Queued, Transfer};
 use association_requests::{OwnAct, after_sent, next_own};
 use association_words::{Message, TransferItem};
 use association_writing::write_item;
@@ -26,7 +26,7 @@ use osi_base::{NoMemory, Pair};
 /// The transfer with its item encoded on a context under a pair, with the checkpoint and the window
 /// of the connection.
 fn encoded_under(
-    basis: &Ground<'_>,
+    basis: &Basis<'_>,
     codecs: &Codecs,
     body: &Body,
     transfer: Transfer,
@@ -79,7 +79,7 @@ fn encoded_under(
 /// The transfer with its item encoded on a context, under the pair that the set gives it; not
 /// encoded where it gives none.
 fn encoded_on(
-    basis: &Ground<'_>,
+    basis: &Basis<'_>,
     codecs: &Codecs,
     body: &Body,
     mut transfer: Transfer,
@@ -107,7 +107,7 @@ fn encoded_on(
 
 /// The item of the current transfer is encoded on a context.
 fn encode(
-    basis: &Ground<'_>,
+    basis: &Basis<'_>,
     codecs: &Codecs,
     body: &mut Body,
     context: u32,

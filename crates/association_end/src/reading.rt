@@ -24,10 +24,10 @@ ghost use Rattle.association_end.specs.Sound.{IsMessage};
 
 use association_meaning::association_codecs_layer::Codecs;
 use association_meaning::association_intake_layer::Front;
-use association_meaning::{Halt, ReadingGround, arrived_at, meaning_of_unit};
+use association_meaning::{Halt, ReadingBasis, arrived_at, meaning_of_unit};
 use association_reacting::association_answers_layer::{Reaction, fail_association};
 use association_reacting::association_place_layer::{is_unit_in_place, is_unit_purged};
-use association_reacting::association_state_layer::{Body, Ground};
+use association_reacting::association_state_layer::{Body, Basis};
 use association_reacting::{fails_on_accepted, has_connection, react, react_to_end};
 use association_sets::copy_set;
 use association_words::{
@@ -38,11 +38,11 @@ use presentation_pdus::{PpduFault, PpduPlace};
 use set_rules::set_for;
 
 /// What the reading of an end stands on.
-fn reading<'a>(basis: &'a Ground<'_>, codecs: &'a Codecs) -> ReadingGround<'a>
+fn reading<'a>(basis: &'a Basis<'_>, codecs: &'a Codecs) -> ReadingBasis<'a>
     ensures tables { result.tables.now ≡ basis.now.tables.now }
     ensures config { result.config.now ≡ basis.now.config }
 {
-    ReadingGround {
+    ReadingBasis {
         alloc: basis.alloc,
         codecs,
         tables: basis.tables,
@@ -83,7 +83,7 @@ fn fault_of(halt: Halt) -> Result<Fault, NoMemory>
 
 /// What the octets of the peer's transfer bring, unless they were handed up: a value, or a fault.
 fn arrived(
-    basis: &Ground<'_>,
+    basis: &Basis<'_>,
     codecs: &Codecs,
     body: &Body,
 ) -> Result<Result<Option<Value>, Fault>, NoMemory>
@@ -108,7 +108,7 @@ fn arrived(
 
 /// The contexts of a unit that was read: those of a CP are answered as it comes.
 fn contexts_said(
-    basis: &Ground<'_>,
+    basis: &Basis<'_>,
     body: &Body,
     word: &PresentationWord,
 ) -> Result<SetList, NoMemory>
@@ -125,7 +125,7 @@ fn contexts_said(
 
 /// The contexts of a CN with these user data.
 fn contexts_proposed(
-    basis: &Ground<'_>,
+    basis: &Basis<'_>,
     codecs: &Codecs,
     body: &Body,
     user: &[u8],
@@ -148,7 +148,7 @@ fn contexts_proposed(
 
 /// The contexts on which an abort for a unit goes that can't be read.
 fn contexts_of(
-    basis: &Ground<'_>,
+    basis: &Basis<'_>,
     codecs: &Codecs,
     body: &Body,
     unit: &SessionWord,
@@ -166,7 +166,7 @@ fn contexts_of(
 
 /// Ends the association for a unit that can't be read.
 fn fail_unit(
-    basis: &Ground<'_>,
+    basis: &Basis<'_>,
     codecs: &Codecs,
     body: &mut Body,
     unit: &SessionWord,
@@ -215,7 +215,7 @@ fn ending(word: &Word) -> Option<u32>
 
 /// What an end does with a word.
 fn react_to_word(
-    basis: &Ground<'_>,
+    basis: &Basis<'_>,
     codecs: &Codecs,
     body: &mut Body,
     word: Word,
@@ -236,7 +236,7 @@ fn react_to_word(
 
 /// What a unit means.
 fn meant(
-    basis: &Ground<'_>,
+    basis: &Basis<'_>,
     codecs: &Codecs,
     body: &Body,
     unit: &SessionWord,
@@ -257,7 +257,7 @@ fn meant(
 
 /// What an end does with a unit that may stand where it came.
 fn react_to_meaning(
-    basis: &Ground<'_>,
+    basis: &Basis<'_>,
     codecs: &Codecs,
     body: &mut Body,
     unit: &SessionWord,
@@ -280,7 +280,7 @@ fn react_to_meaning(
 
 /// What an end does with a unit of the session.
 fn react_to_unit(
-    basis: &Ground<'_>,
+    basis: &Basis<'_>,
     codecs: &Codecs,
     body: &mut Body,
     unit: &SessionWord,
@@ -304,7 +304,7 @@ fn react_to_unit(
 }
 
 /// The fault of octets that break a grammar: session units before CC are one of the transport.
-fn grammar_fault(basis: &Ground<'_>, body: &Body, layer: Layer, place: u64) -> Fault
+fn grammar_fault(basis: &Basis<'_>, body: &Body, layer: Layer, place: u64) -> Fault
     ensures { seen_fault result ≡ rules.grammar_fault (seen body.now) layer place }
 {
     match layer {
@@ -322,7 +322,7 @@ fn grammar_fault(basis: &Ground<'_>, body: &Body, layer: Layer, place: u64) -> F
 /// What an end does with what stands first, unless it passes over all or less than a message stands
 /// there.
 pub(crate) fn react_to(
-    basis: &Ground<'_>,
+    basis: &Basis<'_>,
     codecs: &Codecs,
     body: &mut Body,
     front: Front,

@@ -9,7 +9,7 @@ ghost use Rattle.end_rules.specs.State.{opened_with};
 use crate::invocations::hear_invoke;
 use crate::outcomes::{hear_error, hear_reject, hear_result};
 use crate::places::{error_with, operation_with};
-use association_answers::association_state_layer::Ground;
+use association_answers::association_state_layer::Basis;
 use association_answers::open_invocations_layer::Invocations;
 use osi_base::NoMemory;
 use rose_roles::RoseTaken;
@@ -17,7 +17,7 @@ use stub_tables::{Apdu, Returned};
 
 /// Hears a result that returns nothing, or a value with its code.
 fn hear_returned(
-    basis: &Ground<'_>,
+    basis: &Basis<'_>,
     calls: &mut Invocations,
     id: i64,
     returned: Option<Returned>,
@@ -37,7 +37,7 @@ fn hear_returned(
 /// What becomes of an APDU that was read whole on a context. The place is where the operation or
 /// the error with its code was found before, if it was; any other gives the same.
 pub fn hear_apdu(
-    basis: &Ground<'_>,
+    basis: &Basis<'_>,
     calls: &mut Invocations,
     context: u32,
     apdu: Apdu,

@@ -8,14 +8,14 @@ ghost use Rattle.association_answers.specs.association_state.Seen.{base_in};
 
 use crate::problems::invoke_problem;
 use asn1_types::Val;
-use association_answers::association_state_layer::Ground;
+use association_answers::association_state_layer::Basis;
 use association_answers::open_invocations_layer::Invocations;
 use osi_base::{NoMemory, ProblemKind};
 use rose_roles::{InvokedWith, RoseTaken, reject_with};
 
 /// Hears an invocation on a context, of the operation at this place if there is one.
 pub(crate) fn hear_invoke(
-    basis: &Ground<'_>,
+    basis: &Basis<'_>,
     calls: &mut Invocations,
     context: u32,
     id: i64,

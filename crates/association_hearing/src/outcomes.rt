@@ -8,7 +8,7 @@ ghost use Rattle.association_answers.specs.association_state.Seen.{base_in};
 
 use crate::problems::{error_problem, result_problem};
 use asn1_types::Val;
-use association_answers::association_state_layer::Ground;
+use association_answers::association_state_layer::Basis;
 use association_answers::open_invocations_layer::Invocations;
 use osi_base::{Problem, ProblemKind};
 use rose_roles::{RoseTaken, is_of_invocation, reject_with};
@@ -16,7 +16,7 @@ use stub_tables::Code;
 
 /// Hears a result.
 pub(crate) fn hear_result(
-    basis: &Ground<'_>,
+    basis: &Basis<'_>,
     calls: &mut Invocations,
     id: i64,
     code: &Option<Code>,
@@ -38,7 +38,7 @@ pub(crate) fn hear_result(
 
 /// Hears an error, the one at this place if there is one.
 pub(crate) fn hear_error(
-    basis: &Ground<'_>,
+    basis: &Basis<'_>,
     calls: &mut Invocations,
     id: i64,
     error: Option<u32>,

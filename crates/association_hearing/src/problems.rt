@@ -9,7 +9,7 @@ ghost use Rattle.association_answers.specs.open_invocations.Invocations.{is_link
 ghost use Rattle.association_answers.specs.association_state.Seen.{base_in};
 
 use asn1_types::Val;
-use association_answers::association_state_layer::Ground;
+use association_answers::association_state_layer::Basis;
 use association_answers::open_invocations_layer::Invocations;
 use rose_roles::{has_links, is_linked_to};
 use stub_tables::{Code, Operation};
@@ -18,7 +18,7 @@ use stub_tables::{Code, Operation};
 const MOST_OPEN: usize = 4_096;
 
 /// Whether the operation at this place is silent.
-fn is_silent_at(basis: &Ground<'_>, place: Option<u32>) -> bool
+fn is_silent_at(basis: &Basis<'_>, place: Option<u32>) -> bool
     ensures { result ≡ is_silent_at (base_in basis.now) place }
 {
     let Some(place) = place else { return false };
@@ -30,7 +30,7 @@ fn is_silent_at(basis: &Ground<'_>, place: Option<u32>) -> bool
 
 /// Why the operation at this place may not be linked so.
 fn link_problem(
-    basis: &Ground<'_>,
+    basis: &Basis<'_>,
     calls: &Invocations,
     place: u32,
     linked: &Option<i64>,
@@ -53,7 +53,7 @@ fn link_problem(
 }
 
 /// Whether an argument is one of the operation at this place.
-fn argument_problem(basis: &Ground<'_>, place: u32, argument: &Option<Val>) -> Option<u8>
+fn argument_problem(basis: &Basis<'_>, place: u32, argument: &Option<Val>) -> Option<u8>
     ensures { result ≡ argument_problem (base_in basis.now) (operation_at basis.now.tables.now
         place) (carried_in argument.now) }
 {
@@ -71,7 +71,7 @@ fn argument_problem(basis: &Ground<'_>, place: u32, argument: &Option<Val>) -> O
 
 /// The problem of an operation's place, of a link and of an argument.
 fn operation_problem(
-    basis: &Ground<'_>,
+    basis: &Basis<'_>,
     calls: &Invocations,
     place: Option<u32>,
     linked: &Option<i64>,
@@ -90,7 +90,7 @@ fn operation_problem(
 
 /// The first problem of an invocation.
 pub(crate) fn invoke_problem(
-    basis: &Ground<'_>,
+    basis: &Basis<'_>,
     calls: &Invocations,
     id: &i64,
     linked: &Option<i64>,
@@ -114,7 +114,7 @@ pub(crate) fn invoke_problem(
 /// Whether a result is right for the operation at this place.
 #[tactic(auto, using(crate::proofs::Codes::has_code_at))]
 fn is_right_result(
-    basis: &Ground<'_>,
+    basis: &Basis<'_>,
     place: u32,
     operation: &Operation,
     code: &Option<Code>,
@@ -134,7 +134,7 @@ fn is_right_result(
 
 /// The first problem of a result of the operation at this place.
 pub(crate) fn result_problem(
-    basis: &Ground<'_>,
+    basis: &Basis<'_>,
     place: u32,
     code: &Option<Code>,
     value: &Option<Val>,
@@ -156,7 +156,7 @@ pub(crate) fn result_problem(
 
 /// The problem of a known error of an operation.
 fn known_error_problem(
-    basis: &Ground<'_>,
+    basis: &Basis<'_>,
     operation: &Operation,
     place: u32,
     parameter: &Option<Val>,
@@ -182,7 +182,7 @@ fn known_error_problem(
 /// The first problem of an error, as a place in the table of errors, of the operation at this
 /// place.
 pub(crate) fn error_problem(
-    basis: &Ground<'_>,
+    basis: &Basis<'_>,
     place: u32,
     error: Option<u32>,
     parameter: &Option<Val>,

@@ -6,7 +6,7 @@ ghost use Rattle.end_wire.specs.Heads.{head_at};
 ghost use Rattle.rose_roles.specs.Hearing.{heard_with};
 ghost use Rattle.association_answers.specs.association_state.Seen.{base_in};
 
-use association_answers::association_state_layer::Ground;
+use association_answers::association_state_layer::Basis;
 use association_answers::open_invocations_layer::Invocations;
 use ber_spelling::{are_octets, hold_octets};
 use osi_base::{NoMemory, Octets, Syntax};
@@ -15,7 +15,7 @@ use rose_roles::{RoseTaken, refused_head};
 /// What becomes of octets on a context in a syntax: of the head that they spell, or of octets that
 /// spell none.
 fn hear_octets(
-    basis: &Ground<'_>,
+    basis: &Basis<'_>,
     calls: &mut Invocations,
     context: u32,
     syntax: Syntax,
@@ -37,7 +37,7 @@ fn hear_octets(
 
 /// What becomes of octets on a context in a syntax: what no head is read from is rejected.
 pub fn hear_unread(
-    basis: &Ground<'_>,
+    basis: &Basis<'_>,
     calls: &mut Invocations,
     context: u32,
     syntax: Syntax,

@@ -12,7 +12,7 @@ use crate::apdus::hear_apdu;
 use crate::unread::hear_unread;
 use association_answers::association_calls_layer::carrier_in;
 use association_answers::association_sends_layer::pair_copied;
-use association_answers::association_state_layer::{Body, Ground, Queued};
+use association_answers::association_state_layer::{Body, Basis, Queued};
 use association_answers::open_invocations_layer::Invocations;
 use association_answers::{Brought, one_indication, one_message, with_indication, with_nothing};
 use association_ground::is_reliable;
@@ -24,7 +24,7 @@ use stub_tables::Apdu;
 
 /// Hears what a value says.
 fn hear_value(
-    basis: &Ground<'_>,
+    basis: &Basis<'_>,
     calls: &mut Invocations,
     value: Value,
 ) -> Result<RoseTaken, NoMemory>
@@ -47,7 +47,7 @@ fn hear_value(
 }
 
 /// An APDU as data on a context.
-pub fn data_on(basis: &Ground<'_>, body: &Body, id: u32, apdu: Apdu) -> Result<Message, NoMemory>
+pub fn data_on(basis: &Basis<'_>, body: &Body, id: u32, apdu: Apdu) -> Result<Message, NoMemory>
     ensures { IfOk result (λ m. seen_message m ≡ data_on (seen body.now) id apdu) }
 {
     let Ok(pair) = pair_copied(basis.alloc, body.sets.held.as_slice(), id) else {
@@ -71,7 +71,7 @@ pub fn queue_apdu(body: &mut Body, context: u32, apdu: Apdu) -> Result<(), NoMem
 /// Sends a reject: in reliable mode it joins the queue, else it goes on the carrier of the context
 /// of what it rejects, or isn't sent.
 fn send_reject(
-    basis: &Ground<'_>,
+    basis: &Basis<'_>,
     body: &mut Body,
     context: u32,
     id: Option<i64>,
@@ -95,7 +95,7 @@ fn send_reject(
 
 /// What the user is told, or the reject that is sent.
 fn take_heard(
-    basis: &Ground<'_>,
+    basis: &Basis<'_>,
     body: &mut Body,
     context: u32,
     taken: RoseTaken,
@@ -146,7 +146,7 @@ fn take_heard(
 }
 
 /// Takes a value of remote operations.
-pub fn take_value(basis: &Ground<'_>, body: &mut Body, value: Value) -> Result<Brought, NoMemory>
+pub fn take_value(basis: &Basis<'_>, body: &mut Body, value: Value) -> Result<Brought, NoMemory>
     ensures { IfOk result (TookAs (take_head (base_in basis.now) (seen body.old) value.id (head_of
         (base_in basis.now) (seen_value value))) (seen body.new)) }
 {
@@ -170,7 +170,7 @@ fn join(all: &mut Brought, taken: Brought) -> Result<(), NoMemory>
 }
 
 /// Takes values of remote operations, one after the other.
-pub fn take_values(basis: &Ground<'_>, body: &mut Body, values: Values) -> Result<Brought, NoMemory>
+pub fn take_values(basis: &Basis<'_>, body: &mut Body, values: Values) -> Result<Brought, NoMemory>
     ensures { IfOk result (TookAs (take_values (base_in basis.now) (seen body.old)
         (seen_values values)) (seen body.new)) }
 {

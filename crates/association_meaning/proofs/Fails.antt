@@ -13,7 +13,7 @@ use Rattle.osi_base.specs.declared.presentation_word.PresentationWord.{Presentat
 use Rattle.stub_tables.specs.declared.tables.Tables.{Tables}
 use Rattle.end_rules.specs.Base.{Base, Fault}
 use Rattle.end_rules.specs.Messages.{DataValue, ValueContent, Information, Accepting, AbortData, Word}
-use Rattle.association_intake.specs.association_reading.declared.layer_of_values.Carriage.{Carriage}
+use Rattle.association_intake.specs.association_reading.declared.layer_of_values.LayerOfValues.{LayerOfValues}
 use Rattle.association_intake.specs.association_reading.Places.{PdvPlaces}
 use Rattle.association_intake.specs.association_reading.Values.{with_content, with_user, and_informed}
 use Rattle.association_intake.specs.association_reading.Meaning.{with_values}
@@ -81,7 +81,7 @@ pub with_abort_fails : (e : Halt) (transport : Option ℕ) (r : Result AbortData
 with_abort_fails (Faulty f) transport r h = ap (words.with_abort transport) h
 with_abort_fails NoMemory transport r h = tt
 
-pub under_fails : (e : Halt) (tables : Tables) (held : List SetItem) (carried : Carriage) (places : List PdvPlaces) (r : Result (List Pdv) Fault) → FailsAs e r → FailsAs e (words.under tables held carried places r)
+pub under_fails : (e : Halt) (tables : Tables) (held : List SetItem) (carried : LayerOfValues) (places : List PdvPlaces) (r : Result (List Pdv) Fault) → FailsAs e r → FailsAs e (words.under tables held carried places r)
 under_fails (Faulty f) tables held carried places r h = ap (words.under tables held carried places) h
 under_fails NoMemory tables held carried places r h = tt
 

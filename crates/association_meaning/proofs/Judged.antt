@@ -12,7 +12,7 @@ use Rattle.osi_base.specs.SetPlaces.{pair_of}
 use Rattle.end_rules.specs.Messages as meant
 use Rattle.pdv_places.specs.declared.places.PdvField.{PdvField}
 use Rattle.pdv_places.specs.Seen.{place_in}
-use Rattle.association_intake.specs.association_reading.declared.layer_of_values.Carriage.{Carriage}
+use Rattle.association_intake.specs.association_reading.declared.layer_of_values.LayerOfValues.{LayerOfValues}
 use Rattle.association_intake.specs.association_reading.Places.{PdvPlaces}
 use Rattle.association_intake.specs.association_reading.Contexts.{name_carried, invalid_at, pdv_fault, form_fault, first_fault}
 use Rattle.association_intake.specs.association_reading.Values.{unless_fault, all_values, value_in, values_under}
@@ -48,7 +48,7 @@ module _ (tables : Tables) (at : PdvPlaces) (pdv : Pdv) (pair : Option Pair) whe
 
 -- ---- values under a set
 
-module _ (tables : Tables) (set : List SetItem) (carried : Carriage) (places : List PdvPlaces) (pdvs : List Pdv) (w : Option Wrong) (first : w ≡ first_wrong 0 (under_set (name_carried tables carried) set) pdvs) where
+module _ (tables : Tables) (set : List SetItem) (carried : LayerOfValues) (places : List PdvPlaces) (pdvs : List Pdv) (w : Option Wrong) (first : w ≡ first_wrong 0 (under_set (name_carried tables carried) set) pdvs) where
   abbrev name : List ℕ
   name = name_carried tables carried
 

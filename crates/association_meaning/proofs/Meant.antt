@@ -15,8 +15,8 @@ use Rattle.presentation_pdus.specs.Units.{ppdu_at}
 use Rattle.end_rules.specs.Base.{Base, Fault}
 use Rattle.end_rules.specs.State.{Body}
 use Rattle.end_rules.specs.Messages.{DataValue, Accepting, ProviderReason, UserValues, Word, OfAssociation, Finish, Disconnect, Abort, OfData, Values, OfMarks, Please}
-use Rattle.association_intake.specs.association_reading.declared.layer_of_values.Carriage.{Carriage}
-use Rattle.association_intake.specs.association_reading.declared.layer_of_values.Carriage.TheVariants as carriage
+use Rattle.association_intake.specs.association_reading.declared.layer_of_values.LayerOfValues.{LayerOfValues}
+use Rattle.association_intake.specs.association_reading.declared.layer_of_values.LayerOfValues.TheVariants as carriage
 use Rattle.association_intake.specs.association_reading.Places.{pdv_places}
 use Rattle.association_intake.specs.association_reading.Association.{abort_values}
 use Rattle.association_intake.specs.association_reading.Meaning as reading
@@ -104,7 +104,7 @@ aborted_is base body transport start user (Err why.NoMemory) = refl
 
 -- ---- values alone
 
-module _ (base : Base) (body : Body) (carried : Carriage) (word : List DataValue → Word) (carrier : PpduPlace) (start : ℕ) (user : List ℕ) where
+module _ (base : Base) (body : Body) (carried : LayerOfValues) (word : List DataValue → Word) (carrier : PpduPlace) (start : ℕ) (user : List ℕ) where
   data_is : (r : Read) → reading.with_values word (under base.tables body.sets.held carried (pdv_places carrier start user) (data_in start r)) ≡ reading.on_ppdu start r (reading.data_meaning base body carried word carrier start user)
   data_is (Ok (pdus.Connect p)) = refl
   data_is (Ok (pdus.Accept p)) = refl

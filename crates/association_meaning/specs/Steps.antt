@@ -22,7 +22,7 @@ use Rattle.end_rules.specs.Messages.{DataValue}
 use Rattle.pdv_places.specs.declared.places.PdvField.{PdvField}
 use Rattle.pdv_places.specs.declared.places.PdvField.TheVariants as fields
 use Rattle.pdv_places.specs.Seen.{place_in, places_at}
-use Rattle.association_intake.specs.association_reading.declared.layer_of_values.Carriage.TheVariants as carriage
+use Rattle.association_intake.specs.association_reading.declared.layer_of_values.LayerOfValues.TheVariants as carriage
 use Rattle.association_intake.specs.association_reading.Places.{PdvPlaces}
 use Rattle.association_intake.specs.association_reading.Contexts.{is_named, is_form, is_carried, invalid_at, pdv_fault}
 use Rattle.association_intake.specs.association_reading.Values.{values_under, and_informed}

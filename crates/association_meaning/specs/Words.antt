@@ -18,8 +18,8 @@ use Rattle.stub_tables.specs.declared.tables.Tables.{Tables}
 use Rattle.end_rules.specs.Base.{Base, Fault}
 use Rattle.end_rules.specs.Faults.{invalid_ppdu}
 use Rattle.end_rules.specs.Messages.{DataValue, Accepting, AbortData, NoData, ProviderReason, UserValues, Word, OfAssociation, Connect, Accept, Refuse, Finish, Disconnect, Abort, AbortAccept, OfData, Values, OfMarks, Mark, MarkAck, Restart, RestartAck, Give, Please, GiveConfirm, GiveAck, OfActivities, Start, Resume, End, EndAck, Interrupt, InterruptAck, Discard, DiscardAck}
-use Rattle.association_intake.specs.association_reading.declared.layer_of_values.Carriage.{Carriage}
-use Rattle.association_intake.specs.association_reading.declared.layer_of_values.Carriage.TheVariants as carriage
+use Rattle.association_intake.specs.association_reading.declared.layer_of_values.LayerOfValues.{LayerOfValues}
+use Rattle.association_intake.specs.association_reading.declared.layer_of_values.LayerOfValues.TheVariants as carriage
 use Rattle.association_intake.specs.association_reading.Places.{PdvPlaces, pdv_places}
 use Rattle.association_intake.specs.association_reading.Values.{values_under}
 use Rattle.association_intake.specs.association_reading.Association.{connect_values, accept_values, refuse_values, abort_values}
@@ -114,11 +114,11 @@ aborted_with base set transport start (Some user) = aborted base set transport s
 
 -- ---- values alone
 
-abbrev pub under : Tables → List SetItem → Carriage → List PdvPlaces → Result (List Pdv) Fault → Result (List DataValue) Fault
+abbrev pub under : Tables → List SetItem → LayerOfValues → List PdvPlaces → Result (List Pdv) Fault → Result (List DataValue) Fault
 under tables held carried places (Ok pdvs) = values_under tables held carried places pdvs
 under tables held carried places (Err fault) = Err fault
 
-abbrev pub values_with : Tables → List SetItem → Carriage → PpduPlace → ℕ → List ℕ → Result (List DataValue) Fault
+abbrev pub values_with : Tables → List SetItem → LayerOfValues → PpduPlace → ℕ → List ℕ → Result (List DataValue) Fault
 values_with tables held carried carrier start user = under tables held carried (pdv_places carrier start user) (data_in start (ppdu_at carrier user))
 
 abbrev pub finished : Tables → List SetItem → Option ℕ → ℕ → List ℕ → Result Word Fault

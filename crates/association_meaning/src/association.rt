@@ -13,7 +13,7 @@ ghost use Rattle.association_words.specs.Seen.{seen_content, seen_value, seen_va
 ghost use Rattle.association_meaning.specs.Grounds.{association_base, GivesAs};
 ghost use Rattle.association_meaning.specs.Steps as steps;
 
-use crate::basis::{Halt, ReadingGround};
+use crate::basis::{Halt, ReadingBasis};
 use crate::contexts::{Carrier, Wrong, check, form_wrong, pdv_wrong};
 use crate::layer_apdus::{acse_content, associated};
 use crate::names::{acse_name, rtse_name};
@@ -21,7 +21,7 @@ use crate::user_information::{AcseKind, and_informed};
 use crate::values::{value_in, values_under};
 use acse::AcseFault;
 use association_ground::{is_reliable, same_name};
-use association_intake::association_reading_layer::Carriage;
+use association_intake::association_reading_layer::LayerOfValues;
 use association_sets::fit_proposals;
 use association_words::{Value, ValueContent, Values};
 use osi_base::{
@@ -61,7 +61,7 @@ fn first_wrong_unless_left(definitions: &[Proposal], set: &[SetItem], pdvs: &[Pd
 
 /// What a value is of which nothing is asked: the APDU of association control that its octets
 /// spell, or its octets.
-fn left_content(basis: &ReadingGround<'_>, octets: &[u8]) -> Result<ValueContent, NoMemory>
+fn left_content(basis: &ReadingBasis<'_>, octets: &[u8]) -> Result<ValueContent, NoMemory>
     ensures { IfOk result (λ content. seen_content content ≡ reading.left_content octets.now
         (acse_at octets.now)) }
 {
@@ -76,7 +76,7 @@ fn left_content(basis: &ReadingGround<'_>, octets: &[u8]) -> Result<ValueContent
 
 /// A value of which nothing is asked where it is of association control.
 fn value_or_left(
-    basis: &ReadingGround<'_>,
+    basis: &ReadingBasis<'_>,
     definitions: &[Proposal],
     set: &[SetItem],
     pdv: &Pdv,
@@ -85,7 +85,7 @@ fn value_or_left(
         basis.now.tables.now basis.now.config.now) definitions.now set.now pdv.now) }
 {
     if !is_left(definitions, pdv) {
-        return value_in(basis, Carriage::Association, set, pdv);
+        return value_in(basis, LayerOfValues::Association, set, pdv);
     }
     Ok(Value {
         id: pdv.id,
@@ -96,7 +96,7 @@ fn value_or_left(
 
 /// Values of a CN that doesn't get association control.
 fn left_values(
-    basis: &ReadingGround<'_>,
+    basis: &ReadingBasis<'_>,
     definitions: &[Proposal],
     set: &[SetItem],
     carrier: &Carrier<'_>,
@@ -117,7 +117,7 @@ fn left_values(
 
 /// Each value, of which nothing is asked where it is of association control.
 fn all_or_left(
-    basis: &ReadingGround<'_>,
+    basis: &ReadingBasis<'_>,
     definitions: &[Proposal],
     set: &[SetItem],
     pdvs: &[Pdv],
@@ -136,7 +136,7 @@ fn all_or_left(
 
 /// Values of a CN that gets association control.
 fn values_associated(
-    basis: &ReadingGround<'_>,
+    basis: &ReadingBasis<'_>,
     presentation: &PresentationConnect,
     set: &[SetItem],
     carrier: &Carrier<'_>,
@@ -149,7 +149,7 @@ fn values_associated(
     let values = values_under(
         basis,
         set,
-        Carriage::Association,
+        LayerOfValues::Association,
         carrier,
         presentation.user.as_slice(),
     )?;
@@ -158,7 +158,7 @@ fn values_associated(
 
 /// Values of a CN whose list may stand.
 fn values_for(
-    basis: &ReadingGround<'_>,
+    basis: &ReadingBasis<'_>,
     presentation: &PresentationConnect,
     set: &[SetItem],
     carrier: &Carrier<'_>,
@@ -184,7 +184,7 @@ fn values_for(
 
 /// Values of a CN. A list that is faulty ends the association before they are looked at.
 pub(crate) fn connect_values(
-    basis: &ReadingGround<'_>,
+    basis: &ReadingBasis<'_>,
     presentation: &PresentationConnect,
     carrier: &Carrier<'_>,
 ) -> Result<Values, Halt>
@@ -203,7 +203,7 @@ pub(crate) fn connect_values(
 /// Whether an AC stands: its results fit, and the contexts of the association are among those that
 /// it accepts.
 fn stands(
-    basis: &ReadingGround<'_>,
+    basis: &ReadingBasis<'_>,
     presentation: &PresentationAccept,
     accepted: &[SetItem],
 ) -> Result<bool, NoMemory>
@@ -220,7 +220,7 @@ fn stands(
 
 /// Values of an AC that stands, which accepts these contexts.
 fn accepted_values(
-    basis: &ReadingGround<'_>,
+    basis: &ReadingBasis<'_>,
     presentation: &PresentationAccept,
     accepted: &[SetItem],
     carrier: &Carrier<'_>,
@@ -231,13 +231,13 @@ fn accepted_values(
         carrier.now.place carrier.now.start carrier.now.user.now)) }
 {
     let pdvs = presentation.user.as_slice();
-    let values = values_under(basis, accepted, Carriage::Association, carrier, pdvs)?;
+    let values = values_under(basis, accepted, LayerOfValues::Association, carrier, pdvs)?;
     and_informed(basis, accepted, AcseKind::Acceptance, values)
 }
 
 /// Values of an AC. One that doesn't stand ends the association before they are looked at.
 pub(crate) fn accept_values(
-    basis: &ReadingGround<'_>,
+    basis: &ReadingBasis<'_>,
     presentation: &PresentationAccept,
     carrier: &Carrier<'_>,
 ) -> Result<Values, Halt>
@@ -267,7 +267,7 @@ fn first_form_wrong(pdvs: &[Pdv]) -> Option<Wrong>
 }
 
 /// A value of association control in BER, whatever its context.
-fn unasked_value(basis: &ReadingGround<'_>, pdv: &Pdv) -> Result<Value, Halt>
+fn unasked_value(basis: &ReadingBasis<'_>, pdv: &Pdv) -> Result<Value, Halt>
     ensures { GivesAs seen_value result (reading.unasked_value pdv.now) }
 {
     let abstract_name = Oid::from_slice(basis.alloc, acse_name())?;
@@ -284,7 +284,7 @@ fn unasked_value(basis: &ReadingGround<'_>, pdv: &Pdv) -> Result<Value, Halt>
 
 /// Values of a refusal or of an abort, of which no contexts are asked.
 fn unasked_values(
-    basis: &ReadingGround<'_>,
+    basis: &ReadingBasis<'_>,
     carrier: &Carrier<'_>,
     pdvs: &[Pdv],
 ) -> Result<Values, Halt>
@@ -297,7 +297,7 @@ fn unasked_values(
 }
 
 /// Each value of association control in BER, whatever its context.
-fn all_unasked(basis: &ReadingGround<'_>, pdvs: &[Pdv]) -> Result<Values, Halt>
+fn all_unasked(basis: &ReadingBasis<'_>, pdvs: &[Pdv]) -> Result<Values, Halt>
     ensures { GivesAs seen_values result (values_read.all_values reading.unasked_value pdvs.now) }
 {
     let mut values: Values = ListOf::new(basis.alloc);
@@ -310,7 +310,7 @@ fn all_unasked(basis: &ReadingGround<'_>, pdvs: &[Pdv]) -> Result<Values, Halt>
 
 /// The contexts that a refusal accepts.
 fn set_refused(
-    basis: &ReadingGround<'_>,
+    basis: &ReadingBasis<'_>,
     presentation: &PresentationReject,
 ) -> Result<SetList, NoMemory>
     ensures { IfOk result (λ set. set ≡ reading.set_refused (association_base basis.now.tables.now
@@ -321,7 +321,7 @@ fn set_refused(
 
 /// Values of an RF.
 pub(crate) fn refuse_values(
-    basis: &ReadingGround<'_>,
+    basis: &ReadingBasis<'_>,
     presentation: &PresentationReject,
     carrier: &Carrier<'_>,
 ) -> Result<Values, Halt>
@@ -337,7 +337,7 @@ pub(crate) fn refuse_values(
 
 /// Values of an AB.
 pub(crate) fn abort_values(
-    basis: &ReadingGround<'_>,
+    basis: &ReadingBasis<'_>,
     accepted: &[SetItem],
     carrier: &Carrier<'_>,
     pdvs: &[Pdv],

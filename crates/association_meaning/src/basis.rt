@@ -14,7 +14,7 @@ use stub_tables::Tables;
 
 /// What reading stands on: the fixed tables, the module's tables and the configuration of an end.
 #[derive(Clone, Copy)]
-pub struct ReadingGround<'a> {
+pub struct ReadingBasis<'a> {
     /// The allocator for all that reading makes.
     pub alloc: Global,
     /// The fixed tables by which octets are read.

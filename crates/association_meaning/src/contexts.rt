@@ -8,7 +8,7 @@ ghost use Rattle.association_intake.specs.association_reading.Contexts as readin
 ghost use Rattle.association_meaning.specs.Grounds.{GivesAs};
 ghost use Rattle.association_meaning.specs.Steps as steps;
 
-use crate::basis::{Halt, ReadingGround, fault_at};
+use crate::basis::{Halt, ReadingBasis, fault_at};
 use crate::names::acse_name;
 use association_ground::same_name;
 use osi_base::{Layer, Oid, Pair, Pdv, PdvContent, SetItem, Syntax, pair_of};
@@ -106,7 +106,7 @@ pub(crate) fn first_wrong(carried: &[u32], set: &[SetItem], pdvs: &[Pdv]) -> Opt
 
 /// Ends the association where a value is wrong: an invalid unit (6) at the place of the field.
 pub(crate) fn check(
-    basis: &ReadingGround<'_>,
+    basis: &ReadingBasis<'_>,
     carrier: &Carrier<'_>,
     wrong: Option<Wrong>,
 ) -> Result<(), Halt>

@@ -4,16 +4,16 @@ ghost use Rattle.std.specs.Prelude.{◌≡◌, map, IfOk};
 ghost use Rattle.std.specs.Option.{option_copied};
 ghost use Rattle.acse.specs.Fields as acse_fields;
 ghost use Rattle.rtse_apdus.specs.Reading as rtse_reading;
-ghost use Rattle.association_intake.specs.association_reading.declared.layer_of_values.Carriage.TheVariants as carriages;
+ghost use Rattle.association_intake.specs.association_reading.declared.layer_of_values.LayerOfValues.TheVariants as carriages;
 ghost use Rattle.association_intake.specs.association_reading.Values as reading;
 ghost use Rattle.association_words.specs.Seen.{seen_information, seen_content};
 ghost use Rattle.association_meaning.specs.Grounds.{GivesAs};
 
-use crate::basis::{Halt, ReadingGround, fault_at};
+use crate::basis::{Halt, ReadingBasis, fault_at};
 use crate::names::rtse_name;
 use acse::AcseFault;
 use association_ground::same_name;
-use association_intake::association_reading_layer::Carriage;
+use association_intake::association_reading_layer::LayerOfValues;
 use association_words::{Information, UserInformation, ValueContent};
 use fixed_tables::PduFault;
 use module_contents::content_at;
@@ -93,7 +93,7 @@ pub(crate) fn associated(alloc: Global, apdu: Acse) -> Result<ValueContent, NoMe
 }
 
 /// What octets are as an APDU of association control.
-pub(crate) fn acse_content(basis: &ReadingGround<'_>, octets: &[u8]) -> Result<ValueContent, Halt>
+pub(crate) fn acse_content(basis: &ReadingBasis<'_>, octets: &[u8]) -> Result<ValueContent, Halt>
     ensures { GivesAs seen_content result (reading.acse_content (acse_fields.acse_at octets.now)) }
 {
     match basis.codecs.acse.read(basis.alloc, octets) {
@@ -104,7 +104,7 @@ pub(crate) fn acse_content(basis: &ReadingGround<'_>, octets: &[u8]) -> Result<V
 }
 
 /// What octets are as an APDU of reliable transfer: among values a plea or a part of a transfer.
-fn rtse_content(basis: &ReadingGround<'_>, octets: &[u8]) -> Result<ValueContent, Halt>
+fn rtse_content(basis: &ReadingBasis<'_>, octets: &[u8]) -> Result<ValueContent, Halt>
     ensures { GivesAs seen_content result (reading.rtse_content (rtse_reading.rtse_at octets.now)) }
 {
     match basis.codecs.rtse.read(basis.alloc, octets) {
@@ -121,7 +121,7 @@ fn rtse_content(basis: &ReadingGround<'_>, octets: &[u8]) -> Result<ValueContent
 
 /// What octets are under a pair in a message of reliable transfer.
 fn transfer_content(
-    basis: &ReadingGround<'_>,
+    basis: &ReadingBasis<'_>,
     pair: &Pair,
     octets: &[u8],
 ) -> Result<ValueContent, Halt>
@@ -137,7 +137,7 @@ fn transfer_content(
 
 /// What octets are under a pair in a message of the module.
 fn module_content(
-    basis: &ReadingGround<'_>,
+    basis: &ReadingBasis<'_>,
     pair: &Pair,
     octets: &[u8],
 ) -> Result<ValueContent, Halt>
@@ -159,8 +159,8 @@ fn module_content(
 
 /// What octets are under a pair in a message that carries these values.
 pub(crate) fn content_under(
-    basis: &ReadingGround<'_>,
-    carried: Carriage,
+    basis: &ReadingBasis<'_>,
+    carried: LayerOfValues,
     pair: &Pair,
     octets: &[u8],
 ) -> Result<ValueContent, Halt>
@@ -168,16 +168,16 @@ pub(crate) fn content_under(
         pair.now octets.now) }
 {
     match carried {
-        Carriage::Association => acse_content(basis, octets),
-        Carriage::Transfer => transfer_content(basis, pair, octets),
-        Carriage::Module => module_content(basis, pair, octets),
+        LayerOfValues::Association => acse_content(basis, octets),
+        LayerOfValues::Transfer => transfer_content(basis, pair, octets),
+        LayerOfValues::Module => module_content(basis, pair, octets),
     }
 }
 
 /// What octets are under the pair of their context, where there is one.
 pub(crate) fn content_by(
-    basis: &ReadingGround<'_>,
-    carried: Carriage,
+    basis: &ReadingBasis<'_>,
+    carried: LayerOfValues,
     pair: Option<&Pair>,
     octets: &[u8],
 ) -> Result<ValueContent, Halt>

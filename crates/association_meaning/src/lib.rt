@@ -18,6 +18,6 @@ mod values;
 pub use association_codecs as association_codecs_layer;
 pub use association_codecs::apdu_codec_layer;
 pub use association_intake as association_intake_layer;
-pub use basis::{Halt, ReadingGround};
+pub use basis::{Halt, ReadingBasis};
 pub use transfers::arrived_at;
 pub use units::meaning_of_unit;

@@ -4,7 +4,7 @@ ghost use Rattle.std.specs.Prelude.{◌≡◌};
 ghost use Rattle.end_rules.specs.Base as rules;
 ghost use Rattle.association_intake.specs.association_reading.Contexts as reading;
 
-use association_intake::association_reading_layer::Carriage;
+use association_intake::association_reading_layer::LayerOfValues;
 use stub_tables::Tables;
 
 /// The name of association control (X.227 11).
@@ -22,12 +22,12 @@ pub(crate) fn rtse_name() -> &'static [u32]
 }
 
 /// The abstract syntax of the values that a message carries.
-pub(crate) fn name_carried<'a>(tables: &'a Tables, carried: Carriage) -> &'a [u32]
+pub(crate) fn name_carried<'a>(tables: &'a Tables, carried: LayerOfValues) -> &'a [u32]
     ensures { result.now ≡ reading.name_carried tables.now carried }
 {
     match carried {
-        Carriage::Association => acse_name(),
-        Carriage::Transfer => rtse_name(),
-        Carriage::Module => tables.name_oid.arcs(),
+        LayerOfValues::Association => acse_name(),
+        LayerOfValues::Transfer => rtse_name(),
+        LayerOfValues::Module => tables.name_oid.arcs(),
     }
 }

@@ -10,17 +10,17 @@ ghost use Rattle.association_words.specs.Seen.{seen_content, seen_arrived};
 ghost use Rattle.association_meaning.specs.Grounds.{GivesAs};
 ghost use Rattle.association_meaning.specs.Steps as steps;
 
-use crate::basis::{Halt, ReadingGround, fault_at};
+use crate::basis::{Halt, ReadingBasis, fault_at};
 use crate::contexts::pdv_wrong;
 use crate::layer_apdus::content_under;
-use association_intake::association_reading_layer::Carriage;
+use association_intake::association_reading_layer::LayerOfValues;
 use association_words::{Arrived, TransferItem, ValueContent};
 use fixed_tables::PduFault;
 use osi_base::{Copied, Layer, NoMemory, Pair, Pdv, SetItem, pair_of};
 use pdv_places::{PdvField, transfer_place};
 
 /// An invalid unit (6) at the place of a field of the value, counted in the octets of the transfer.
-fn invalid_at(basis: &ReadingGround<'_>, octets: &[u8], field: PdvField) -> Result<Arrived, Halt>
+fn invalid_at(basis: &ReadingBasis<'_>, octets: &[u8], field: PdvField) -> Result<Arrived, Halt>
     ensures { GivesAs seen_arrived result (Err (invalid_at (place_in field (places_of (spot_at 0
         octets.now))))) }
 {
@@ -30,7 +30,7 @@ fn invalid_at(basis: &ReadingGround<'_>, octets: &[u8], field: PdvField) -> Resu
 
 /// A transfer carries one value of the module.
 fn arrived_as(
-    basis: &ReadingGround<'_>,
+    basis: &ReadingBasis<'_>,
     octets: &[u8],
     id: u32,
     pair: &Pair,
@@ -72,7 +72,7 @@ fn arrived_as(
 
 /// The value of a transfer, which may stand, under the pair of its context.
 fn arrived_under(
-    basis: &ReadingGround<'_>,
+    basis: &ReadingBasis<'_>,
     octets: &[u8],
     pdv: &Pdv,
     pair: Option<&Pair>,
@@ -84,13 +84,13 @@ fn arrived_under(
         return invalid_at(basis, octets, PdvField::Identifier);
     };
     let value = pdv.content.octets().as_slice();
-    let content = content_under(basis, Carriage::Module, pair, value)?;
+    let content = content_under(basis, LayerOfValues::Module, pair, value)?;
     arrived_as(basis, octets, pdv.id, pair, content)
 }
 
 /// The value of a transfer under the pair of its context, unless it may not stand.
 fn arrived_by(
-    basis: &ReadingGround<'_>,
+    basis: &ReadingBasis<'_>,
     octets: &[u8],
     pdv: &Pdv,
     pair: Option<&Pair>,
@@ -106,7 +106,7 @@ fn arrived_by(
 
 /// The value of a transfer under a set.
 fn arrived_in(
-    basis: &ReadingGround<'_>,
+    basis: &ReadingBasis<'_>,
     set: &[SetItem],
     octets: &[u8],
     pdv: &Pdv,
@@ -121,7 +121,7 @@ fn arrived_in(
 /// that spell none; or the fault that ends the association, of which places count in the octets.
 /// `NoMemory` where memory runs out.
 pub fn arrived_at(
-    basis: &ReadingGround<'_>,
+    basis: &ReadingBasis<'_>,
     set: &[SetItem],
     octets: &[u8],
 ) -> Result<Arrived, Halt>

@@ -14,11 +14,11 @@ ghost use Rattle.association_meaning.specs.Steps as steps;
 ghost use Rattle.association_meaning.specs.Words as words;
 
 use crate::association::{abort_values, accept_values, connect_values, refuse_values};
-use crate::basis::{Halt, ReadingGround, fault_at, misplaced};
+use crate::basis::{Halt, ReadingBasis, fault_at, misplaced};
 use crate::contexts::Carrier;
 use crate::values::values_under;
 use association_ground::is_reliable;
-use association_intake::association_reading_layer::Carriage;
+use association_intake::association_reading_layer::LayerOfValues;
 use association_words::{AbortData, Accepting, AssociationWord, DataWord, MarkWord, Values, Word};
 use osi_base::{
     Copied, Layer, ListOf, NoMemory, Octets, Pdv, Pdvs, PresentationAccept, PresentationConnect,
@@ -28,7 +28,7 @@ use presentation_pdus::{PpduFault, PpduPlace, ppdu_fault_is_first};
 use std::alloc::Global;
 
 /// The unit of the presentation that user data are. The place of a fault counts from the TSDU.
-fn unit_in(basis: &ReadingGround<'_>, carrier: &Carrier<'_>) -> Result<PresentationWord, Halt>
+fn unit_in(basis: &ReadingBasis<'_>, carrier: &Carrier<'_>) -> Result<PresentationWord, Halt>
     requires { HasPlaces carrier.now.start carrier.now.user.now }
     ensures { GivesAs (λ unit. unit) result (steps.read_unit carrier.now.start (ppdu_at
         carrier.now.place carrier.now.user.now)) }
@@ -69,7 +69,7 @@ fn without_user(alloc: Global, session: &SessionConnect) -> Result<SessionConnec
 }
 
 /// CP in the user data of CN.
-fn connect_in(basis: &ReadingGround<'_>, carrier: &Carrier<'_>) -> Result<PresentationConnect, Halt>
+fn connect_in(basis: &ReadingBasis<'_>, carrier: &Carrier<'_>) -> Result<PresentationConnect, Halt>
     requires { HasPlaces carrier.now.start carrier.now.user.now }
     ensures { GivesAs (λ p. p) result (words.connect_in carrier.now.start (ppdu_at carrier.now.place
         carrier.now.user.now)) }
@@ -90,7 +90,7 @@ fn connect_in(basis: &ReadingGround<'_>, carrier: &Carrier<'_>) -> Result<Presen
 }
 
 /// CPA in the user data of AC.
-fn accept_in(basis: &ReadingGround<'_>, carrier: &Carrier<'_>) -> Result<PresentationAccept, Halt>
+fn accept_in(basis: &ReadingBasis<'_>, carrier: &Carrier<'_>) -> Result<PresentationAccept, Halt>
     requires { HasPlaces carrier.now.start carrier.now.user.now }
     ensures { GivesAs (λ p. p) result (words.accept_in carrier.now.start (ppdu_at carrier.now.place
         carrier.now.user.now)) }
@@ -111,7 +111,7 @@ fn accept_in(basis: &ReadingGround<'_>, carrier: &Carrier<'_>) -> Result<Present
 }
 
 /// CPR in the user data of RF.
-fn reject_in(basis: &ReadingGround<'_>, carrier: &Carrier<'_>) -> Result<PresentationReject, Halt>
+fn reject_in(basis: &ReadingBasis<'_>, carrier: &Carrier<'_>) -> Result<PresentationReject, Halt>
     requires { HasPlaces carrier.now.start carrier.now.user.now }
     ensures { GivesAs (λ p. p) result (words.reject_in carrier.now.start (ppdu_at carrier.now.place
         carrier.now.user.now)) }
@@ -132,7 +132,7 @@ fn reject_in(basis: &ReadingGround<'_>, carrier: &Carrier<'_>) -> Result<Present
 }
 
 /// Values that stand alone in user data.
-fn data_in(basis: &ReadingGround<'_>, carrier: &Carrier<'_>) -> Result<Pdvs, Halt>
+fn data_in(basis: &ReadingBasis<'_>, carrier: &Carrier<'_>) -> Result<Pdvs, Halt>
     requires { HasPlaces carrier.now.start carrier.now.user.now }
     ensures { GivesAs (λ p. p) result (words.data_in carrier.now.start (ppdu_at carrier.now.place
         carrier.now.user.now)) }
@@ -154,7 +154,7 @@ fn data_in(basis: &ReadingGround<'_>, carrier: &Carrier<'_>) -> Result<Pdvs, Hal
 
 /// CN with CP.
 pub(crate) fn connect_meaning(
-    basis: &ReadingGround<'_>,
+    basis: &ReadingBasis<'_>,
     session: &SessionConnect,
     start: usize,
 ) -> Result<Word, Halt>
@@ -183,7 +183,7 @@ pub(crate) fn connect_meaning(
 
 /// AC with CPA.
 pub(crate) fn accept_meaning(
-    basis: &ReadingGround<'_>,
+    basis: &ReadingBasis<'_>,
     session: Accepting,
     start: usize,
     user: &[u8],
@@ -212,7 +212,7 @@ pub(crate) fn accept_meaning(
 
 /// RF with CPR.
 fn refuse_meaning(
-    basis: &ReadingGround<'_>,
+    basis: &ReadingBasis<'_>,
     transport: Option<u8>,
     reason: Option<u8>,
     start: usize,
@@ -243,7 +243,7 @@ fn refuse_meaning(
 
 /// RF with CPR, or without user data.
 pub(crate) fn refused_with(
-    basis: &ReadingGround<'_>,
+    basis: &ReadingBasis<'_>,
     transport: Option<u8>,
     reason: Option<u8>,
     start: usize,
@@ -266,7 +266,7 @@ pub(crate) fn refused_with(
 
 /// Values of ARU in the user data of AB.
 fn user_abort(
-    basis: &ReadingGround<'_>,
+    basis: &ReadingBasis<'_>,
     accepted: &[SetItem],
     carrier: &Carrier<'_>,
     pdvs: &[Pdv],
@@ -282,7 +282,7 @@ fn user_abort(
 
 /// What ARU or ARP in the user data of AB says.
 fn abort_in(
-    basis: &ReadingGround<'_>,
+    basis: &ReadingBasis<'_>,
     accepted: &[SetItem],
     carrier: &Carrier<'_>,
 ) -> Result<AbortData, Halt>
@@ -313,7 +313,7 @@ fn abort_in(
 
 /// AB with ARU or ARP.
 fn abort_meaning(
-    basis: &ReadingGround<'_>,
+    basis: &ReadingBasis<'_>,
     accepted: &[SetItem],
     transport: Option<u8>,
     start: usize,
@@ -334,7 +334,7 @@ fn abort_meaning(
 
 /// AB with ARU or ARP, or without user data.
 pub(crate) fn aborted_with(
-    basis: &ReadingGround<'_>,
+    basis: &ReadingBasis<'_>,
     accepted: &[SetItem],
     transport: Option<u8>,
     start: usize,
@@ -355,9 +355,9 @@ pub(crate) fn aborted_with(
 
 /// Values alone in user data under the held set.
 fn values_with(
-    basis: &ReadingGround<'_>,
+    basis: &ReadingBasis<'_>,
     held: &[SetItem],
-    carried: Carriage,
+    carried: LayerOfValues,
     carrier: &Carrier<'_>,
 ) -> Result<Values, Halt>
     requires { HasPlaces carrier.now.start carrier.now.user.now }
@@ -370,7 +370,7 @@ fn values_with(
 
 /// FN, with values of association control.
 pub(crate) fn finish_meaning(
-    basis: &ReadingGround<'_>,
+    basis: &ReadingBasis<'_>,
     held: &[SetItem],
     transport: Option<u8>,
     start: usize,
@@ -385,13 +385,13 @@ pub(crate) fn finish_meaning(
         start,
         user,
     };
-    let values = values_with(basis, held, Carriage::Association, &carrier)?;
+    let values = values_with(basis, held, LayerOfValues::Association, &carrier)?;
     Ok(Word::OfAssociation(AssociationWord::Finish { transport, values }))
 }
 
 /// DN, with values of association control.
 pub(crate) fn disconnect_meaning(
-    basis: &ReadingGround<'_>,
+    basis: &ReadingBasis<'_>,
     held: &[SetItem],
     start: usize,
     user: &[u8],
@@ -405,25 +405,25 @@ pub(crate) fn disconnect_meaning(
         start,
         user,
     };
-    let values = values_with(basis, held, Carriage::Association, &carrier)?;
+    let values = values_with(basis, held, LayerOfValues::Association, &carrier)?;
     Ok(Word::OfAssociation(AssociationWord::Disconnect { values }))
 }
 
 /// The values that DT carries.
-fn carried_by_data(basis: &ReadingGround<'_>) -> Carriage
+fn carried_by_data(basis: &ReadingBasis<'_>) -> LayerOfValues
     ensures { result ≡ reading.carried_by_data (association_base basis.now.tables.now
         basis.now.config.now) }
 {
     if is_reliable(basis.config.mode) {
-        Carriage::Transfer
+        LayerOfValues::Transfer
     } else {
-        Carriage::Module
+        LayerOfValues::Module
     }
 }
 
 /// DT, with the module's values, in reliable mode with parts of transfers.
 pub(crate) fn data_meaning(
-    basis: &ReadingGround<'_>,
+    basis: &ReadingBasis<'_>,
     held: &[SetItem],
     start: usize,
     user: &[u8],
@@ -443,7 +443,7 @@ pub(crate) fn data_meaning(
 
 /// PT that carries values.
 fn plea_meaning(
-    basis: &ReadingGround<'_>,
+    basis: &ReadingBasis<'_>,
     held: &[SetItem],
     tokens: u8,
     start: usize,
@@ -458,7 +458,7 @@ fn plea_meaning(
         start,
         user,
     };
-    let values = values_with(basis, held, Carriage::Transfer, &carrier)?;
+    let values = values_with(basis, held, LayerOfValues::Transfer, &carrier)?;
     Ok(Word::OfMarks(MarkWord::Please {
         tokens: Some(tokens),
         values,
@@ -467,7 +467,7 @@ fn plea_meaning(
 
 /// PT. A plea without a token item says nothing, whatever it carries.
 pub(crate) fn pleaded_with(
-    basis: &ReadingGround<'_>,
+    basis: &ReadingBasis<'_>,
     held: &[SetItem],
     tokens: Option<u8>,
     start: usize,
@@ -494,7 +494,7 @@ pub(crate) fn pleaded_with(
 
 /// TD with AC or ACA.
 pub(crate) fn typed_meaning(
-    basis: &ReadingGround<'_>,
+    basis: &ReadingBasis<'_>,
     start: usize,
     user: &[u8],
 ) -> Result<Word, Halt>
@@ -527,7 +527,7 @@ pub(crate) fn typed_meaning(
 
 /// RS with its list.
 fn restart_meaning(
-    basis: &ReadingGround<'_>,
+    basis: &ReadingBasis<'_>,
     number: u32,
     start: usize,
     user: &[u8],
@@ -560,7 +560,7 @@ fn restart_meaning(
 
 /// RS with its list, or without user data.
 pub(crate) fn restarted_with(
-    basis: &ReadingGround<'_>,
+    basis: &ReadingBasis<'_>,
     number: u32,
     start: usize,
     user: &Option<Octets>,
@@ -576,7 +576,7 @@ pub(crate) fn restarted_with(
 
 /// RA with its list.
 fn restart_ack_meaning(
-    basis: &ReadingGround<'_>,
+    basis: &ReadingBasis<'_>,
     number: u32,
     start: usize,
     user: &[u8],
@@ -612,7 +612,7 @@ fn restart_ack_meaning(
 
 /// RA with its list, or without user data.
 pub(crate) fn restart_acked_with(
-    basis: &ReadingGround<'_>,
+    basis: &ReadingBasis<'_>,
     number: u32,
     start: usize,
     user: &Option<Octets>,

@@ -10,7 +10,7 @@ ghost use Rattle.association_meaning.specs.Grounds.{association_base, GivesAs};
 ghost use Rattle.association_meaning.specs.Words as words;
 ghost use Rattle.association_intake.specs.Seen.{HasUserPlaces};
 
-use crate::basis::{Halt, ReadingGround};
+use crate::basis::{Halt, ReadingBasis};
 use crate::unit_meanings::{
     aborted_with, accept_meaning, connect_meaning, data_meaning, disconnect_meaning,
     finish_meaning, pleaded_with, refused_with, restart_acked_with, restarted_with, typed_meaning,
@@ -67,7 +67,7 @@ fn of_activities(word: ActivityWord) -> Option<Word>
 
 /// What the other units mean: those that may carry values, and AA.
 fn carried_word(
-    basis: &ReadingGround<'_>,
+    basis: &ReadingBasis<'_>,
     accepted: &[SetItem],
     held: &[SetItem],
     unit: &SessionWord,
@@ -135,7 +135,7 @@ fn accepting(
 
 /// As `meaning_of_unit`, step by step.
 fn unit_meaning(
-    basis: &ReadingGround<'_>,
+    basis: &ReadingBasis<'_>,
     accepted: &[SetItem],
     held: &[SetItem],
     unit: &SessionWord,
@@ -156,7 +156,7 @@ fn unit_meaning(
 /// forms of values, then their APDUs. Its user data begin at this place of its TSDU. `NoMemory`
 /// where memory runs out; the unit is left as it is.
 pub fn meaning_of_unit(
-    basis: &ReadingGround<'_>,
+    basis: &ReadingBasis<'_>,
     accepted: &[SetItem],
     held: &[SetItem],
     unit: &SessionWord,

@@ -11,7 +11,7 @@ ghost use Rattle.association_meaning.specs.Grounds.{association_base, GivesAs};
 ghost use Rattle.association_meaning.specs.Informing.{kind_of, seen_items, seen_item_read};
 ghost use Rattle.association_meaning.specs.Informing.{transferring, other_read, item_read, with_first};
 
-use crate::basis::{Halt, ReadingGround, fault_at};
+use crate::basis::{Halt, ReadingBasis, fault_at};
 use crate::names::rtse_name;
 use association_ground::is_reliable;
 use association_sets::has_abstract;
@@ -100,7 +100,7 @@ fn is_on_rtse(accepted: &[SetItem], id: u32) -> bool
 }
 
 /// An item that is an APDU of reliable transfer in these octets.
-fn transferring(basis: &ReadingGround<'_>, id: u32, octets: &Octets) -> Result<Information, Halt>
+fn transferring(basis: &ReadingBasis<'_>, id: u32, octets: &Octets) -> Result<Information, Halt>
     ensures { GivesAs seen_information result (transferring id (rtse_at octets.now)) }
 {
     match basis.codecs.rtse.read(basis.alloc, octets.as_slice()) {
@@ -112,7 +112,7 @@ fn transferring(basis: &ReadingGround<'_>, id: u32, octets: &Octets) -> Result<I
 
 /// An item of these octets, where it is read: its context is an accepted one of reliable transfer.
 fn other_read(
-    basis: &ReadingGround<'_>,
+    basis: &ReadingBasis<'_>,
     accepted: &[SetItem],
     id: u32,
     octets: &Octets,
@@ -129,7 +129,7 @@ fn other_read(
 
 /// What stands in the place of an item, where it is read.
 fn item_read(
-    basis: &ReadingGround<'_>,
+    basis: &ReadingBasis<'_>,
     accepted: &[SetItem],
     item: &Information,
 ) -> Result<Option<Information>, Halt>
@@ -159,7 +159,7 @@ fn with_first(items: Vec<Information>, read: Option<Information>) -> Vec<Informa
 /// User information of which the first item is read.
 #[tactic(auto, using(std::proofs::lemmas::Option::slice_get_within))]
 fn first_informed(
-    basis: &ReadingGround<'_>,
+    basis: &ReadingBasis<'_>,
     accepted: &[SetItem],
     user: UserInformation,
 ) -> Result<UserInformation, Halt>
@@ -175,7 +175,7 @@ fn first_informed(
 
 /// One value.
 fn one(
-    basis: &ReadingGround<'_>,
+    basis: &ReadingBasis<'_>,
     id: u32,
     pair: Option<Pair>,
     content: ValueContent,
@@ -193,7 +193,7 @@ fn one(
 
 /// A value of which the user information is read where it is an APDU of this kind.
 fn informed_value(
-    basis: &ReadingGround<'_>,
+    basis: &ReadingBasis<'_>,
     accepted: &[SetItem],
     kind: AcseKind,
     value: Value,
@@ -222,7 +222,7 @@ fn informed_value(
 
 /// Values of which the user information is read where they are one APDU of this kind.
 fn informed_values(
-    basis: &ReadingGround<'_>,
+    basis: &ReadingBasis<'_>,
     accepted: &[SetItem],
     kind: AcseKind,
     values: Values,
@@ -241,7 +241,7 @@ fn informed_values(
 
 /// In reliable mode user information is read.
 pub(crate) fn and_informed(
-    basis: &ReadingGround<'_>,
+    basis: &ReadingBasis<'_>,
     accepted: &[SetItem],
     kind: AcseKind,
     values: Values,

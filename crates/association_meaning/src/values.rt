@@ -8,11 +8,11 @@ ghost use Rattle.association_intake.specs.association_reading.Values as reading;
 ghost use Rattle.association_words.specs.Seen.{seen_value, seen_values};
 ghost use Rattle.association_meaning.specs.Grounds.{GivesAs};
 
-use crate::basis::{Halt, ReadingGround};
+use crate::basis::{Halt, ReadingBasis};
 use crate::contexts::{Carrier, check, first_wrong};
 use crate::layer_apdus::content_by;
 use crate::names::name_carried;
-use association_intake::association_reading_layer::Carriage;
+use association_intake::association_reading_layer::LayerOfValues;
 use association_words::{Value, Values};
 use osi_base::{Copied, ListOf, NoMemory, Pair, Pdv, SetItem, pair_of};
 use std::alloc::Global;
@@ -29,8 +29,8 @@ fn copied(alloc: Global, pair: Option<&Pair>) -> Result<Option<Pair>, NoMemory>
 
 /// A value under the pair of its context, where there is one.
 fn value_by(
-    basis: &ReadingGround<'_>,
-    carried: Carriage,
+    basis: &ReadingBasis<'_>,
+    carried: LayerOfValues,
     pair: Option<&Pair>,
     pdv: &Pdv,
 ) -> Result<Value, Halt>
@@ -48,8 +48,8 @@ fn value_by(
 
 /// A value under a set.
 pub(crate) fn value_in(
-    basis: &ReadingGround<'_>,
-    carried: Carriage,
+    basis: &ReadingBasis<'_>,
+    carried: LayerOfValues,
     set: &[SetItem],
     pdv: &Pdv,
 ) -> Result<Value, Halt>
@@ -61,8 +61,8 @@ pub(crate) fn value_in(
 
 /// Values under a set, one after the other.
 fn all_in(
-    basis: &ReadingGround<'_>,
-    carried: Carriage,
+    basis: &ReadingBasis<'_>,
+    carried: LayerOfValues,
     set: &[SetItem],
     pdvs: &[Pdv],
 ) -> Result<Values, Halt>
@@ -79,9 +79,9 @@ fn all_in(
 
 /// Values of a message that carries these: the contexts and forms of all, then what each is.
 pub(crate) fn values_under(
-    basis: &ReadingGround<'_>,
+    basis: &ReadingBasis<'_>,
     set: &[SetItem],
-    carried: Carriage,
+    carried: LayerOfValues,
     carrier: &Carrier<'_>,
     pdvs: &[Pdv],
 ) -> Result<Values, Halt>

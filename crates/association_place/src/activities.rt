@@ -10,7 +10,7 @@ ghost use Rattle.association_pieces.specs.Seen.{seen_receiving};
 ghost use Rattle.association_calls.specs.association_state.Seen.{base_in, seen};
 
 use crate::association::is_peers;
-use association_calls::association_state_layer::{Awaited, Body, Ground, Receiving};
+use association_calls::association_state_layer::{Awaited, Body, Basis, Receiving};
 use association_calls::has_activities;
 use association_ground::is_up;
 use association_words::ActivityWord;
@@ -105,7 +105,7 @@ pub(crate) fn awaits_discard(awaits: Awaited) -> bool
 }
 
 /// Whether a unit of activities may stand where it comes.
-pub(crate) fn is_activity_in_place(basis: &Ground<'_>, body: &Body, word: &ActivityWord) -> bool
+pub(crate) fn is_activity_in_place(basis: &Basis<'_>, body: &Body, word: &ActivityWord) -> bool
     ensures { result ≡ is_in_place (base_in basis.now) (seen body.now)
         (unit_of_activities (seen_activities word.now)) }
 {

@@ -7,7 +7,7 @@ ghost use Rattle.association_words.specs.Seen.{seen_association};
 ghost use Rattle.association_pieces.specs.Link.{seen_awaited};
 ghost use Rattle.association_calls.specs.association_state.Seen.{base_in, seen};
 
-use association_calls::association_state_layer::{Awaited, Body, Ground};
+use association_calls::association_state_layer::{Awaited, Body, Basis};
 use association_calls::{has_units, has_version_two, needed_units, selected_with};
 use association_ground::{is_opening, is_reliable, is_up};
 use association_words::{Accepting, AssociationWord};
@@ -20,21 +20,21 @@ pub(crate) fn is_peers(body: &Body) -> bool
 }
 
 /// Whether an own CN was sent, and neither accepted nor refused.
-pub(crate) fn asked_to_open(basis: &Ground<'_>, body: &Body) -> bool
+pub(crate) fn asked_to_open(basis: &Basis<'_>, body: &Body) -> bool
     ensures { result ≡ asked_to_open (base_in basis.now) (seen body.now) }
 {
     basis.config.initiator && body.link.stage.is_carrying() && is_opening(body.link.phase)
 }
 
 /// Whether CN may come: an own CC was sent, and no CN came.
-pub(crate) fn may_connect(basis: &Ground<'_>, body: &Body) -> bool
+pub(crate) fn may_connect(basis: &Basis<'_>, body: &Body) -> bool
     ensures { result ≡ may_connect (base_in basis.now) (seen body.now) }
 {
     !basis.config.initiator && body.link.stage.is_joined()
 }
 
 /// Whether AC may come: it names version 2 and the units that the mode can't do without.
-pub(crate) fn may_accept(basis: &Ground<'_>, body: &Body, session: &Accepting) -> bool
+pub(crate) fn may_accept(basis: &Basis<'_>, body: &Body, session: &Accepting) -> bool
     ensures { result ≡ may_accept (base_in basis.now) (seen body.now) session.now.version
         session.now.requirements }
 {
@@ -49,7 +49,7 @@ pub(crate) fn may_accept(basis: &Ground<'_>, body: &Body, session: &Accepting) -
 
 /// Whether FN may come: from the initiator, in reliable mode with the turn and with no activity in
 /// progress.
-pub(crate) fn may_finish(basis: &Ground<'_>, body: &Body) -> bool
+pub(crate) fn may_finish(basis: &Basis<'_>, body: &Body) -> bool
     ensures { result ≡ may_finish (base_in basis.now) (seen body.now) }
 {
     !basis.config.initiator
@@ -76,7 +76,7 @@ pub(crate) fn may_abort(body: &Body) -> bool
 
 /// Whether a unit of the association may stand where it comes.
 pub(crate) fn is_association_in_place(
-    basis: &Ground<'_>,
+    basis: &Basis<'_>,
     body: &Body,
     word: &AssociationWord,
 ) -> bool

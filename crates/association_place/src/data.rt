@@ -6,13 +6,13 @@ ghost use Rattle.end_rules.specs.InPlace.{may_send_data, may_send_typed, is_in_p
 ghost use Rattle.association_words.specs.Seen.{seen_data};
 ghost use Rattle.association_calls.specs.association_state.Seen.{base_in, seen};
 
-use association_calls::association_state_layer::{Body, Ground};
+use association_calls::association_state_layer::{Body, Basis};
 use association_calls::has_typed_data;
 use association_ground::{is_reliable, is_up};
 use association_words::DataWord;
 
 /// Whether DT may come: in reliable mode the peer has the turn and its activity is in progress.
-pub(crate) fn may_send_data(basis: &Ground<'_>, body: &Body) -> bool
+pub(crate) fn may_send_data(basis: &Basis<'_>, body: &Body) -> bool
     ensures { result ≡ may_send_data (base_in basis.now) (seen body.now) }
 {
     is_up(body.link.phase)
@@ -27,7 +27,7 @@ pub(crate) fn may_send_typed(body: &Body) -> bool
 }
 
 /// Whether a unit of data may stand where it comes.
-pub(crate) fn is_data_in_place(basis: &Ground<'_>, body: &Body, word: &DataWord) -> bool
+pub(crate) fn is_data_in_place(basis: &Basis<'_>, body: &Body, word: &DataWord) -> bool
     ensures { result ≡ is_in_place (base_in basis.now) (seen body.now)
         (unit_of_data (seen_data word.now)) }
 {

@@ -9,7 +9,7 @@ ghost use Rattle.association_pieces.specs.Sending.{seen_transfer};
 ghost use Rattle.association_calls.specs.association_state.Seen.{base_in, seen};
 
 use crate::association::is_peers;
-use association_calls::association_state_layer::{Awaited, Body, Ground, Transfer};
+use association_calls::association_state_layer::{Awaited, Body, Basis, Transfer};
 use association_calls::{has_marks, has_restarts, has_token};
 use association_ground::{is_direct, is_reliable, is_up};
 use association_words::MarkWord;
@@ -18,7 +18,7 @@ use association_words::MarkWord;
 const MOST_MARKS: u32 = 65_536;
 
 /// The number of the next mark that comes: in reliable mode of the peer's activity.
-fn next_coming(basis: &Ground<'_>, body: &Body) -> u32
+fn next_coming(basis: &Basis<'_>, body: &Body) -> u32
     ensures { result ≡ next_coming (base_in basis.now) (seen body.now) }
 {
     if is_reliable(basis.config.mode) {
@@ -29,7 +29,7 @@ fn next_coming(basis: &Ground<'_>, body: &Body) -> u32
 }
 
 /// Whether MIP may come with this number.
-pub(crate) fn may_mark(basis: &Ground<'_>, body: &Body, number: u32) -> bool
+pub(crate) fn may_mark(basis: &Basis<'_>, body: &Body, number: u32) -> bool
     ensures { result ≡ may_mark (base_in basis.now) (seen body.now) number }
 {
     is_peers(body)
@@ -60,7 +60,7 @@ fn is_next_confirmed(body: &Body, number: u32) -> bool
 }
 
 /// Whether MIA may come with this number: in direct mode any, which is passed over.
-pub(crate) fn may_confirm_mark(basis: &Ground<'_>, body: &Body, number: u32) -> bool
+pub(crate) fn may_confirm_mark(basis: &Basis<'_>, body: &Body, number: u32) -> bool
     ensures { result ≡ may_confirm_mark (base_in basis.now) (seen body.now) number }
 {
     is_up(body.link.phase)
@@ -90,7 +90,7 @@ pub(crate) fn awaits_restart(awaits: Awaited, number: u32) -> bool
 
 /// Whether GT may come: it moves a token in direct mode; without a token item it only stands in
 /// front of another unit.
-pub(crate) fn may_give(basis: &Ground<'_>, body: &Body, tokens: Option<u8>) -> bool
+pub(crate) fn may_give(basis: &Basis<'_>, body: &Body, tokens: Option<u8>) -> bool
     ensures { result ≡ may_give (base_in basis.now) (seen body.now) tokens }
 {
     match tokens {
@@ -102,7 +102,7 @@ pub(crate) fn may_give(basis: &Ground<'_>, body: &Body, tokens: Option<u8>) -> b
 }
 
 /// Whether PT may come.
-pub(crate) fn may_please(basis: &Ground<'_>, body: &Body, tokens: Option<u8>) -> bool
+pub(crate) fn may_please(basis: &Basis<'_>, body: &Body, tokens: Option<u8>) -> bool
     ensures { result ≡ may_please (base_in basis.now) (seen body.now) tokens }
 {
     match tokens {
@@ -112,14 +112,14 @@ pub(crate) fn may_please(basis: &Ground<'_>, body: &Body, tokens: Option<u8>) ->
 }
 
 /// Whether GTC may come: it moves all tokens in reliable mode, while no activity is in progress.
-pub(crate) fn may_give_all(basis: &Ground<'_>, body: &Body) -> bool
+pub(crate) fn may_give_all(basis: &Basis<'_>, body: &Body) -> bool
     ensures { result ≡ may_give_all (base_in basis.now) (seen body.now) }
 {
     is_reliable(basis.config.mode) && is_peers(body) && !body.receiving.active
 }
 
 /// Whether a unit of marks and tokens may stand where it comes.
-pub(crate) fn is_mark_in_place(basis: &Ground<'_>, body: &Body, word: &MarkWord) -> bool
+pub(crate) fn is_mark_in_place(basis: &Basis<'_>, body: &Body, word: &MarkWord) -> bool
     ensures { result ≡ is_in_place (base_in basis.now) (seen body.now)
         (unit_of_marks (seen_marks word.now)) }
 {

@@ -14,13 +14,13 @@ use crate::data::{may_send_data, may_send_typed};
 use crate::marks::{
     awaits_restart, may_confirm_mark, may_give, may_give_all, may_mark, may_please, may_restart,
 };
-use association_calls::association_state_layer::{Body, Ground};
+use association_calls::association_state_layer::{Body, Basis};
 use association_ground::is_up;
 use association_words::Accepting;
 use osi_base::SessionWord;
 
 /// Whether AC with these parameters may come.
-fn accepts(basis: &Ground<'_>, body: &Body, version: Option<u8>, requirements: Option<u16>) -> bool
+fn accepts(basis: &Basis<'_>, body: &Body, version: Option<u8>, requirements: Option<u16>) -> bool
     ensures { result ≡ may_accept (base_in basis.now) (seen body.now) version requirements }
 {
     let session = Accepting {
@@ -33,7 +33,7 @@ fn accepts(basis: &Ground<'_>, body: &Body, version: Option<u8>, requirements: O
 }
 
 /// Whether a unit of the session that wasn't read further may stand where it comes.
-pub fn is_unit_in_place(basis: &Ground<'_>, body: &Body, unit: &SessionWord) -> bool
+pub fn is_unit_in_place(basis: &Basis<'_>, body: &Body, unit: &SessionWord) -> bool
     ensures { result ≡ is_in_place (base_in basis.now) (seen body.now) unit.now }
 {
     match unit {

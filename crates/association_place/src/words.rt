@@ -10,12 +10,12 @@ use crate::activities::is_activity_in_place;
 use crate::association::is_association_in_place;
 use crate::data::is_data_in_place;
 use crate::marks::is_mark_in_place;
-use association_calls::association_state_layer::{Body, Ground};
+use association_calls::association_state_layer::{Body, Basis};
 use association_words::Word;
 
 /// Whether a unit of the session may stand where it comes: the phase, the functional units, the
 /// tokens, the activities and the numbers.
-pub fn is_in_place(basis: &Ground<'_>, body: &Body, word: &Word) -> bool
+pub fn is_in_place(basis: &Basis<'_>, body: &Body, word: &Word) -> bool
     ensures { result ≡ is_in_place (base_in basis.now) (seen body.now)
         (unit_of (seen_word word.now)) }
 {

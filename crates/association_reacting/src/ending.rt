@@ -12,7 +12,7 @@ ghost use Rattle.association_reacting.specs.SeenReaction.{ReactsAs};
 use crate::faults::{fails_on_accepted, has_connection};
 use association_connecting::association_answers_layer::Reaction;
 use association_ground::passes_over;
-use association_place::association_state_layer::{Body, Ground};
+use association_place::association_state_layer::{Body, Basis};
 use association_place::{is_in_place, is_purged};
 use association_takes::end_taken;
 use association_words::{ActivityWord, Fault, Value, Word};
@@ -20,7 +20,7 @@ use osi_base::{Layer, NoMemory};
 
 /// Takes the end of an activity, or ends the association for what is faulty in it.
 fn take_or_fail_end(
-    basis: &Ground<'_>,
+    basis: &Basis<'_>,
     body: &mut Body,
     number: u32,
     arrived: Result<Option<Value>, Fault>,
@@ -48,7 +48,7 @@ fn take_or_fail_end(
 
 /// As `react_to_end`, of an end that doesn't pass over all.
 fn react_to_end_word(
-    basis: &Ground<'_>,
+    basis: &Basis<'_>,
     body: &mut Body,
     number: u32,
     arrived: Result<Option<Value>, Fault>,
@@ -74,7 +74,7 @@ fn react_to_end_word(
 /// What an end of direct or reliable mode does with the end of an activity, of which the transfer
 /// was read: the value that it brings, none where its number was handed up already, or its fault.
 pub fn react_to_end(
-    basis: &Ground<'_>,
+    basis: &Basis<'_>,
     body: &mut Body,
     number: u32,
     arrived: Result<Option<Value>, Fault>,

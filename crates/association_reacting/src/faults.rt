@@ -10,7 +10,7 @@ ghost use Rattle.association_reacting.specs.SeenReaction.{ReactsAs};
 
 use association_connecting::association_answers_layer::{Reaction, fail_association};
 use association_connecting::association_fault;
-use association_place::association_state_layer::{Body, Ground};
+use association_place::association_state_layer::{Body, Basis};
 use association_place::is_in_place;
 use association_sets::copy_set;
 use association_takes::{data_fault, mark_fault};
@@ -26,7 +26,7 @@ pub fn has_connection(body: &Body) -> bool
 
 /// Ends the association for a fault, whose abort goes on the accepted contexts.
 pub fn fails_on_accepted(
-    basis: &Ground<'_>,
+    basis: &Basis<'_>,
     body: &mut Body,
     fault: Fault,
 ) -> Result<Reaction, NoMemory>
@@ -38,7 +38,7 @@ pub fn fails_on_accepted(
 }
 
 /// What is wrong above the session, of any unit but the end of an activity.
-fn fault_above(basis: &Ground<'_>, body: &Body, word: &Word) -> Result<Option<Fault>, NoMemory>
+fn fault_above(basis: &Basis<'_>, body: &Body, word: &Word) -> Result<Option<Fault>, NoMemory>
     requires { is_end_word (seen_word word.now) ≡ false }
     ensures { IfOk result (λ fault. option_map seen_fault fault ≡ fault_above (base_in basis.now)
         (seen body.now) (seen_word word.now)) }
@@ -53,7 +53,7 @@ fn fault_above(basis: &Ground<'_>, body: &Body, word: &Word) -> Result<Option<Fa
 
 /// Why a unit may not be taken: it is out of place, or something above the session is wrong.
 pub(crate) fn word_fault(
-    basis: &Ground<'_>,
+    basis: &Basis<'_>,
     body: &Body,
     word: &Word,
 ) -> Result<Option<Fault>, NoMemory>

@@ -13,14 +13,14 @@ use crate::faults::{fails_on_accepted, has_connection};
 use crate::taking::take_or_fail;
 use association_connecting::association_answers_layer::Reaction;
 use association_ground::passes_over;
-use association_place::association_state_layer::{Body, Ground};
+use association_place::association_state_layer::{Body, Basis};
 use association_place::{is_purged, is_transport_purged};
 use association_takes::{take_transport, transport_fault};
 use association_words::{Fault, Message, TransportUnit, Word};
 use osi_base::{Layer, NoMemory};
 
 /// What an end does with a unit of the session.
-fn react_to_word(basis: &Ground<'_>, body: &mut Body, word: Word) -> Result<Reaction, NoMemory>
+fn react_to_word(basis: &Basis<'_>, body: &mut Body, word: Word) -> Result<Reaction, NoMemory>
     requires { is_end_word (seen_word word) ≡ false }
     ensures { IfOk result (ReactsAs (react_to_word (base_in basis.now) (seen body.old)
         (seen_word word)) (seen body.old) (seen body.new)) }
@@ -38,7 +38,7 @@ fn react_to_word(basis: &Ground<'_>, body: &mut Body, word: Word) -> Result<Reac
 
 /// What an end does with a transport unit.
 fn react_to_transport(
-    basis: &Ground<'_>,
+    basis: &Basis<'_>,
     body: &mut Body,
     unit: TransportUnit,
 ) -> Result<Reaction, NoMemory>
@@ -62,7 +62,7 @@ fn react_to_transport(
 }
 
 /// What an end of direct or reliable mode does with a message that isn't the end of an activity.
-pub fn react(basis: &Ground<'_>, body: &mut Body, message: Message) -> Result<Reaction, NoMemory>
+pub fn react(basis: &Basis<'_>, body: &mut Body, message: Message) -> Result<Reaction, NoMemory>
     requires associated { is_bare basis.now.config.mode ≡ false }
     requires other { is_end_message (seen_message message) ≡ false }
     ensures { IfOk result (ReactsAs (react (base_in basis.now) (seen body.old)

@@ -11,14 +11,14 @@ ghost use Rattle.association_reacting.specs.SeenReaction.{ReactsAs};
 use crate::faults::word_fault;
 use association_connecting::association_answers_layer::{Brought, Reaction, fail_association};
 use association_connecting::{contexts_for, take_association};
-use association_place::association_state_layer::{Body, Ground};
+use association_place::association_state_layer::{Body, Basis};
 use association_sets::copy_set;
 use association_takes::{take_activity, take_data, take_mark};
 use association_words::{Fault, Word};
 use osi_base::{NoMemory, SetList};
 
 /// Takes a unit in which nothing is faulty.
-fn take_word(basis: &Ground<'_>, body: &mut Body, word: Word) -> Result<Brought, NoMemory>
+fn take_word(basis: &Basis<'_>, body: &mut Body, word: Word) -> Result<Brought, NoMemory>
     requires right { word_fault (base_in basis.now) (seen body.old) (seen_word word) ≡ None }
     requires other { is_end_word (seen_word word) ≡ false }
     ensures body { OnOk result (seen body.new ≡ after_word (base_in basis.now) (seen body.old)
@@ -35,7 +35,7 @@ fn take_word(basis: &Ground<'_>, body: &mut Body, word: Word) -> Result<Brought,
 }
 
 /// The contexts on which an abort for a unit goes: those of a CN are answered as it comes.
-fn contexts_of(basis: &Ground<'_>, body: &Body, word: &Word) -> Result<SetList, NoMemory>
+fn contexts_of(basis: &Basis<'_>, body: &Body, word: &Word) -> Result<SetList, NoMemory>
     ensures { IfOk result (λ set. set ≡ contexts_of_word (base_in basis.now) (seen body.now)
         (seen_word word.now)) }
 {
@@ -49,7 +49,7 @@ fn contexts_of(basis: &Ground<'_>, body: &Body, word: &Word) -> Result<SetList, 
 
 /// Ends the association for a fault of a unit.
 fn fail_word(
-    basis: &Ground<'_>,
+    basis: &Basis<'_>,
     body: &mut Body,
     word: &Word,
     fault: Fault,
@@ -64,7 +64,7 @@ fn fail_word(
 
 /// Takes a unit, or ends the association for what is faulty in it. The unit is let go by a call.
 pub(crate) fn take_or_fail(
-    basis: &Ground<'_>,
+    basis: &Basis<'_>,
     body: &mut Body,
     word: Word,
 ) -> Result<Reaction, NoMemory>

@@ -33,7 +33,7 @@ use Rattle.association_wire.specs.end_rules.Writing.{acse_pair}
 use Rattle.association_wire.specs.end_rules.Connecting.{set_for, set_accepted, has_acse}
 use Rattle.association_wire.specs.end_rules.Policy.{is_faulty_proposal}
 use Rattle.association_wire.specs.Values.{with_user as user_put, external_of, pdv_of, pdvs_of}
-use Rattle.association_reading.specs.declared.layer_of_values.Carriage.TheVariants as carriage
+use Rattle.association_reading.specs.declared.layer_of_values.LayerOfValues.TheVariants as carriage
 use Rattle.association_reading.specs.Places.{PdvPlaces, pdv_places}
 use Rattle.association_reading.specs.Contexts.{pdv_fault, first_place}
 use Rattle.association_reading.specs.Values.{without_user, externals_of, other, acse_content, with_content, value_by, before_values, unless_fault, values_under, informed, first_informed, with_user, informed_value, and_informed}

@@ -37,8 +37,8 @@ use Rattle.association_wire.specs.end_rules.Faults.{or_fault}
 use Rattle.association_wire.specs.end_rules.State.{Body}
 use Rattle.end_wire.specs.Values.{content_of}
 use Rattle.end_wire.proofs.ContentLaws.{said_is, spelled_said}
-use Rattle.association_reading.specs.declared.layer_of_values.Carriage.{Carriage}
-use Rattle.association_reading.specs.declared.layer_of_values.Carriage.TheVariants as carriage
+use Rattle.association_reading.specs.declared.layer_of_values.LayerOfValues.{LayerOfValues}
+use Rattle.association_reading.specs.declared.layer_of_values.LayerOfValues.TheVariants as carriage
 use Rattle.association_reading.specs.Places.{PdvPlaces, pdv_places}
 use Rattle.association_reading.specs.Contexts.{is_form, name_carried, pdv_fault, first_place, other_places, first_fault}
 use Rattle.association_reading.specs.Meaning.{on_ppdu, with_values, data_meaning, carried_by_data, typed_meaning, restart_meaning, restart_ack_meaning}
@@ -106,7 +106,7 @@ octets_are Ber octets = refl
 octets_are Der octets = refl
 octets_are Packed octets = refl
 
-module _ (tables : Tables) (set : List SetItem) (carried : Carriage) where
+module _ (tables : Tables) (set : List SetItem) (carried : LayerOfValues) where
   -- a value as it was written under this pair
   abbrev written_as : ℕ → Pair → ValueContent → Pdv
   written_as id pair content = record { transfer = None; id = id; content = in_form pair.transfer (content_octets tables pair.transfer content) }
@@ -148,7 +148,7 @@ module _ (tables : Tables) (set : List SetItem) (carried : Carriage) where
       ap (λ (f : Option Fault). unless_fault f (all_values (value_in tables carried set) (pdvs_of tables vs))) (no_faults vs places h)
       ∙ values_back vs h
 
-data_back : (base : Base) (body : Body) (carried : Carriage) (word : List DataValue → Word) (carrier : PpduPlace) (start : ℕ) (vs : List DataValue)
+data_back : (base : Base) (body : Body) (carried : LayerOfValues) (word : List DataValue → Word) (carrier : PpduPlace) (start : ℕ) (vs : List DataValue)
     → IsWrittenIn carrier (ppdus.Data (pdvs_of base.tables vs)) → AreMeantIn base.tables body.sets.held carried vs
     → on_ppdu start (ppdu_at carrier (written_ppdu (ppdus.Data (pdvs_of base.tables vs)))) (data_meaning base body carried word carrier start (written_ppdu (ppdus.Data (pdvs_of base.tables vs)))) ≡ Ok (word vs)
 data_back base body carried word carrier start vs back meant =

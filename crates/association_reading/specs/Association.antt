@@ -20,7 +20,7 @@ use Rattle.association_wire.specs.end_rules.Messages.{ValueContent, Unread, Data
 use Rattle.association_wire.specs.end_rules.Policy.{is_faulty_proposal}
 use Rattle.association_wire.specs.end_rules.Writing.{proposals, acse_pair}
 use Rattle.association_wire.specs.end_rules.Connecting.{Associated, is_request, is_accepting, set_for, set_accepted, has_acse, has_rtse}
-use Rattle.association_reading.specs.declared.layer_of_values.Carriage.TheVariants as carriage
+use Rattle.association_reading.specs.declared.layer_of_values.LayerOfValues.TheVariants as carriage
 use Rattle.association_reading.specs.Places.{PdvPlaces}
 use Rattle.association_reading.specs.Contexts.{pdv_fault, form_fault, first_fault}
 use Rattle.association_reading.specs.Values.{associated, acse_content, with_content, value_in, all_values, unless_fault, values_under, and_informed}

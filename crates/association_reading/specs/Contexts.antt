@@ -13,8 +13,8 @@ use Rattle.stub_tables.specs.declared.tables.Tables.{Tables}
 use Rattle.association_wire.specs.end_rules.Base.{Fault, acse_name, rtse_name}
 use Rattle.association_wire.specs.end_rules.Sets.{same_name}
 use Rattle.association_wire.specs.end_rules.Faults.{fault_at, fault_if, or_fault}
-use Rattle.association_reading.specs.declared.layer_of_values.Carriage.{Carriage}
-use Rattle.association_reading.specs.declared.layer_of_values.Carriage.TheVariants as carriage
+use Rattle.association_reading.specs.declared.layer_of_values.LayerOfValues.{LayerOfValues}
+use Rattle.association_reading.specs.declared.layer_of_values.LayerOfValues.TheVariants as carriage
 use Rattle.association_reading.specs.Places.{PdvPlaces}
 
 -- an invalid unit (6) at this place
@@ -35,7 +35,7 @@ is_form Packed (forms.SingleAsn1Type octets) = false
 is_form syntax (forms.Arbitrary bits) = false
 
 -- the abstract syntax of the values that a message carries
-abbrev pub name_carried : Tables → Carriage → List ℕ
+abbrev pub name_carried : Tables → LayerOfValues → List ℕ
 name_carried tables carriage.Association = acse_name
 name_carried tables carriage.Transfer = rtse_name
 name_carried tables carriage.Module = tables.name_oid

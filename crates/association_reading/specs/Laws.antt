@@ -34,8 +34,8 @@ use Rattle.osi_base.specs.SetPlaces.{pair_of}
 use Rattle.association_wire.specs.end_rules.State.{Body}
 use Rattle.association_wire.specs.Values.{content_octets, pdvs_of}
 use Rattle.association_wire.specs.Units.{user_octets}
-use Rattle.association_reading.specs.declared.layer_of_values.Carriage.{Carriage}
-use Rattle.association_reading.specs.declared.layer_of_values.Carriage.TheVariants as carriage
+use Rattle.association_reading.specs.declared.layer_of_values.LayerOfValues.{LayerOfValues}
+use Rattle.association_reading.specs.declared.layer_of_values.LayerOfValues.TheVariants as carriage
 use Rattle.association_reading.specs.Contexts.{name_carried, is_carried}
 use Rattle.association_reading.specs.Meaning.{meaning, carried_by_data}
 
@@ -92,14 +92,14 @@ pub record AlterationsAreReadBack : Type 0 where
 
 -- a value is meant under a set in a message that carries these values: its pair is that of its context, and its content is
 -- what its octets are under the pair
-pub record IsMeant (tables : Tables) (set : List SetItem) (carried : Carriage) (value : DataValue) : Type 0 where
+pub record IsMeant (tables : Tables) (set : List SetItem) (carried : LayerOfValues) (value : DataValue) : Type 0 where
   pub pair : Pair
   pub has_pair : value.pair ≡ Some pair
   pub in_set : pair_of set value.id ≡ Some pair
   pub carries : is_carried (name_carried tables carried) pair.abstract_name ≡ true
   pub content : content_under tables carried pair (content_octets tables pair.transfer value.content) ≡ Ok value.content
 
-abbrev pub AreMeantIn : Tables → List SetItem → Carriage → List DataValue → Type 0
+abbrev pub AreMeantIn : Tables → List SetItem → LayerOfValues → List DataValue → Type 0
 AreMeantIn tables set carried [] = Unit {0}
 AreMeantIn tables set carried (value ∷ values) = IsMeant tables set carried value × AreMeantIn tables set carried values
 

@@ -16,8 +16,8 @@ use Rattle.association_wire.specs.end_rules.Base.{Base, Fault, is_reliable}
 use Rattle.association_wire.specs.end_rules.Messages.{DataValue, Accepting, NoData, ProviderReason, UserValues, Word, OfAssociation, Connect, Accept, Refuse, Finish, Disconnect, Abort, AbortAccept, OfData, Values, AlterContext, AlterContextAck, OfMarks, Mark, MarkAck, Restart, RestartAck, Give, Please, GiveConfirm, GiveAck, OfActivities, Start, Resume, End, EndAck, Interrupt, InterruptAck, Discard, DiscardAck}
 use Rattle.association_wire.specs.end_rules.State.{Body}
 use Rattle.association_wire.specs.end_rules.Faults.{fault_at, invalid_ppdu}
-use Rattle.association_reading.specs.declared.layer_of_values.Carriage.{Carriage}
-use Rattle.association_reading.specs.declared.layer_of_values.Carriage.TheVariants as carriage
+use Rattle.association_reading.specs.declared.layer_of_values.LayerOfValues.{LayerOfValues}
+use Rattle.association_reading.specs.declared.layer_of_values.LayerOfValues.TheVariants as carriage
 use Rattle.association_reading.specs.Places.{pdv_places}
 use Rattle.association_reading.specs.Values.{values_under}
 use Rattle.association_reading.specs.Association.{connect_values, accept_values, refuse_values, abort_values}
@@ -79,17 +79,17 @@ aborted_with base body transport start (Some user) = on_ppdu start (ppdu_at plac
 
 -- ---- user data alone, with values of one abstract syntax under the held set
 
-abbrev pub data_meaning : Base → Body → Carriage → (List DataValue → Word) → PpduPlace → ℕ → List ℕ → PresentationWord → Result Word Fault
+abbrev pub data_meaning : Base → Body → LayerOfValues → (List DataValue → Word) → PpduPlace → ℕ → List ℕ → PresentationWord → Result Word Fault
 data_meaning base body carried word carrier start user (ppdus.Data pdvs) =
     with_values word (values_under base.tables body.sets.held carried (pdv_places carrier start user) pdvs)
 data_meaning base body carried word carrier start user _ = not_carried
 
-abbrev pub data_with : Base → Body → Carriage → (List DataValue → Word) → PpduPlace → ℕ → List ℕ → Result Word Fault
+abbrev pub data_with : Base → Body → LayerOfValues → (List DataValue → Word) → PpduPlace → ℕ → List ℕ → Result Word Fault
 data_with base body carried word carrier start user =
     on_ppdu start (ppdu_at carrier user) (data_meaning base body carried word carrier start user)
 
 -- DT carries the module's values, in reliable mode parts of transfers
-abbrev pub carried_by_data : Base → Carriage
+abbrev pub carried_by_data : Base → LayerOfValues
 carried_by_data base = if is_reliable base.mode then carriage.Transfer else carriage.Module
 
 -- a plea without a token item says nothing, whatever it carries

@@ -14,7 +14,7 @@ use Rattle.association_wire.specs.end_rules.Messages.{ValueContent, Remote, Unre
 use Rattle.association_wire.specs.end_rules.Faults.{acse_fault, rtse_fault}
 use Rattle.end_wire.specs.Values.{spellings_with}
 use Rattle.association_wire.specs.Values.{pdv_of}
-use Rattle.association_reading.specs.declared.layer_of_values.Carriage.TheVariants as carriage
+use Rattle.association_reading.specs.declared.layer_of_values.LayerOfValues.TheVariants as carriage
 use Rattle.association_reading.specs.Places.{PdvPlaces, places_of, spot_at}
 use Rattle.association_reading.specs.Contexts.{invalid_at, pdv_fault}
 use Rattle.association_reading.specs.Values.{content_under}

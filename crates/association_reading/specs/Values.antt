@@ -22,8 +22,8 @@ use Rattle.association_wire.specs.end_rules.Messages.{Information, Transferring,
 use Rattle.association_wire.specs.end_rules.Connecting.{is_on_rtse}
 use Rattle.association_wire.specs.end_rules.Faults.{fault_at, acse_fault, rtse_fault}
 use Rattle.end_wire.specs.Values.{content_at}
-use Rattle.association_reading.specs.declared.layer_of_values.Carriage.{Carriage}
-use Rattle.association_reading.specs.declared.layer_of_values.Carriage.TheVariants as carriage
+use Rattle.association_reading.specs.declared.layer_of_values.LayerOfValues.{LayerOfValues}
+use Rattle.association_reading.specs.declared.layer_of_values.LayerOfValues.TheVariants as carriage
 use Rattle.association_reading.specs.Places.{PdvPlaces}
 use Rattle.association_reading.specs.Contexts.{name_carried, pdv_fault, first_fault}
 
@@ -71,14 +71,14 @@ rtse_content (Err fault) = Err (unreadable_rtse fault)
 
 -- The message says how its values are read, so that a module whose name is that of association control or of reliable transfer
 -- is as any other. A value on another context is one of association control.
-abbrev pub content_under : Tables → Carriage → Pair → List ℕ → Result ValueContent Fault
+abbrev pub content_under : Tables → LayerOfValues → Pair → List ℕ → Result ValueContent Fault
 content_under tables carriage.Association pair octets = acse_content (acse_at octets)
 content_under tables carriage.Transfer pair octets =
     if same_name pair.abstract_name rtse_name then rtse_content (rtse_at octets) else acse_content (acse_at octets)
 content_under tables carriage.Module pair octets =
     if same_name pair.abstract_name tables.name_oid then Ok (content_at tables pair.transfer octets) else acse_content (acse_at octets)
 
-abbrev pub content_by : Tables → Carriage → Option Pair → List ℕ → Result ValueContent Fault
+abbrev pub content_by : Tables → LayerOfValues → Option Pair → List ℕ → Result ValueContent Fault
 content_by tables carried None octets = Ok (Unread octets)
 content_by tables carried (Some pair) octets = content_under tables carried pair octets
 
@@ -86,10 +86,10 @@ abbrev pub with_content : ℕ → Option Pair → Result ValueContent Fault → 
 with_content id pair (Ok content) = Ok (record { id = id; pair = pair; content = content })
 with_content id pair (Err fault) = Err fault
 
-abbrev pub value_by : Tables → Carriage → Option Pair → Pdv → Result DataValue Fault
+abbrev pub value_by : Tables → LayerOfValues → Option Pair → Pdv → Result DataValue Fault
 value_by tables carried pair pdv = with_content pdv.id pair (content_by tables carried pair (octets_of pdv.content))
 
-abbrev pub value_in : Tables → Carriage → List SetItem → Pdv → Result DataValue Fault
+abbrev pub value_in : Tables → LayerOfValues → List SetItem → Pdv → Result DataValue Fault
 value_in tables carried set pdv = value_by tables carried (pair_of set pdv.id) pdv
 
 -- ---- values one after the other: the contexts and forms of all, then what each is
@@ -108,7 +108,7 @@ unless_fault None values = values
 unless_fault (Some fault) values = Err fault
 
 -- values of a message
-abbrev pub values_under : Tables → List SetItem → Carriage → List PdvPlaces → List Pdv → Result (List DataValue) Fault
+abbrev pub values_under : Tables → List SetItem → LayerOfValues → List PdvPlaces → List Pdv → Result (List DataValue) Fault
 values_under tables set carried places pdvs =
     unless_fault (first_fault (λ (at : PdvPlaces) (pdv : Pdv). pdv_fault (name_carried tables carried) at pdv (pair_of set pdv.id)) places pdvs)
     (all_values (value_in tables carried set) pdvs)

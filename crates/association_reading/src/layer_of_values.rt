@@ -5,7 +5,7 @@
 /// X.882 9). A value on a context with their abstract syntax is read as one of them, also where
 /// another layer's has the same name.
 #[derive(Clone, Copy, Debug, PartialEq, Eq)]
-pub enum Carriage {
+pub enum LayerOfValues {
     /// Association control: in openings and releases, and in their answers.
     Association,
     /// Reliable transfer: in pleas, and in the data of reliable mode.

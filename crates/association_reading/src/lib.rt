@@ -21,6 +21,6 @@ pub use laws::{
     data_are_read_back, layers_are_read_back, remote_is_read_back, session_words_are_read_back,
     transport_units_stand_first, written_stands_first,
 };
-pub use layer_of_values::Carriage;
+pub use layer_of_values::LayerOfValues;
 // Passed on: crates above name these through this one.
 pub use presentation_pdus as presentation_pdus_layer;

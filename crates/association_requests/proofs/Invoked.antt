@@ -16,7 +16,7 @@ use Rattle.end_rules.specs.Hearing.{is_silent_at}
 use Rattle.end_rules.specs.Requesting.{sent_at_once, handed_in, invoking, after_invoke, due_invoke, due_of_accepted}
 use Rattle.end_rules.specs.History.{sent, after_steps}
 use Rattle.association_hearing.specs.association_calls.Rooms.{HasRoom}
-use Rattle.association_requests.specs.declared.call_outcome.CallOutcome.{CallOutcome}
+use Rattle.association_requests.specs.declared.accepted_call.AcceptedCall.{AcceptedCall}
 use Rattle.association_requests.specs.Called.{sent_by, after_made, MadeAs}
 use Rattle.association_requests.proofs.Outcomes.{nothing_more, whatever_is_open}
 
@@ -100,14 +100,14 @@ module _ (base : Base) (old : Body) (context place : ℕ) (linked : Option ℤ) 
   abbrev after_answered : Option ℤ → Body
   after_answered x = after_made base old the_call x
 
-  made_as : (can : Reply) (new : Body) (made : CallOutcome) → can ≡ Ok (Some own_id) → made.answer ≡ Some own_id → sent_by made ≡ due_invoke base old context own_id linked (operation_at base.tables place) argument
+  made_as : (can : Reply) (new : Body) (made : AcceptedCall) → can ≡ Ok (Some own_id) → made.answer ≡ Some own_id → sent_by made ≡ due_invoke base old context own_id linked (operation_at base.tables place) argument
       → new ≡ after_it (operation_at base.tables place) → MadeAs can base old new the_call made
   made_as can new made c a d b =
       let F : Option ℤ → Type 0 = λ (x : Option ℤ). (can ≡ Ok x) × (sent_by made ≡ due_answered x) × (new ≡ after_answered x) in
       let all : F made.answer = subst F (sym a) (c, d, b) in
       record { answer = all.0; due = all.1; body = all.2 }
 
-  pub invoke_made : (can : Reply) (mid new : Body) (id : ℤ) (apdu : Apdu) (made : CallOutcome)
+  pub invoke_made : (can : Reply) (mid new : Body) (id : ℤ) (apdu : Apdu) (made : AcceptedCall)
       → (can ≡ Ok (Some own_id)) × (option_map (λ x. invoke_apdu x own_id linked argument) (operation_at base.tables place) ≡ Some apdu)
       → id ≡ own_id → mid ≡ opened → made.answer ≡ Some id → sent_by made ≡ sent_at_once base.mode mid (Some context) apdu → new ≡ handed_in base.mode context apdu mid
       → MadeAs can base old new the_call made

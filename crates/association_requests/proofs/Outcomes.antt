@@ -21,7 +21,7 @@ use Rattle.end_rules.specs.History.{sent, after_steps}
 use Rattle.association_hearing.specs.rose_roles.declared.invoked_with.InvokedWith as rose
 use Rattle.association_hearing.specs.open_invocations.Invocations.{called_in}
 use Rattle.association_hearing.specs.association_calls.Replies.{IsChecked}
-use Rattle.association_requests.specs.declared.call_outcome.CallOutcome.{CallOutcome}
+use Rattle.association_requests.specs.declared.accepted_call.AcceptedCall.{AcceptedCall}
 use Rattle.association_requests.specs.Called.{sent_by, MadeAs, Makes}
 
 -- ---- data
@@ -85,7 +85,7 @@ module _ (base : Base) (old : Body) (id : ℤ) (apdu : Apdu) where
   abbrev its : Option OpenCall
   its = opened_with false id old.calls.opens
 
-  pub answer_made : (value : Option Val) (new : Body) (made : CallOutcome) → (can_answer base old id value ≡ Ok None) × (result_in base old id value ≡ Some apdu) → made.answer ≡ None
+  pub answer_made : (value : Option Val) (new : Body) (made : AcceptedCall) → (can_answer base old id value ≡ Ok None) × (result_in base old id value ≡ Some apdu) → made.answer ≡ None
       → sent_by made ≡ due_outcome base old its (Some apdu) → new ≡ after_outcome base old id its (Some apdu) → MadeAs (can_answer base old id value) base old new (the_calls.Answer id value) made
   answer_made value new made c a d b =
       record {
@@ -94,7 +94,7 @@ module _ (base : Base) (old : Body) (id : ℤ) (apdu : Apdu) where
         body = outcome_body its (result_in base old id value) new c.1 b;
       }
 
-  pub refuse_made : (place : ℕ) (parameter : Option Val) (new : Body) (made : CallOutcome) → (can_refuse base old id place parameter ≡ Ok None) × (error_for id parameter (error_at base.tables place) ≡ Some apdu) → made.answer ≡ None
+  pub refuse_made : (place : ℕ) (parameter : Option Val) (new : Body) (made : AcceptedCall) → (can_refuse base old id place parameter ≡ Ok None) × (error_for id parameter (error_at base.tables place) ≡ Some apdu) → made.answer ≡ None
       → sent_by made ≡ due_outcome base old its (Some apdu) → new ≡ after_outcome base old id its (Some apdu) → MadeAs (can_refuse base old id place parameter) base old new (the_calls.Refuse id place parameter) made
   refuse_made place parameter new made c a d b =
       record {

@@ -12,7 +12,7 @@ use Rattle.end_rules.specs.Calling.{is_of_bare_mode, can_by_rows, can_call}
 use Rattle.end_rules.specs.Requesting.{due_of, after_accepted, due_of_accepted}
 use Rattle.end_rules.specs.History.{called, sent, after_steps, call_steps}
 use Rattle.association_hearing.specs.association_calls.Replies.{Replies}
-use Rattle.association_requests.specs.declared.call_outcome.CallOutcome.{CallOutcome}
+use Rattle.association_requests.specs.declared.accepted_call.AcceptedCall.{AcceptedCall}
 use Rattle.association_requests.specs.Called.{sent_by, CalledAs, MadeAs, Makes, IsDue}
 
 -- ---- a call whose first rows were asked
@@ -26,7 +26,7 @@ steps_so : (base : Base) (old : Body) (call : Call) (reply : Reply) → can_call
     → after_steps base old (call_steps base old call) ≡ after_steps base old (called call reply ∷ map sent (due_of base old call reply))
 steps_so base old call reply e = ap (λ (r : Reply). after_steps base old (called call r ∷ map sent (due_of base old call r))) e
 
-pub by_rows : (base : Base) (old new : Body) (call : Call) (r : Result CallOutcome CallRefusal) → can_call base old call ≡ can_by_rows base old call
+pub by_rows : (base : Base) (old new : Body) (call : Call) (r : Result AcceptedCall CallRefusal) → can_call base old call ≡ can_by_rows base old call
     → Makes (can_by_rows base old call) base old new call r → CalledAs base old new call r
 by_rows base old new call (Ok made) e h =
     record { answer = e ∙ h.answer; due = h.due; body = h.body ∙ sym (steps_so base old call (Ok made.answer) (e ∙ h.answer)) }
@@ -39,7 +39,7 @@ pub refused_due : (can : Reply) (base : Base) (old : Body) (call : Call) (due : 
 refused_due can base old call due NoMemory h = tt
 refused_due can base old call due refusal h = record { answer = h; body = refl }
 
-pub made_so : (can : Reply) (base : Base) (old mid new : Body) (call : Call) (made : CallOutcome) → ((answer : Option ℤ) → IsDue can (due_of_accepted base old call answer) (Ok made))
+pub made_so : (can : Reply) (base : Base) (old mid new : Body) (call : Call) (made : AcceptedCall) → ((answer : Option ℤ) → IsDue can (due_of_accepted base old call answer) (Ok made))
     → ((answer : Option ℤ) → mid ≡ after_accepted base old call answer) → new ≡ after_steps base mid (map sent (sent_by made)) → MadeAs can base old new call made
 made_so can base old mid new call made due begun sending =
     let d = due made.answer in

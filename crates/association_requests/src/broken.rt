@@ -5,7 +5,7 @@ ghost use Rattle.end_rules.specs.History.{broken_phase, after_broke};
 ghost use Rattle.association_hearing.specs.association_state.Seen.{base_in, seen};
 
 use association_ground::is_reliable;
-use association_hearing::association_state_layer::{Awaited, Body, Ground, Stage};
+use association_hearing::association_state_layer::{Awaited, Body, Basis, Stage};
 use association_hearing::suspend;
 use dialogue::{Mode, Phase};
 
@@ -28,7 +28,7 @@ fn broken_phase(mode: Mode, phase: Phase) -> Phase
 
 /// The connection broke: nothing went over the next one, and nothing is awaited; a transfer in
 /// progress is suspended; out of reliable mode the open invocations are cut.
-pub fn connection_broke(basis: &Ground<'_>, body: &mut Body)
+pub fn connection_broke(basis: &Basis<'_>, body: &mut Body)
     ensures { seen body.new ≡ after_broke (base_in basis.now) (seen body.old) }
 {
     suspend(body);

@@ -10,19 +10,19 @@ ghost use Rattle.association_hearing.specs.association_sends.Due.{listed};
 ghost use Rattle.association_hearing.specs.association_state.Seen.{base_in, seen};
 ghost use Rattle.association_requests.specs.Called.{CalledAs, Makes};
 
-use crate::call_outcome::CallOutcome;
+use crate::accepted_call::AcceptedCall;
 use crate::messages_due::due;
 use crate::operations::{answer, invoke, refuse};
 use crate::sent::after_sent;
 use association_hearing::association_answers_layer::end_association;
 use association_hearing::association_calls_layer::{Making, check_phase};
-use association_hearing::association_state_layer::{Body, Ground};
+use association_hearing::association_state_layer::{Body, Basis};
 use association_words::Message;
 use dialogue::{Call, CallRefusal, Phase};
 use osi_base::NoMemory;
 
 /// Sends the message of a request, if there is one, which changes the body.
-fn send(basis: &Ground<'_>, body: &mut Body, message: &Option<Message>) -> Result<(), NoMemory>
+fn send(basis: &Basis<'_>, body: &mut Body, message: &Option<Message>) -> Result<(), NoMemory>
     ensures { OnOk result (seen body.new ≡ after_steps (base_in basis.now) (seen body.old)
         (map sent (listed (option_map seen_message message.now)))) }
 {
@@ -49,7 +49,7 @@ fn begin(body: &mut Body, call: &Call)
 }
 
 /// Makes a call that isn't one of remote operations.
-fn request(basis: &Ground<'_>, body: &mut Body, call: &Call) -> Result<CallOutcome, CallRefusal>
+fn request(basis: &Basis<'_>, body: &mut Body, call: &Call) -> Result<AcceptedCall, CallRefusal>
     requires { is_of_bare_mode call.now ≡ false }
     ensures { Makes (can_by_rows (base_in basis.now) (seen body.old) call.now) (base_in basis.now)
         (seen body.old) (seen body.new) call.now result }
@@ -64,7 +64,7 @@ fn request(basis: &Ground<'_>, body: &mut Body, call: &Call) -> Result<CallOutco
 }
 
 /// Makes a call that no row of all calls refuses.
-fn make(basis: &Ground<'_>, body: &mut Body, call: &Call) -> Result<CallOutcome, CallRefusal>
+fn make(basis: &Basis<'_>, body: &mut Body, call: &Call) -> Result<AcceptedCall, CallRefusal>
     ensures { Makes (can_by_rows (base_in basis.now) (seen body.old) call.now) (base_in basis.now)
         (seen body.old) (seen body.new) call.now result }
 {
@@ -94,10 +94,10 @@ fn make(basis: &Ground<'_>, body: &mut Body, call: &Call) -> Result<CallOutcome,
 
 /// Makes a call. A refused one changes nothing, unless memory was refused.
 pub fn make_call(
-    basis: &Ground<'_>,
+    basis: &Basis<'_>,
     body: &mut Body,
     call: &Call,
-) -> Result<CallOutcome, CallRefusal>
+) -> Result<AcceptedCall, CallRefusal>
     ensures { CalledAs (base_in basis.now) (seen body.old) (seen body.new) call.now result }
 {
     match check_phase(basis, body, call) {

@@ -4,7 +4,7 @@
 #![tactic(auto)]
 
 mod broken;
-mod call_outcome;
+mod accepted_call;
 mod calls;
 mod messages_due;
 mod operations;
@@ -12,7 +12,7 @@ mod own_messages;
 mod sent;
 
 pub use broken::connection_broke;
-pub use call_outcome::CallOutcome;
+pub use accepted_call::AcceptedCall;
 pub use calls::make_call;
 pub use own_messages::{OwnAct, next_own};
 pub use sent::after_sent;

@@ -13,14 +13,14 @@ ghost use Rattle.association_words.specs.Seen.{seen_message, seen_marks, seen_ac
 ghost use Rattle.association_hearing.specs.association_state.Seen.{base_in, seen};
 ghost use Rattle.association_requests.specs.Called.{IsDue};
 
-use crate::call_outcome::CallOutcome;
+use crate::accepted_call::AcceptedCall;
 use association_hearing::association_calls_layer::{
     can_alter, can_give, can_mark, can_please, can_release, can_restart, can_resume, can_stop,
 };
 use association_hearing::association_sends_layer::{
     connection_request, finish_message, give_message, please_message, user_abort,
 };
-use association_hearing::association_state_layer::{Body, Ground};
+use association_hearing::association_state_layer::{Body, Basis};
 use association_sets::{Alteration, restored_list};
 use association_words::{ActivityWord, DataWord, MarkWord, Message, Word};
 use dialogue::{Call, CallRefusal};
@@ -41,7 +41,7 @@ fn activities(word: ActivityWord) -> Message
 }
 
 /// AC with additions and deletions.
-fn alter_message(basis: &Ground<'_>, add: &Proposals, delete: &Ids) -> Result<Message, NoMemory>
+fn alter_message(basis: &Basis<'_>, add: &Proposals, delete: &Ids) -> Result<Message, NoMemory>
     ensures { IfOk result (λ m. seen_message m
         ≡ Session (OfData (AlterContext add.now delete.now))) }
 {
@@ -54,11 +54,11 @@ fn alter_message(basis: &Ground<'_>, add: &Proposals, delete: &Ids) -> Result<Me
 /// An alteration of the contexts.
 #[tactic(auto, using(crate::proofs::Rows::refused_by))]
 fn due_alter(
-    basis: &Ground<'_>,
+    basis: &Basis<'_>,
     body: &Body,
     add: &Proposals,
     delete: &Ids,
-) -> Result<CallOutcome, CallRefusal>
+) -> Result<AcceptedCall, CallRefusal>
     ensures { IsDue (can_alter (base_in basis.now) (seen body.now) (record {
       add = add.now;
       delete = delete.now;
@@ -67,7 +67,7 @@ fn due_alter(
     let asked = Alteration::new(add.copy(basis.alloc)?, delete.copy(basis.alloc)?);
     let answer = can_alter(basis, body, &asked)?;
     let message = alter_message(basis, add, delete)?;
-    Ok(CallOutcome {
+    Ok(AcceptedCall {
         answer,
         message: Some(message),
     })
@@ -75,13 +75,13 @@ fn due_alter(
 
 /// A mark.
 #[tactic(auto, using(crate::proofs::Rows::refused_is))]
-fn due_mark(basis: &Ground<'_>, body: &Body) -> Result<CallOutcome, CallRefusal>
+fn due_mark(basis: &Basis<'_>, body: &Body) -> Result<AcceptedCall, CallRefusal>
     ensures { IsDue (can_mark (base_in basis.now) (seen body.now)) (Session (OfMarks (Mark
         (next_number (seen body.now).saved))) ∷ []) result }
 {
     let answer = can_mark(basis, body)?;
     let number = body.saved.next_number();
-    Ok(CallOutcome {
+    Ok(AcceptedCall {
         answer,
         message: Some(marks(MarkWord::Mark { number })),
     })
@@ -89,12 +89,12 @@ fn due_mark(basis: &Ground<'_>, body: &Body) -> Result<CallOutcome, CallRefusal>
 
 /// The turn is given.
 #[tactic(auto, using(crate::proofs::Rows::refused_is))]
-fn due_give(basis: &Ground<'_>, body: &Body) -> Result<CallOutcome, CallRefusal>
+fn due_give(basis: &Basis<'_>, body: &Body) -> Result<AcceptedCall, CallRefusal>
     ensures { IsDue (can_give (base_in basis.now) (seen body.now))
         (give_message (base_in basis.now).mode ∷ []) result }
 {
     let answer = can_give(basis, body)?;
-    Ok(CallOutcome {
+    Ok(AcceptedCall {
         answer,
         message: Some(give_message(basis.config.mode)),
     })
@@ -102,13 +102,13 @@ fn due_give(basis: &Ground<'_>, body: &Body) -> Result<CallOutcome, CallRefusal>
 
 /// The turn is asked for.
 #[tactic(auto, using(crate::proofs::Rows::refused_is))]
-fn due_please(basis: &Ground<'_>, body: &Body, priority: u32) -> Result<CallOutcome, CallRefusal>
+fn due_please(basis: &Basis<'_>, body: &Body, priority: u32) -> Result<AcceptedCall, CallRefusal>
     ensures { IsDue (can_please (base_in basis.now) (seen body.now))
         (please_message (seen body.now) (base_in basis.now).mode priority ∷ []) result }
 {
     let answer = can_please(basis, body)?;
     let message = please_message(basis.alloc, body, basis.config.mode, priority)?;
-    Ok(CallOutcome {
+    Ok(AcceptedCall {
         answer,
         message: Some(message),
     })
@@ -116,13 +116,13 @@ fn due_please(basis: &Ground<'_>, body: &Body, priority: u32) -> Result<CallOutc
 
 /// A restart, with the list of the set that it brings back.
 #[tactic(auto, using(crate::proofs::Rows::refused_is))]
-fn due_restart(basis: &Ground<'_>, body: &Body, n: u32) -> Result<CallOutcome, CallRefusal>
+fn due_restart(basis: &Basis<'_>, body: &Body, n: u32) -> Result<AcceptedCall, CallRefusal>
     ensures { IsDue (can_restart (base_in basis.now) (seen body.now) n) (Session (OfMarks (Restart n
         (Some (list_of_set (restored_set (seen body.now) n))))) ∷ []) result }
 {
     let answer = can_restart(basis, body, n)?;
     let list = restored_list(basis.alloc, body.saved.set_below(n))?;
-    Ok(CallOutcome {
+    Ok(AcceptedCall {
         answer,
         message: Some(marks(MarkWord::Restart {
             number: n,
@@ -133,12 +133,12 @@ fn due_restart(basis: &Ground<'_>, body: &Body, n: u32) -> Result<CallOutcome, C
 
 /// The current transfer is interrupted.
 #[tactic(auto, using(crate::proofs::Rows::refused_is))]
-fn due_interrupt(basis: &Ground<'_>, body: &Body) -> Result<CallOutcome, CallRefusal>
+fn due_interrupt(basis: &Basis<'_>, body: &Body) -> Result<AcceptedCall, CallRefusal>
     ensures { IsDue (can_stop (base_in basis.now) (seen body.now)) (Session (OfActivities (Interrupt
         (Some 0))) ∷ []) result }
 {
     let answer = can_stop(basis, body)?;
-    Ok(CallOutcome {
+    Ok(AcceptedCall {
         answer,
         message: Some(activities(ActivityWord::Interrupt { reason: Some(0) })),
     })
@@ -146,12 +146,12 @@ fn due_interrupt(basis: &Ground<'_>, body: &Body) -> Result<CallOutcome, CallRef
 
 /// The current transfer is discarded.
 #[tactic(auto, using(crate::proofs::Rows::refused_is))]
-fn due_discard(basis: &Ground<'_>, body: &Body) -> Result<CallOutcome, CallRefusal>
+fn due_discard(basis: &Basis<'_>, body: &Body) -> Result<AcceptedCall, CallRefusal>
     ensures { IsDue (can_stop (base_in basis.now) (seen body.now)) (Session (OfActivities (Discard
         (Some 0))) ∷ []) result }
 {
     let answer = can_stop(basis, body)?;
-    Ok(CallOutcome {
+    Ok(AcceptedCall {
         answer,
         message: Some(activities(ActivityWord::Discard { reason: Some(0) })),
     })
@@ -169,13 +169,13 @@ fn confirmed_of(body: &Body) -> u32
 
 /// The suspended transfer is resumed at its highest confirmed mark.
 #[tactic(auto, using(crate::proofs::Rows::refused_is))]
-fn due_resume(basis: &Ground<'_>, body: &Body) -> Result<CallOutcome, CallRefusal>
+fn due_resume(basis: &Basis<'_>, body: &Body) -> Result<AcceptedCall, CallRefusal>
     ensures { IsDue (can_resume (base_in basis.now) (seen body.now)) (Session (OfActivities (Resume
         (seen body.now).sending.started (confirmed_of (seen body.now).sending.current))) ∷ [])
         result }
 {
     let answer = can_resume(basis, body)?;
-    Ok(CallOutcome {
+    Ok(AcceptedCall {
         answer,
         message: Some(activities(ActivityWord::Resume {
             activity: body.sending.started,
@@ -186,48 +186,48 @@ fn due_resume(basis: &Ground<'_>, body: &Body) -> Result<CallOutcome, CallRefusa
 
 /// The release.
 #[tactic(auto, using(crate::proofs::Rows::refused_by))]
-fn due_release(basis: &Ground<'_>, body: &Body) -> Result<CallOutcome, CallRefusal>
+fn due_release(basis: &Basis<'_>, body: &Body) -> Result<AcceptedCall, CallRefusal>
     ensures { IsDue (can_release (base_in basis.now) (seen body.now))
         (finish_message (seen body.now) ∷ []) result }
 {
     let answer = can_release(basis, body)?;
-    Ok(CallOutcome {
+    Ok(AcceptedCall {
         answer,
         message: Some(finish_message(basis.alloc, body)?),
     })
 }
 
 /// A connection is asked for.
-fn due_connection(basis: &Ground<'_>) -> Result<CallOutcome, CallRefusal>
+fn due_connection(basis: &Basis<'_>) -> Result<AcceptedCall, CallRefusal>
     ensures { IsDue (Ok None) (connection_request (base_in basis.now) ∷ []) result }
 {
-    Ok(CallOutcome {
+    Ok(AcceptedCall {
         answer: None,
         message: Some(connection_request(basis)?),
     })
 }
 
 /// An abort, which goes where CN went.
-fn due_abort(basis: &Ground<'_>, body: &Body) -> Result<CallOutcome, CallRefusal>
+fn due_abort(basis: &Basis<'_>, body: &Body) -> Result<AcceptedCall, CallRefusal>
     ensures { IsDue (Ok None) (if is_carrying (seen body.now).link.stage then user_abort (seen
         body.now).link.accepted 0 [] ∷ [] else []) result }
 {
     if !body.link.stage.is_carrying() {
-        return Ok(CallOutcome {
+        return Ok(AcceptedCall {
             answer: None,
             message: None,
         });
     }
     let accepted = body.link.accepted.as_slice();
     let message = user_abort(basis.alloc, accepted, 0, ListOf::new(basis.alloc))?;
-    Ok(CallOutcome {
+    Ok(AcceptedCall {
         answer: None,
         message: Some(message),
     })
 }
 
 /// What a call that isn't one of remote operations answers and sends, once its rows allow it.
-pub(crate) fn due(basis: &Ground<'_>, body: &Body, call: &Call) -> Result<CallOutcome, CallRefusal>
+pub(crate) fn due(basis: &Basis<'_>, body: &Body, call: &Call) -> Result<AcceptedCall, CallRefusal>
     requires { is_of_bare_mode call.now ≡ false }
     ensures { (answer : Option ℤ) → IsDue (can_by_rows (base_in basis.now) (seen body.now) call.now)
         (due_of_accepted (base_in basis.now) (seen body.now) call.now answer) result }

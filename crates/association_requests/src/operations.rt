@@ -17,12 +17,12 @@ ghost use Rattle.association_hearing.specs.association_state.Seen.{base_in, seen
 ghost use Rattle.association_hearing.specs.association_calls.Rooms.{HasRoom};
 ghost use Rattle.association_requests.specs.Called.{Makes, sent_by};
 
-use crate::call_outcome::CallOutcome;
+use crate::accepted_call::AcceptedCall;
 use asn1_types::Val;
 use association_hearing::association_calls_layer::{
     Making, carrier_in, check_answer, check_invoke, check_refuse,
 };
-use association_hearing::association_state_layer::{Body, Ground};
+use association_hearing::association_state_layer::{Body, Basis};
 use association_hearing::{data_on, queue_apdu};
 use association_words::Message;
 use dialogue::{CallRefusal, Mode};
@@ -31,7 +31,7 @@ use stub_tables::Apdu;
 
 /// What is sent at once of an APDU on its carrier, if it has one, out of reliable mode.
 fn at_once(
-    basis: &Ground<'_>,
+    basis: &Basis<'_>,
     body: &Body,
     carrier: Option<u32>,
     apdu: Apdu,
@@ -52,7 +52,7 @@ fn at_once(
 
 /// Hands in an APDU for a context, and answers what is sent.
 fn hand_in(
-    basis: &Ground<'_>,
+    basis: &Basis<'_>,
     body: &mut Body,
     context: u32,
     carrier: Option<u32>,
@@ -74,7 +74,7 @@ fn hand_in(
 }
 
 /// Whether the operation at this place is silent.
-fn is_silent_at(basis: &Ground<'_>, place: u32) -> bool
+fn is_silent_at(basis: &Basis<'_>, place: u32) -> bool
     ensures { result ≡ is_silent_at (base_in basis.now) (Some place) }
 {
     match basis.tables.operation(place) {
@@ -84,18 +84,18 @@ fn is_silent_at(basis: &Ground<'_>, place: u32) -> bool
 }
 
 /// Counts the next own invocation, which is never open.
-fn pass(body: &mut Body) -> Result<i64, NoMemory>
+fn count_silent(body: &mut Body) -> Result<i64, NoMemory>
     requires { (seen body.old).calls.made < last_invocation }
     ensures id { IfOk result (λ id. id ≡ pos ((seen body.old).calls.made + 1)) }
     ensures passed { OnOk result (seen body.new ≡ record (seen body.old) {
       calls = record (seen body.old).calls { made = (seen body.old).calls.made + 1 };
     }) }
 {
-    Ok(body.calls.pass())
+    Ok(body.calls.count_silent())
 }
 
 /// Opens the next own invocation, unless its operation is silent.
-fn open(basis: &Ground<'_>, body: &mut Body, making: Making) -> Result<i64, NoMemory>
+fn open(basis: &Basis<'_>, body: &mut Body, making: Making) -> Result<i64, NoMemory>
     requires room { IfSome (operation_at basis.now.tables.now making.place)
         (HasRoom (seen body.old)) }
     requires there { is_some (operation_at basis.now.tables.now making.place) ≡ true }
@@ -112,11 +112,11 @@ fn open(basis: &Ground<'_>, body: &mut Body, making: Making) -> Result<i64, NoMe
 
 /// Invokes an operation.
 pub(crate) fn invoke(
-    basis: &Ground<'_>,
+    basis: &Basis<'_>,
     body: &mut Body,
     making: Making,
     argument: &Option<Val>,
-) -> Result<CallOutcome, CallRefusal>
+) -> Result<AcceptedCall, CallRefusal>
     ensures { Makes (can_invoke (base_in basis.now) (seen body.old) making.context making.place
         argument.now making.linked) (base_in basis.now) (seen body.old) (seen body.new)
         (the_calls.Invoke making.context making.place argument.now making.linked) result }
@@ -127,7 +127,7 @@ pub(crate) fn invoke(
         return Err(CallRefusal::NoMemory);
     };
     let message = hand_in(basis, body, making.context, Some(making.context), apdu)?;
-    Ok(CallOutcome {
+    Ok(AcceptedCall {
         answer: Some(id),
         message,
     })
@@ -135,11 +135,11 @@ pub(crate) fn invoke(
 
 /// Sends the outcome of an open invocation of the peer, which it closes.
 fn end_invocation(
-    basis: &Ground<'_>,
+    basis: &Basis<'_>,
     body: &mut Body,
     id: &i64,
     apdu: Apdu,
-) -> Result<CallOutcome, NoMemory>
+) -> Result<AcceptedCall, NoMemory>
     requires { is_some (opened_with false id.now (seen body.old).calls.opens) ≡ true }
     ensures answer { IfOk result (λ called. called.answer ≡ None) }
     ensures due { IfOk result (λ called. sent_by called ≡ due_outcome (base_in basis.now)
@@ -153,7 +153,7 @@ fn end_invocation(
     let carrier = carrier_in(basis, body, called.context);
     body.calls.close(id);
     let message = hand_in(basis, body, called.context, carrier, apdu)?;
-    Ok(CallOutcome {
+    Ok(AcceptedCall {
         answer: None,
         message,
     })
@@ -161,11 +161,11 @@ fn end_invocation(
 
 /// Answers an invocation of the peer by its result.
 pub(crate) fn answer(
-    basis: &Ground<'_>,
+    basis: &Basis<'_>,
     body: &mut Body,
     id: &i64,
     value: &Option<Val>,
-) -> Result<CallOutcome, CallRefusal>
+) -> Result<AcceptedCall, CallRefusal>
     ensures { Makes (can_answer (base_in basis.now) (seen body.old) id.now value.now)
         (base_in basis.now) (seen body.old) (seen body.new) (the_calls.Answer id.now value.now)
         result }
@@ -176,12 +176,12 @@ pub(crate) fn answer(
 
 /// Answers an invocation of the peer by an error.
 pub(crate) fn refuse(
-    basis: &Ground<'_>,
+    basis: &Basis<'_>,
     body: &mut Body,
     id: &i64,
     place: u32,
     parameter: &Option<Val>,
-) -> Result<CallOutcome, CallRefusal>
+) -> Result<AcceptedCall, CallRefusal>
     ensures { Makes (can_refuse (base_in basis.now) (seen body.old) id.now place parameter.now)
         (base_in basis.now) (seen body.old) (seen body.new) (the_calls.Refuse id.now place
         parameter.now) result }

@@ -11,7 +11,7 @@ ghost use Rattle.association_requests.specs.OwnActs.{seen_act};
 use association_ground::{is_reliable, is_up};
 use association_hearing::association_calls_layer::carrier_in;
 use association_hearing::association_sends_layer::part_message;
-use association_hearing::association_state_layer::{Body, Encoded, Ground, Transfer};
+use association_hearing::association_state_layer::{Body, Encoded, Basis, Transfer};
 use association_words::{ActivityWord, MarkWord, Message, Word};
 use osi_base::{NoMemory, Octets};
 
@@ -29,7 +29,7 @@ pub enum OwnAct {
 }
 
 /// Whether the end leads: up, with the turn, nothing awaited and no own alteration unanswered.
-fn leads(basis: &Ground<'_>, body: &Body) -> bool
+fn leads(basis: &Basis<'_>, body: &Body) -> bool
     ensures { result ≡ leads (base_in basis.now) (seen body.now) }
 {
     is_reliable(basis.config.mode)
@@ -78,7 +78,7 @@ fn left_of<'a>(transfer: &Transfer, encoded: &'a Encoded) -> &'a [u8]
 
 /// The octets of the next part.
 #[tactic(auto, using(std::proofs::lemmas::List::take_all))]
-fn next_part(basis: &Ground<'_>, checkpoint: u32, left: &[u8]) -> Result<Octets, NoMemory>
+fn next_part(basis: &Basis<'_>, checkpoint: u32, left: &[u8]) -> Result<Octets, NoMemory>
     ensures { IfOk result (λ part. part ≡ take (part_size checkpoint (length left.now)) left.now) }
 {
     let size = part_size(checkpoint, left.len());
@@ -106,7 +106,7 @@ fn sends_end(number: u32) -> OwnAct
 /// The mark, the end or the part that comes next of an encoded transfer; nothing where its window
 /// is full.
 fn next_of(
-    basis: &Ground<'_>,
+    basis: &Basis<'_>,
     body: &Body,
     transfer: &Transfer,
     encoded: &Encoded,
@@ -141,7 +141,7 @@ fn encodes_on(carrier: Option<u32>) -> Option<OwnAct>
 
 /// What comes next of a transfer: it is encoded once it has a carrier.
 fn next_of_transfer(
-    basis: &Ground<'_>,
+    basis: &Basis<'_>,
     body: &Body,
     transfer: &Transfer,
 ) -> Result<Option<OwnAct>, NoMemory>
@@ -158,7 +158,7 @@ fn next_of_transfer(
 }
 
 /// The start of the next item, where it has a carrier and its number is one.
-fn next_start(basis: &Ground<'_>, body: &Body) -> Option<OwnAct>
+fn next_start(basis: &Basis<'_>, body: &Body) -> Option<OwnAct>
     ensures { option_map seen_act result ≡ next_start (base_in basis.now) (seen body.now)
         (seen body.now).sending.queue }
 {
@@ -174,7 +174,7 @@ fn next_start(basis: &Ground<'_>, body: &Body) -> Option<OwnAct>
 }
 
 /// What the end does next by itself, if anything.
-pub fn next_own(basis: &Ground<'_>, body: &Body) -> Result<Option<OwnAct>, NoMemory>
+pub fn next_own(basis: &Basis<'_>, body: &Body) -> Result<Option<OwnAct>, NoMemory>
     ensures { IfOk result (λ act. option_map seen_act act ≡ next_own (base_in basis.now)
         (seen body.now)) }
 {

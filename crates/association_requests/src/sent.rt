@@ -9,7 +9,7 @@ ghost use Rattle.association_pieces.specs.Sending.{seen_queued, seen_transfer, s
 ghost use Rattle.association_hearing.specs.association_state.Seen.{seen};
 
 use association_hearing::association_state_layer::{
-    Awaited, Body, Ground, Progress, Queued, Sending, Stage, Transfer, TransferPieces, take_next,
+    Awaited, Body, Basis, Progress, Queued, Sending, Stage, Transfer, TransferPieces, take_next,
 };
 use association_hearing::{part_in, set_resumed};
 use association_sets::{Alteration, copy_set};
@@ -32,7 +32,7 @@ fn parts_in(alloc: Global, values: &[Value]) -> Result<Octets, NoMemory>
 }
 
 /// Parts of the current transfer were sent in reliable mode.
-fn values_sent(basis: &Ground<'_>, body: &mut Body, values: &[Value]) -> Result<(), NoMemory>
+fn values_sent(basis: &Basis<'_>, body: &mut Body, values: &[Value]) -> Result<(), NoMemory>
     ensures { OnOk result (seen body.new ≡ values_sent basis.now.config.mode (seen_values
         values.now) (seen body.old)) }
 {
@@ -61,7 +61,7 @@ fn alteration_sent(body: &mut Body, asked: Alteration) -> Result<(), NoMemory>
 }
 
 /// Data was sent.
-fn data_sent(basis: &Ground<'_>, body: &mut Body, word: &DataWord) -> Result<(), NoMemory>
+fn data_sent(basis: &Basis<'_>, body: &mut Body, word: &DataWord) -> Result<(), NoMemory>
     ensures { OnOk result (seen body.new ≡ after_sent_data basis.now.config.mode (seen body.old)
         (seen_data word.now)) }
 {
@@ -76,7 +76,7 @@ fn data_sent(basis: &Ground<'_>, body: &mut Body, word: &DataWord) -> Result<(),
 }
 
 /// A mark saves the set: in direct mode under its number, in reliable mode in the own activity.
-fn mark_sent(basis: &Ground<'_>, body: &mut Body, number: u32) -> Result<(), NoMemory>
+fn mark_sent(basis: &Basis<'_>, body: &mut Body, number: u32) -> Result<(), NoMemory>
     ensures { OnOk result (seen body.new ≡ mark_sent basis.now.config.mode number (seen body.old)) }
 {
     match basis.config.mode {
@@ -96,7 +96,7 @@ fn mark_sent(basis: &Ground<'_>, body: &mut Body, number: u32) -> Result<(), NoM
 }
 
 /// A unit of marks and tokens was sent.
-fn marks_sent(basis: &Ground<'_>, body: &mut Body, word: &MarkWord) -> Result<(), NoMemory>
+fn marks_sent(basis: &Basis<'_>, body: &mut Body, word: &MarkWord) -> Result<(), NoMemory>
     ensures { OnOk result (seen body.new ≡ after_sent_mark basis.now.config.mode (seen body.old)
         (seen_marks word.now)) }
 {
@@ -205,7 +205,7 @@ fn go_back(transfer: &mut Transfer)
 }
 
 /// The set of a resumption: that of its mark, or the held one.
-fn resumed_set(basis: &Ground<'_>, body: &Body, mark: u32) -> Result<SetList, NoMemory>
+fn resumed_set(basis: &Basis<'_>, body: &Body, mark: u32) -> Result<SetList, NoMemory>
     ensures { IfOk result (λ set. set ≡ resumed_set mark (pieces_of (seen body.now).sending.current)
         (seen body.now).sets.held) }
 {
@@ -217,7 +217,7 @@ fn resumed_set(basis: &Ground<'_>, body: &Body, mark: u32) -> Result<SetList, No
 }
 
 /// A resumption was sent.
-fn resume_sent(basis: &Ground<'_>, body: &mut Body, mark: u32) -> Result<(), NoMemory>
+fn resume_sent(basis: &Basis<'_>, body: &mut Body, mark: u32) -> Result<(), NoMemory>
     ensures { OnOk result (seen body.new ≡ record (on_transfer resumed (seen body.old)) {
       sets = record (seen body.old).sets {
         inter = (seen body.old).sets.held;
@@ -237,7 +237,7 @@ fn resume_sent(basis: &Ground<'_>, body: &mut Body, mark: u32) -> Result<(), NoM
 }
 
 /// A start was sent.
-fn start_sent(basis: &Ground<'_>, body: &mut Body) -> Result<(), NoMemory>
+fn start_sent(basis: &Basis<'_>, body: &mut Body) -> Result<(), NoMemory>
     ensures { OnOk result (seen body.new ≡ record (seen body.old) {
       sending = begun (seen body.old).sending;
       sets = record (seen body.old).sets { inter = (seen body.old).sets.held };
@@ -250,7 +250,7 @@ fn start_sent(basis: &Ground<'_>, body: &mut Body) -> Result<(), NoMemory>
 }
 
 /// A unit of activities was sent.
-fn activity_sent(basis: &Ground<'_>, body: &mut Body, word: &ActivityWord) -> Result<(), NoMemory>
+fn activity_sent(basis: &Basis<'_>, body: &mut Body, word: &ActivityWord) -> Result<(), NoMemory>
     ensures { OnOk result (seen body.new ≡ after_sent_activity (seen body.old) (seen_activities
         word.now)) }
 {
@@ -300,7 +300,7 @@ fn transport_sent(body: &mut Body, unit: &TransportUnit)
 }
 
 /// A unit of the session was sent.
-fn word_sent(basis: &Ground<'_>, body: &mut Body, word: &Word) -> Result<(), NoMemory>
+fn word_sent(basis: &Basis<'_>, body: &mut Body, word: &Word) -> Result<(), NoMemory>
     ensures { OnOk result (seen body.new ≡ after_sent_word basis.now.config.mode (seen body.old)
         (seen_word word.now)) }
 {
@@ -316,7 +316,7 @@ fn word_sent(basis: &Ground<'_>, body: &mut Body, word: &Word) -> Result<(), NoM
 }
 
 /// A request was sent.
-pub fn after_sent(basis: &Ground<'_>, body: &mut Body, message: &Message) -> Result<(), NoMemory>
+pub fn after_sent(basis: &Basis<'_>, body: &mut Body, message: &Message) -> Result<(), NoMemory>
     ensures { OnOk result (seen body.new ≡ after_sent basis.now.config.mode (seen body.old)
         (seen_message message.now)) }
 {

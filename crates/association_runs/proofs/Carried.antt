@@ -21,13 +21,14 @@ use Rattle.outcome_laws.specs.Exchanges as exchanges_
 use Rattle.association_line.specs.association_reading.Front.{Intake, with_octets}
 use Rattle.association_worlds.specs.Lines.{more_came}
 use Rattle.osi_base.specs.Limits.{IsUnitSize}
+use Rattle.dialogue.specs.Carries.{first_octets}
 use Rattle.association_worlds.specs.InTransit.{Way}
 use Rattle.association_worlds.specs.Laws.{IsMeant}
 use Rattle.association_worlds.proofs.Kept.{way-moved}
 use Rattle.run_laws.specs.Passing.{PairedMessage, sendings, readings}
 use Rattle.association_line.specs.Line.{End, after, after_all}
 use Rattle.association_line.specs.Feeding.{Reads}
-use Rattle.association_runs.specs.Worlds.{end_at, stepping, first_octets, Runs}
+use Rattle.association_runs.specs.Worlds.{end_at, stepping, Runs}
 use Rattle.association_runs.specs.Worlds as runs
 use Rattle.association_runs.specs.Laws.{AreEvents}
 use Rattle.association_runs.specs.Sides.{ends_for}

@@ -31,13 +31,14 @@ use Rattle.association_line.specs.association_wire.Written.{written}
 use Rattle.association_line.specs.association_reading.Front.{all_fronts}
 use Rattle.association_worlds.specs.said_words.Calls.{IsCall, Speaks}
 use Rattle.osi_base.specs.Limits.{IsUnitSize}
+use Rattle.dialogue.specs.Carries.{first_octets}
 use Rattle.association_worlds.specs.InTransit.{IsWay, Way}
 use Rattle.association_worlds.specs.Laws.{IsMeant, IsHeard}
 use Rattle.association_worlds.proofs.Heard.{meant-heard}
 use Rattle.run_laws.specs.Passing.{sendings, readings}
 use Rattle.association_line.specs.Line.{Line, End, after, after_all}
 use Rattle.association_line.specs.Feeding.{OwnAfter, Makes}
-use Rattle.association_runs.specs.Worlds.{stepping, first_octets}
+use Rattle.association_runs.specs.Worlds.{stepping}
 use Rattle.association_runs.specs.Sides.{ends_for}
 use Rattle.association_runs.proofs.Histories.{end_for, own-end, peer-end, other-other, stepping-append, shared_on, shared-stepping}
 use Rattle.association_runs.proofs.Refusals.{refused-unchanged}

@@ -4,6 +4,7 @@ use Rattle.std.specs.Prelude.{Some}
 use Rattle.std.proofs.lemmas.List.{append-nil}
 use Rattle.osi_base.specs.declared.layer_words.Side.{Side}
 use Rattle.osi_base.specs.declared.layer_words.Side.TheVariants.{A, B}
+use Rattle.dialogue.specs.Carries.{first_octets}
 use Rattle.dialogue.specs.declared.event.Event.{Event}
 use Rattle.dialogue.specs.declared.event.Entry.{Entry}
 use Rattle.dialogue.specs.declared.event.Entry.TheVariants as entries
@@ -31,7 +32,7 @@ use Rattle.association_worlds.specs.Laws.{IsMeant}
 use Rattle.run_laws.specs.Showing.{shown_in, behind_newest, showing_on, showings, shown_to, carries_to, EachCarryShows}
 use Rattle.association_line.specs.Line.{End, after, after_all}
 use Rattle.association_line.specs.Feeding.{message_in, taking, Reads, is_over, waits, passes, takes, fails, OwnAfter, Makes}
-use Rattle.association_runs.specs.Worlds.{stepping, first_octets, Runs}
+use Rattle.association_runs.specs.Worlds.{stepping, Runs}
 use Rattle.association_runs.specs.Worlds as runs
 use Rattle.association_runs.specs.Sides.{ends_for}
 use Rattle.association_runs.specs.Laws.{AreEvents}

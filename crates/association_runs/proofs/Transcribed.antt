@@ -4,6 +4,7 @@ use Rattle.std.specs.Prelude.{Bool, Option, if◌then◌else◌}
 use Rattle.std.proofs.lemmas.List.{append-nil}
 use Rattle.osi_base.specs.declared.layer_words.Side.{Side}
 use Rattle.osi_base.specs.declared.layer_words.Side.TheVariants.{A, B}
+use Rattle.dialogue.specs.Carries.{first_octets}
 use Rattle.dialogue.specs.declared.call.Call.{Call}
 use Rattle.dialogue.specs.declared.event.Event.{Event}
 use Rattle.dialogue.specs.declared.event.Entry.{Entry}
@@ -22,7 +23,7 @@ use Rattle.run_laws.specs.Showing.{shown_at, behind_newest, showing_on, showings
 use Rattle.run_laws.specs.Outcomes.{called_at, all_called}
 use Rattle.association_line.specs.Line.{End, after, after_all}
 use Rattle.association_line.specs.Feeding.{taking, failing, Reads, is_over, waits, passes, takes, fails, Feeds, OwnAfter, Makes}
-use Rattle.association_runs.specs.Worlds.{end_at, stepping, first_octets, Runs}
+use Rattle.association_runs.specs.Worlds.{end_at, stepping, Runs}
 use Rattle.association_runs.specs.Worlds as runs
 
 -- ---- calls

@@ -1,6 +1,7 @@
 -- Events have one run.
 use Rattle.std.proofs.Common.{◌≡◌, refl, sym, ap, subst, List, [], ◌∷◌, length}
 use Rattle.osi_base.specs.declared.layer_words.Side.TheVariants.{A, B}
+use Rattle.dialogue.specs.Carries.{first_octets}
 use Rattle.dialogue.specs.declared.event.Event.{Event}
 use Rattle.dialogue.specs.declared.event.Entry.{Entry}
 use Rattle.dialogue.specs.declared.event.Entry.TheVariants as entries
@@ -8,7 +9,7 @@ use Rattle.end_model.specs.end_rules.Calling.{can_call}
 use Rattle.end_model.specs.end_rules.History.{Step, gave, broke}
 use Rattle.end_model.specs.end_rules.World.{World, Ends, base_at, other}
 use Rattle.association_line.specs.OneFeed.{OneFeed, OneCall}
-use Rattle.association_runs.specs.Worlds.{end_at, stepping, first_octets, Runs, rests, calls, carries, breaks}
+use Rattle.association_runs.specs.Worlds.{end_at, stepping, Runs, rests, calls, carries, breaks}
 use Rattle.association_runs.specs.Laws.{OneRun}
 
 module _ (one_feed : OneFeed) (one_call : OneCall) (ends : Ends) where

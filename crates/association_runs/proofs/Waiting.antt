@@ -3,6 +3,7 @@ use Rattle.std.proofs.Common.{◌≡◌, refl, ◌∙◌, sym, ap, subst, ℕ, L
 use Rattle.std.specs.Prelude.{Bool, not, ◌&&◌, Option, Some, if◌then◌else◌}
 use Rattle.osi_base.specs.declared.layer_words.Side.{Side}
 use Rattle.osi_base.specs.declared.layer_words.Side.TheVariants.{A, B}
+use Rattle.dialogue.specs.Carries.{first_octets}
 use Rattle.dialogue.specs.declared.call.Call.{Call}
 use Rattle.dialogue.specs.declared.call.Call.TheVariants as the_calls
 use Rattle.dialogue.specs.declared.call.CallRefusal.{CallRefusal}
@@ -27,7 +28,7 @@ use Rattle.end_model.specs.Sharing.{side_of}
 use Rattle.association_line.specs.association_reading.Front.{Intake, Short, first_in}
 use Rattle.association_line.specs.Line.{End, after, after_all, end_of}
 use Rattle.association_line.specs.Feeding.{taking, failing, Reads, is_over, waits, passes, takes, fails, Feeds, OwnAfter, Makes}
-use Rattle.association_runs.specs.Worlds.{end_at, stepping, first_octets, Runs}
+use Rattle.association_runs.specs.Worlds.{end_at, stepping, Runs}
 use Rattle.association_runs.specs.Worlds as runs
 use Rattle.association_runs.specs.Octets.{NothingWholeWaits}
 use Rattle.association_runs.proofs.Histories.{own-history, peer-history, end-going, all-append}

@@ -9,7 +9,7 @@ ghost use Rattle.association_state.specs.Seen.{base_in, seen};
 
 use crate::opening::{initial_number, requirement_bits};
 use crate::values::acse_value;
-use association_state::{Body, Ground};
+use association_state::{Body, Basis};
 use association_words::{
     Accepting, AssociationWord, Message, UserInformation, Value, Values, Word,
 };
@@ -30,7 +30,7 @@ fn alone(alloc: Global, value: Value) -> Result<Values, NoMemory>
 
 /// The presentation part of an acceptance.
 fn presentation_accept(
-    basis: &Ground<'_>,
+    basis: &Basis<'_>,
     results: AddAnswers,
     manages: bool,
 ) -> Result<PresentationAccept, NoMemory>
@@ -86,7 +86,7 @@ fn response_value(
 
 /// AC with these results.
 pub fn accept_message(
-    basis: &Ground<'_>,
+    basis: &Basis<'_>,
     accepted: &[SetItem],
     results: AddAnswers,
     selected: u16,

@@ -10,7 +10,7 @@ ghost use Rattle.association_state.specs.Seen.{base_in};
 
 use crate::values::{acse_value, rtse_information};
 use association_ground::{application_context, proposed_units};
-use association_state::Ground;
+use association_state::Basis;
 use association_words::{AssociationWord, Message, TransportUnit, Values, Word};
 use dialogue::Mode;
 use osi_base::{
@@ -60,7 +60,7 @@ pub(crate) fn requirement_bits(alloc: Global, both: bool) -> Result<BitString, N
 }
 
 /// The session part of the opening.
-fn session_connect(basis: &Ground<'_>) -> Result<SessionConnect, NoMemory>
+fn session_connect(basis: &Basis<'_>) -> Result<SessionConnect, NoMemory>
     ensures { IfOk result (λ s. s ≡ session_connect (base_in basis.now)) }
 {
     let alloc = basis.alloc;
@@ -80,7 +80,7 @@ fn session_connect(basis: &Ground<'_>) -> Result<SessionConnect, NoMemory>
 }
 
 /// The presentation part of the opening.
-fn presentation_connect(basis: &Ground<'_>) -> Result<PresentationConnect, NoMemory>
+fn presentation_connect(basis: &Basis<'_>) -> Result<PresentationConnect, NoMemory>
     ensures { IfOk result (λ p. p ≡ presentation_connect (base_in basis.now)) }
 {
     let alloc = basis.alloc;
@@ -98,7 +98,7 @@ fn presentation_connect(basis: &Ground<'_>) -> Result<PresentationConnect, NoMem
 }
 
 /// What the opening of an association carries for its user, NULL; or which association it recovers.
-pub fn connection_data(basis: &Ground<'_>, recovers: bool) -> Result<ConnectionData, NoMemory>
+pub fn connection_data(basis: &Basis<'_>, recovers: bool) -> Result<ConnectionData, NoMemory>
     ensures { IfOk result (λ d. d ≡ connection_data (base_in basis.now) recovers) }
 {
     if recovers {
@@ -112,7 +112,7 @@ pub fn connection_data(basis: &Ground<'_>, recovers: bool) -> Result<ConnectionD
 }
 
 /// The request of reliable transfer.
-fn open_request(basis: &Ground<'_>, recovers: bool) -> Result<Rtse, NoMemory>
+fn open_request(basis: &Basis<'_>, recovers: bool) -> Result<Rtse, NoMemory>
     ensures { IfOk result (λ r. r ≡ rtse.OpenRequest basis.now.config.checkpoint
         basis.now.config.window (pos 1) (connection_data (base_in basis.now) recovers)) }
 {
@@ -125,7 +125,7 @@ fn open_request(basis: &Ground<'_>, recovers: bool) -> Result<Rtse, NoMemory>
 }
 
 /// The values of the opening: the request for an association.
-fn connect_values(basis: &Ground<'_>, recovers: bool) -> Result<Values, NoMemory>
+fn connect_values(basis: &Basis<'_>, recovers: bool) -> Result<Values, NoMemory>
     ensures { IfOk result (λ values. seen_values values ≡ connect_values (base_in basis.now)
         recovers) }
 {
@@ -143,7 +143,7 @@ fn connect_values(basis: &Ground<'_>, recovers: bool) -> Result<Values, NoMemory
 }
 
 /// CN, for an opening or a recovery.
-pub fn connect_message(basis: &Ground<'_>, recovers: bool) -> Result<Message, NoMemory>
+pub fn connect_message(basis: &Basis<'_>, recovers: bool) -> Result<Message, NoMemory>
     ensures { IfOk result (λ m. seen_message m ≡ connect_message (base_in basis.now) recovers) }
 {
     let values = connect_values(basis, recovers)?;
@@ -157,7 +157,7 @@ pub fn connect_message(basis: &Ground<'_>, recovers: bool) -> Result<Message, No
 }
 
 /// CR, which proposes 1,024 octets.
-pub fn connection_request(basis: &Ground<'_>) -> Result<Message, NoMemory>
+pub fn connection_request(basis: &Basis<'_>) -> Result<Message, NoMemory>
     ensures { IfOk result (λ m. seen_message m ≡ connection_request (base_in basis.now)) }
 {
     Ok(Message::Transport(TransportUnit::ConnectionRequest {

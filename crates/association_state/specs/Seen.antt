@@ -5,10 +5,10 @@ use Rattle.association_reading.specs.Transfers.{association_spellings}
 use Rattle.association_pieces.specs.Link.{seen_link}
 use Rattle.association_pieces.specs.Sending.{seen_sending}
 use Rattle.association_pieces.specs.Seen.{seen_sets, seen_receiving}
-use Rattle.association_state.specs.declared.basis.Ground.{Ground}
+use Rattle.association_state.specs.declared.basis.Basis.{Basis}
 use Rattle.association_state.specs.declared.body.Body.{Body}
 
-abbrev pub base_in : Ground → Base
+abbrev pub base_in : Basis → Base
 base_in basis = base_of basis.tables.now basis.config (association_spellings basis.tables.now)
 
 abbrev pub seen : Body → rules.Body

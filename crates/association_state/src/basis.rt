@@ -7,7 +7,7 @@ use stub_tables::Tables;
 
 /// The module and the configuration of an end, with its allocator and the fixed tables of heads.
 #[derive(Drop)]
-pub struct Ground<'t> {
+pub struct Basis<'t> {
     /// The allocator of the end.
     pub alloc: Global,
     /// The tables of the module.

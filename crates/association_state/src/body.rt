@@ -6,7 +6,7 @@ ghost use Rattle.association_reading.specs.end_rules.State.{new_body, new_link, 
 ghost use Rattle.association_pieces.specs.Link.{seen_link};
 ghost use Rattle.association_state.specs.Seen.{seen, base_in};
 
-use crate::basis::Ground;
+use crate::basis::Basis;
 use association_pieces::{
     Awaited, Link, Receiving, SavedSets, Sending, Sets, Stage, TransferPieces,
 };
@@ -44,7 +44,7 @@ fn first_phase(mode: Mode) -> Phase
 }
 
 /// The association of a new end.
-fn new_link(basis: &Ground<'_>) -> Link
+fn new_link(basis: &Basis<'_>) -> Link
     ensures { seen_link result ≡ new_link (base_in basis.now) }
 {
     Link {
@@ -64,7 +64,7 @@ fn new_link(basis: &Ground<'_>) -> Link
 }
 
 /// The one context of bare mode.
-fn bare_set(basis: &Ground<'_>) -> Result<SetList, NoMemory>
+fn bare_set(basis: &Basis<'_>) -> Result<SetList, NoMemory>
     ensures { IfOk result (λ set. set ≡ first_set basis.now.tables.now Bare) }
 {
     let mut set = ListOf::new(basis.alloc);
@@ -79,7 +79,7 @@ fn bare_set(basis: &Ground<'_>) -> Result<SetList, NoMemory>
 }
 
 /// The set of a new end.
-fn first_set(basis: &Ground<'_>) -> Result<SetList, NoMemory>
+fn first_set(basis: &Basis<'_>) -> Result<SetList, NoMemory>
     ensures { IfOk result (λ set. set ≡ first_set basis.now.tables.now basis.now.config.mode) }
 {
     match basis.config.mode {
@@ -91,7 +91,7 @@ fn first_set(basis: &Ground<'_>) -> Result<SetList, NoMemory>
 
 impl Body {
     /// What a new end holds.
-    pub fn new(basis: &Ground<'_>) -> Result<Body, NoMemory>
+    pub fn new(basis: &Basis<'_>) -> Result<Body, NoMemory>
         ensures { IfOk result (λ body. seen body ≡ new_body (base_in basis.now)) }
     {
         let alloc = basis.alloc;

@@ -1,5 +1,5 @@
 //! All that one end of an association holds but its octets (`Body`), and what its rules stand on:
-//! the configuration and the tables (`Ground`).
+//! the configuration and the tables (`Basis`).
 #![tactic(auto)]
 
 mod basis;
@@ -12,7 +12,7 @@ pub use association_pieces::{
     take_next, take_oldest,
 };
 pub use association_reading::apdu_codec_layer;
-pub use basis::Ground;
+pub use basis::Basis;
 pub use body::Body;
 // Passed on: crates above name these through this one.
 pub use open_invocations as open_invocations_layer;

@@ -18,7 +18,7 @@ ghost use Rattle.association_hearing.specs.association_sends.Due.{listed};
 use association_hearing::association_answers_layer::{
     Brought, one_message, push_losses, with_indication, with_nothing,
 };
-use association_hearing::association_state_layer::{Awaited, Body, Ground, Receiving};
+use association_hearing::association_state_layer::{Awaited, Body, Basis, Receiving};
 use association_hearing::{set_resumed, suspend, take_value};
 use association_sets::copy_set;
 use association_words::{ActivityWord, Message, Value, Word};
@@ -45,7 +45,7 @@ fn start_record(receiving: &mut Receiving, activity: u32)
 }
 
 /// Takes AS: both ends keep the held set as the inter-activity set.
-fn take_start(basis: &Ground<'_>, body: &mut Body, activity: u32) -> Result<Brought, NoMemory>
+fn take_start(basis: &Basis<'_>, body: &mut Body, activity: u32) -> Result<Brought, NoMemory>
     ensures body { OnOk result (seen body.new ≡ keeping (received (λ r. started_record activity)
         (seen body.old))) }
     ensures taken { IfOk result (TakenAs [] []) }
@@ -72,7 +72,7 @@ fn resume_record(receiving: &mut Receiving, activity: u32, mark: u32)
 
 /// Takes AR.
 fn take_resume(
-    basis: &Ground<'_>,
+    basis: &Basis<'_>,
     body: &mut Body,
     activity: u32,
     mark: u32,
@@ -110,7 +110,7 @@ fn between(alloc: Global, body: &mut Body) -> Result<(), NoMemory>
 
 /// Takes what a transfer brings, where it brings something.
 fn take_arrived(
-    basis: &Ground<'_>,
+    basis: &Basis<'_>,
     body: &mut Body,
     arrived: Option<Value>,
 ) -> Result<Brought, NoMemory>
@@ -126,7 +126,7 @@ fn take_arrived(
 /// Takes AE with what the transfer brings, which was read before: nothing where its number was
 /// handed up already.
 pub fn end_taken(
-    basis: &Ground<'_>,
+    basis: &Basis<'_>,
     body: &mut Body,
     number: u32,
     arrived: Option<Value>,
@@ -154,7 +154,7 @@ fn forget_current(body: &mut Body)
 }
 
 /// Takes AEA.
-fn take_end_ack(basis: &Ground<'_>, body: &mut Body) -> Result<Brought, NoMemory>
+fn take_end_ack(basis: &Basis<'_>, body: &mut Body) -> Result<Brought, NoMemory>
     ensures body { OnOk result (seen body.new ≡ between (without_current (seen body.old))) }
     ensures taken { IfOk result (TakenAs [] (indications.Transferred (seen body.old).sending.started
         ∷ [])) }
@@ -170,7 +170,7 @@ fn take_end_ack(basis: &Ground<'_>, body: &mut Body) -> Result<Brought, NoMemory
 }
 
 /// Takes AI.
-fn take_interrupt(basis: &Ground<'_>, body: &mut Body) -> Result<Brought, NoMemory>
+fn take_interrupt(basis: &Basis<'_>, body: &mut Body) -> Result<Brought, NoMemory>
     ensures body { OnOk result (seen body.new ≡ between (received (λ r. record r { active = false })
         (seen body.old))) }
     ensures taken { IfOk result (TakenAs (Session (OfActivities InterruptAck) ∷ [])
@@ -189,7 +189,7 @@ fn take_interrupt(basis: &Ground<'_>, body: &mut Body) -> Result<Brought, NoMemo
 }
 
 /// Takes AD.
-fn take_discard(basis: &Ground<'_>, body: &mut Body) -> Result<Brought, NoMemory>
+fn take_discard(basis: &Basis<'_>, body: &mut Body) -> Result<Brought, NoMemory>
     ensures body { OnOk result (seen body.new ≡ between (received (λ r. record r {
       pieces = [];
       active = false;
@@ -219,7 +219,7 @@ fn calm(body: &mut Body)
 }
 
 /// Takes AIA.
-fn take_interrupt_ack(basis: &Ground<'_>, body: &mut Body) -> Result<Brought, NoMemory>
+fn take_interrupt_ack(basis: &Basis<'_>, body: &mut Body) -> Result<Brought, NoMemory>
     ensures body { OnOk result (seen body.new ≡ between (calmed (on_transfer (λ (t : rule_transfer).
         record t { progress = Suspended }) (seen body.old)))) }
     ensures taken { IfOk result (TakenAs [] (losses (seen body.old) ++ indications.Interrupted
@@ -285,7 +285,7 @@ fn cut(body: &mut Body, id: Option<i64>)
 }
 
 /// Takes ADA: a discarded transfer is forgotten, and an invocation in it is cut.
-fn take_discard_ack(basis: &Ground<'_>, body: &mut Body) -> Result<Brought, NoMemory>
+fn take_discard_ack(basis: &Basis<'_>, body: &mut Body) -> Result<Brought, NoMemory>
     ensures body { OnOk result (seen body.new ≡ after_discard (seen body.old)) }
     ensures taken { IfOk result (TakenAs [] ((losses (seen body.old) ++ shown_cut (invocation_in
         (seen body.old).sending.current) (seen body.old).calls) ++ indications.Discarded
@@ -310,7 +310,7 @@ fn take_discard_ack(basis: &Ground<'_>, body: &mut Body) -> Result<Brought, NoMe
 
 /// Takes a unit of activities but AE.
 pub fn take_activity(
-    basis: &Ground<'_>,
+    basis: &Basis<'_>,
     body: &mut Body,
     word: ActivityWord,
 ) -> Result<Brought, NoMemory>

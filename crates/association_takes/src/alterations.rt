@@ -14,7 +14,7 @@ use association_ground::is_reliable;
 use association_hearing::association_answers_layer::{
     Brought, alteration_answers, with_indication, with_nothing,
 };
-use association_hearing::association_state_layer::{Body, Ground, take_oldest};
+use association_hearing::association_state_layer::{Body, Basis, take_oldest};
 use association_sets::{Alteration, alter_set, fit_alteration, proposed_ids};
 use association_words::{DataWord, Fault, Message, Word};
 use dialogue::Indication;
@@ -22,14 +22,14 @@ use osi_base::{Answers, Copied, Ids, Layer, NoMemory, Proposal, Proposals, SetLi
 use set_rules::is_faulty_proposal;
 
 /// An unexpected PPDU.
-fn unexpected_ppdu(basis: &Ground<'_>) -> Fault
+fn unexpected_ppdu(basis: &Basis<'_>) -> Fault
     ensures { seen_fault result ≡ unexpected_ppdu }
 {
     Fault::at(basis.alloc, Layer::Presentation, 0, 2)
 }
 
 /// An invalid PPDU.
-fn invalid_ppdu(basis: &Ground<'_>) -> Fault
+fn invalid_ppdu(basis: &Basis<'_>) -> Fault
     ensures { seen_fault result ≡ invalid_ppdu }
 {
     Fault::at(basis.alloc, Layer::Presentation, 0, 6)
@@ -37,7 +37,7 @@ fn invalid_ppdu(basis: &Ground<'_>) -> Fault
 
 /// Why an alteration may not come: AC may stand where context management is selected and, in
 /// reliable mode, from the end that has the turn.
-pub fn alter_fault(basis: &Ground<'_>, body: &Body, add: &[Proposal]) -> Option<Fault>
+pub fn alter_fault(basis: &Basis<'_>, body: &Body, add: &[Proposal]) -> Option<Fault>
     ensures { option_map seen_fault result
         ≡ alter_fault (base_in basis.now) (seen body.now) add.now }
 {
@@ -52,7 +52,7 @@ pub fn alter_fault(basis: &Ground<'_>, body: &Body, add: &[Proposal]) -> Option<
 }
 
 /// Why answers may not come: nothing was asked, or they don't fit.
-pub fn answered_fault(basis: &Ground<'_>, body: &Body, answers: &Answers) -> Option<Fault>
+pub fn answered_fault(basis: &Basis<'_>, body: &Body, answers: &Answers) -> Option<Fault>
     ensures { option_map seen_fault result ≡ answered_fault (seen body.now).sets.own answers.now }
 {
     match body.sets.own.first() {
@@ -69,7 +69,7 @@ pub fn answered_fault(basis: &Ground<'_>, body: &Body, answers: &Answers) -> Opt
 
 /// The held set after an alteration that was answered so.
 fn altered_set(
-    basis: &Ground<'_>,
+    basis: &Basis<'_>,
     body: &Body,
     asked: &Alteration,
     answers: &Answers,
@@ -82,7 +82,7 @@ fn altered_set(
 
 /// What is told of an alteration that was taken.
 fn alter_taken(
-    basis: &Ground<'_>,
+    basis: &Basis<'_>,
     asked: &Alteration,
     answers: &Answers,
 ) -> Result<Indication, NoMemory>
@@ -98,7 +98,7 @@ fn alter_taken(
 
 /// What is told of an own alteration that was answered.
 fn altered_told(
-    basis: &Ground<'_>,
+    basis: &Basis<'_>,
     asked: &Alteration,
     answers: Answers,
 ) -> Result<Indication, NoMemory>
@@ -114,7 +114,7 @@ fn altered_told(
 
 /// The answer to an alteration with what is told of it.
 fn alter_answered(
-    basis: &Ground<'_>,
+    basis: &Basis<'_>,
     asked: &Alteration,
     answers: Answers,
 ) -> Result<Brought, NoMemory>
@@ -129,7 +129,7 @@ fn alter_answered(
 
 /// Takes an alteration, which is answered by the policy.
 pub fn take_alter(
-    basis: &Ground<'_>,
+    basis: &Basis<'_>,
     body: &mut Body,
     add: Proposals,
     delete: Ids,
@@ -150,7 +150,7 @@ pub fn take_alter(
 
 /// Takes the answers to the oldest own alteration.
 pub fn take_answers(
-    basis: &Ground<'_>,
+    basis: &Basis<'_>,
     body: &mut Body,
     answers: Answers,
 ) -> Result<Brought, NoMemory>

@@ -11,13 +11,13 @@ use crate::alterations::{alter_fault, answered_fault, take_alter, take_answers};
 use crate::parts::{take_parts, values_fault};
 use association_ground::is_reliable;
 use association_hearing::association_answers_layer::{Brought, with_nothing};
-use association_hearing::association_state_layer::{Body, Ground};
+use association_hearing::association_state_layer::{Body, Basis};
 use association_hearing::take_values;
 use association_words::{DataWord, Fault, Values};
 use osi_base::NoMemory;
 
 /// Why a unit of data may not be taken.
-pub fn data_fault(basis: &Ground<'_>, body: &Body, word: &DataWord) -> Option<Fault>
+pub fn data_fault(basis: &Basis<'_>, body: &Body, word: &DataWord) -> Option<Fault>
     ensures { option_map seen_fault result ≡ data_fault (base_in basis.now) (seen body.now)
         (seen_data word.now) }
 {
@@ -29,7 +29,7 @@ pub fn data_fault(basis: &Ground<'_>, body: &Body, word: &DataWord) -> Option<Fa
 }
 
 /// Takes values: in reliable mode as pieces of the peer's activity, else as APDUs.
-fn take_all(basis: &Ground<'_>, body: &mut Body, values: Values) -> Result<Brought, NoMemory>
+fn take_all(basis: &Basis<'_>, body: &mut Body, values: Values) -> Result<Brought, NoMemory>
     ensures body { OnOk result (seen body.new ≡ after_data (base_in basis.now) (seen body.old)
         (values_word (seen_values values))) }
     ensures taken { IfOk result (TakenAs (answers_to_data (base_in basis.now) (seen body.old)
@@ -44,7 +44,7 @@ fn take_all(basis: &Ground<'_>, body: &mut Body, values: Values) -> Result<Broug
 }
 
 /// Takes a unit of data.
-pub fn take_data(basis: &Ground<'_>, body: &mut Body, word: DataWord) -> Result<Brought, NoMemory>
+pub fn take_data(basis: &Basis<'_>, body: &mut Body, word: DataWord) -> Result<Brought, NoMemory>
     ensures body { OnOk result (seen body.new ≡ after_data (base_in basis.now) (seen body.old)
         (seen_data word)) }
     ensures taken { IfOk result (TakenAs (answers_to_data (base_in basis.now) (seen body.old)

@@ -15,7 +15,7 @@ use crate::parts::has_associated;
 use association_hearing::association_answers_layer::{
     Brought, one_message, push_cuts, push_losses, with_answer, with_indication, with_nothing,
 };
-use association_hearing::association_state_layer::{Awaited, Body, Ground};
+use association_hearing::association_state_layer::{Awaited, Body, Basis};
 use association_sets::{copy_set, restored_list, same_lists};
 use association_words::{Fault, MarkWord, Message, Value, ValueContent, Word};
 use dialogue::{Indication, Indications, Mode};
@@ -24,7 +24,7 @@ use std::alloc::Global;
 
 /// A mark that is taken saves the set: in direct mode under its number, in reliable mode in the
 /// peer's activity.
-fn save_mark(basis: &Ground<'_>, body: &mut Body, number: u32) -> Result<(), NoMemory>
+fn save_mark(basis: &Basis<'_>, body: &mut Body, number: u32) -> Result<(), NoMemory>
     ensures { OnOk result (seen body.new ≡ marked_in basis.now.config.mode number (seen body.old)) }
 {
     match basis.config.mode {
@@ -41,7 +41,7 @@ fn save_mark(basis: &Ground<'_>, body: &mut Body, number: u32) -> Result<(), NoM
 }
 
 /// A mark is confirmed in reliable mode, and shown in direct mode.
-fn mark_taken(basis: &Ground<'_>, number: u32) -> Result<Brought, NoMemory>
+fn mark_taken(basis: &Basis<'_>, number: u32) -> Result<Brought, NoMemory>
     ensures { IfOk result (TakenAs (mark_answer basis.now.config.mode number) (mark_shown
         basis.now.config.mode number)) }
 {
@@ -56,7 +56,7 @@ fn mark_taken(basis: &Ground<'_>, number: u32) -> Result<Brought, NoMemory>
 }
 
 /// Takes the confirmation of a mark, which in direct mode is passed over.
-fn confirm_mark(basis: &Ground<'_>, body: &mut Body, number: u32)
+fn confirm_mark(basis: &Basis<'_>, body: &mut Body, number: u32)
     ensures { seen body.new ≡ confirmed_in basis.now.config.mode number (seen body.old) }
 {
     match basis.config.mode {
@@ -94,7 +94,7 @@ fn list_differs(
 
 /// Why a restart with this list may not come: it isn't the one of the restored set.
 fn list_fault(
-    basis: &Ground<'_>,
+    basis: &Basis<'_>,
     body: &Body,
     n: u32,
     list: &Option<RestoredList>,
@@ -140,7 +140,7 @@ fn plea_in(content: &ValueContent) -> Option<u32>
 
 /// Why a plea may not come: a value of association control is its fault, and what else is no plea
 /// one of reliable transfer.
-fn please_fault(basis: &Ground<'_>, tokens: Option<u8>, values: &[Value]) -> Option<Fault>
+fn please_fault(basis: &Basis<'_>, tokens: Option<u8>, values: &[Value]) -> Option<Fault>
     ensures { option_map seen_fault result ≡ please_fault tokens (seen_values values.now) }
 {
     tokens?;
@@ -155,7 +155,7 @@ fn please_fault(basis: &Ground<'_>, tokens: Option<u8>, values: &[Value]) -> Opt
 
 /// Why a unit of marks or tokens may not be taken.
 pub fn mark_fault(
-    basis: &Ground<'_>,
+    basis: &Basis<'_>,
     body: &Body,
     word: &MarkWord,
 ) -> Result<Option<Fault>, NoMemory>
@@ -175,7 +175,7 @@ pub fn mark_fault(
 }
 
 /// What is shown of a restart.
-fn shown_restarted(basis: &Ground<'_>, body: &Body, n: u32) -> Result<Indications, NoMemory>
+fn shown_restarted(basis: &Basis<'_>, body: &Body, n: u32) -> Result<Indications, NoMemory>
     ensures { IfOk result (λ shown. shown ≡ shown_restarted (seen body.now) n) }
 {
     let mut shown: Indications = ListOf::new(basis.alloc);
@@ -186,7 +186,7 @@ fn shown_restarted(basis: &Ground<'_>, body: &Body, n: u32) -> Result<Indication
 }
 
 /// The set that a restart brings back.
-fn restored_set(basis: &Ground<'_>, body: &Body, n: u32) -> Result<SetList, NoMemory>
+fn restored_set(basis: &Basis<'_>, body: &Body, n: u32) -> Result<SetList, NoMemory>
     ensures { IfOk result (λ set. set ≡ restored_set (seen body.now) n) }
 {
     copy_set(basis.alloc, body.saved.set_below(n))
@@ -194,7 +194,7 @@ fn restored_set(basis: &Ground<'_>, body: &Body, n: u32) -> Result<SetList, NoMe
 
 /// Goes back to the set of a restart: the marks from it on, own alterations and open invocations
 /// are gone, and the token is at the initiator.
-fn restart(basis: &Ground<'_>, body: &mut Body, n: u32, set: SetList)
+fn restart(basis: &Basis<'_>, body: &mut Body, n: u32, set: SetList)
     requires { set ≡ restored_set (seen body.old) n }
     ensures { seen body.new ≡ restarted (base_in basis.now) n (seen body.old) }
 {
@@ -207,7 +207,7 @@ fn restart(basis: &Ground<'_>, body: &mut Body, n: u32, set: SetList)
 }
 
 /// The answer to a restart.
-fn restart_answer(basis: &Ground<'_>, body: &Body, n: u32) -> Result<Message, NoMemory>
+fn restart_answer(basis: &Basis<'_>, body: &Body, n: u32) -> Result<Message, NoMemory>
     ensures { IfOk result (λ m. seen_message m ≡ Session (OfMarks (RestartAck n (Some (listed
         (restored_set (seen body.now) n)))))) }
 {
@@ -218,7 +218,7 @@ fn restart_answer(basis: &Ground<'_>, body: &Body, n: u32) -> Result<Message, No
 }
 
 /// Takes a restart.
-fn take_restart(basis: &Ground<'_>, body: &mut Body, n: u32) -> Result<Brought, NoMemory>
+fn take_restart(basis: &Basis<'_>, body: &mut Body, n: u32) -> Result<Brought, NoMemory>
     ensures body { OnOk result (seen body.new ≡ restarted (base_in basis.now) n (seen body.old)) }
     ensures taken { IfOk result (TakenAs (Session (OfMarks (RestartAck n (Some (listed (restored_set
         (seen body.old) n))))) ∷ []) (shown_restarted (seen body.old) n)) }
@@ -232,7 +232,7 @@ fn take_restart(basis: &Ground<'_>, body: &mut Body, n: u32) -> Result<Brought, 
 }
 
 /// Takes the answer to a restart.
-fn take_restart_ack(basis: &Ground<'_>, body: &mut Body, n: u32) -> Result<Brought, NoMemory>
+fn take_restart_ack(basis: &Basis<'_>, body: &mut Body, n: u32) -> Result<Brought, NoMemory>
     ensures body { OnOk result (seen body.new ≡ restarted (base_in basis.now) n (seen body.old)) }
     ensures taken { IfOk result (TakenAs [] (shown_restarted (seen body.old) n)) }
 {
@@ -256,7 +256,7 @@ fn take_turn(body: &mut Body)
 }
 
 /// Takes GT.
-fn take_give(basis: &Ground<'_>, body: &mut Body, tokens: Option<u8>) -> Result<Brought, NoMemory>
+fn take_give(basis: &Basis<'_>, body: &mut Body, tokens: Option<u8>) -> Result<Brought, NoMemory>
     ensures body { OnOk result (seen body.new ≡ with_turn tokens (seen body.old)) }
     ensures taken { IfOk result (TakenAs [] (shown_turn tokens)) }
 {
@@ -271,7 +271,7 @@ fn take_give(basis: &Ground<'_>, body: &mut Body, tokens: Option<u8>) -> Result<
 
 /// What is shown of a plea.
 fn shown_please(
-    basis: &Ground<'_>,
+    basis: &Basis<'_>,
     tokens: Option<u8>,
     values: &[Value],
 ) -> Result<Brought, NoMemory>
@@ -287,7 +287,7 @@ fn shown_please(
 }
 
 /// Takes GTC.
-fn take_give_confirm(basis: &Ground<'_>, body: &mut Body) -> Result<Brought, NoMemory>
+fn take_give_confirm(basis: &Basis<'_>, body: &mut Body) -> Result<Brought, NoMemory>
     ensures body { OnOk result (seen body.new ≡ record (seen body.old) {
       link = record (seen body.old).link { turn = true; gave = false };
     }) }
@@ -302,7 +302,7 @@ fn take_give_confirm(basis: &Ground<'_>, body: &mut Body) -> Result<Brought, NoM
 }
 
 /// Takes a unit of marks or tokens.
-pub fn take_mark(basis: &Ground<'_>, body: &mut Body, word: MarkWord) -> Result<Brought, NoMemory>
+pub fn take_mark(basis: &Basis<'_>, body: &mut Body, word: MarkWord) -> Result<Brought, NoMemory>
     ensures body { OnOk result (seen body.new ≡ after_mark (base_in basis.now) (seen body.old)
         (seen_marks word)) }
     ensures taken { IfOk result (TakenAs (answers_to_mark (base_in basis.now) (seen body.old)

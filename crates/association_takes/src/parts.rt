@@ -11,7 +11,7 @@ ghost use Rattle.association_words.specs.Seen.{seen_fault, seen_content, seen_va
 ghost use Rattle.association_hearing.specs.association_state.Seen.{base_in, seen};
 
 use association_ground::is_reliable;
-use association_hearing::association_state_layer::{Body, Ground};
+use association_hearing::association_state_layer::{Body, Basis};
 use association_hearing::part_in;
 use association_words::{Fault, Value, ValueContent};
 use osi_base::{Layer, NoMemory, Octets};
@@ -121,7 +121,7 @@ fn is_too_long(body: &Body, values: &[Value]) -> bool
 }
 
 /// Why parts of a transfer may not be taken.
-fn parts_fault(basis: &Ground<'_>, body: &Body, values: &[Value]) -> Option<Fault>
+fn parts_fault(basis: &Basis<'_>, body: &Body, values: &[Value]) -> Option<Fault>
     ensures { option_map seen_fault result ≡ or_fault (fault_if (list_any (λ (v : DataValue). not
         (is_part v.content)) (seen_values values.now)) rtse_fault) (fault_if
         (nat_lt most_transferred (length (joined (seen body.now).receiving.pieces
@@ -136,7 +136,7 @@ fn parts_fault(basis: &Ground<'_>, body: &Body, values: &[Value]) -> Option<Faul
 
 /// What data may not carry: values of association control anywhere; in reliable mode what is no
 /// part of a transfer, or too many octets; else what is none of remote operations.
-pub(crate) fn values_fault(basis: &Ground<'_>, body: &Body, values: &[Value]) -> Option<Fault>
+pub(crate) fn values_fault(basis: &Basis<'_>, body: &Body, values: &[Value]) -> Option<Fault>
     ensures { option_map seen_fault result ≡ values_fault (base_in basis.now) (seen body.now)
         (seen_values values.now) }
 {

@@ -15,7 +15,7 @@ use association_hearing::association_answers_layer::{
     Brought, with_answer, with_indication, with_nothing,
 };
 use association_hearing::association_sends_layer::connect_message;
-use association_hearing::association_state_layer::{Body, Ground, Stage};
+use association_hearing::association_state_layer::{Body, Basis, Stage};
 use association_words::{Fault, Message, TransportUnit};
 use dialogue::{Indication, Phase};
 use osi_base::{Layer, NoMemory};
@@ -31,21 +31,21 @@ fn is_size(size: Option<u8>) -> bool
 }
 
 /// Whether CR may come: to a responder that has no association yet, or whose association is broken.
-fn may_request(basis: &Ground<'_>, body: &Body) -> bool
+fn may_request(basis: &Basis<'_>, body: &Body) -> bool
     ensures { result ≡ may_request (base_in basis.now) (seen body.now) }
 {
     !basis.config.initiator && body.link.stage.is_unused() && is_waiting(body.link.phase)
 }
 
 /// Whether CC and DR may come.
-fn may_respond(basis: &Ground<'_>, body: &Body) -> bool
+fn may_respond(basis: &Basis<'_>, body: &Body) -> bool
     ensures { result ≡ may_respond (base_in basis.now) (seen body.now) }
 {
     basis.config.initiator && body.link.stage.is_asked()
 }
 
 /// Whether a unit may stand where it comes.
-fn may_come(basis: &Ground<'_>, body: &Body, unit: &TransportUnit) -> bool
+fn may_come(basis: &Basis<'_>, body: &Body, unit: &TransportUnit) -> bool
     ensures { transport_unit_fault (base_in basis.now) (seen body.now) (seen_transport unit.now) ≡
         fault_if (not result) transport_fault }
 {
@@ -60,7 +60,7 @@ fn may_come(basis: &Ground<'_>, body: &Body, unit: &TransportUnit) -> bool
 }
 
 /// What is out of place, an ER always.
-pub fn transport_fault(basis: &Ground<'_>, body: &Body, unit: &TransportUnit) -> Option<Fault>
+pub fn transport_fault(basis: &Basis<'_>, body: &Body, unit: &TransportUnit) -> Option<Fault>
     ensures { option_map seen_fault result ≡ transport_unit_fault (base_in basis.now)
         (seen body.now) (seen_transport unit.now) }
 {
@@ -126,7 +126,7 @@ fn take_request(body: &mut Body, source: u16, size: Option<u8>) -> Message
 }
 
 /// Takes a CC, which brings the CN.
-fn take_confirm(basis: &Ground<'_>, body: &mut Body) -> Result<Message, NoMemory>
+fn take_confirm(basis: &Basis<'_>, body: &mut Body) -> Result<Message, NoMemory>
     ensures body { OnOk result (seen body.new ≡ at_stage Carrying (seen body.old).link.phase
         (seen body.old)) }
     ensures answer { IfOk result (λ m. seen_message m ≡ connect_message (base_in basis.now)
@@ -139,7 +139,7 @@ fn take_confirm(basis: &Ground<'_>, body: &mut Body) -> Result<Message, NoMemory
 
 /// Takes a transport unit.
 pub fn take_transport(
-    basis: &Ground<'_>,
+    basis: &Basis<'_>,
     body: &mut Body,
     unit: TransportUnit,
 ) -> Result<Brought, NoMemory>

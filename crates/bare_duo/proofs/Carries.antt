@@ -4,6 +4,7 @@ use Rattle.std.proofs.lemmas.List.{append-nil}
 use Rattle.std.specs.Prelude.{Bool}
 use Rattle.osi_base.specs.declared.layer_words.Side.{Side}
 use Rattle.osi_base.specs.declared.layer_words.Side.TheVariants.{A, B}
+use Rattle.dialogue.specs.Carries.{first_octets}
 use Rattle.stub_tables.specs.declared.tables.Tables.{Tables}
 use Rattle.stub_tables.specs.Readable.{IsReadable}
 use Rattle.dialogue.specs.declared.config.Config.{Config}
@@ -27,7 +28,7 @@ use Rattle.end_model.specs.Seen.{Free}
 use Rattle.end_model.specs.Acting.{ReadsBack}
 use Rattle.end_model.specs.BothEnds.{base_at, WritesAll, BareModelled}
 use Rattle.bare_duo.specs.Shows.{shown_all}
-use Rattle.bare_duo.specs.Worlds.{end_at, stepping, first_octets, Runs, rests, calls, carries, breaks}
+use Rattle.bare_duo.specs.Worlds.{end_at, stepping, Runs, rests, calls, carries, breaks}
 use Rattle.run_laws.specs.Showing.{indications_at}
 use Rattle.bare_duo.specs.Passing.{sent_by, taken_by}
 use Rattle.bare_duo.specs.Carrying.{octets_given, whole_within, TakenWhenWhole, ShowsItsMessages, CarriesShow, EachCarryShows}

@@ -2,6 +2,7 @@
 use Rattle.std.proofs.Common.{◌≡◌, ℕ, List, [], ◌∷◌, ◌++◌, length, map, Option, Some, None, refl, sym, ap, subst, ◌∙◌}
 use Rattle.osi_base.specs.declared.layer_words.Side.{Side}
 use Rattle.osi_base.specs.declared.layer_words.Side.TheVariants.{A, B}
+use Rattle.dialogue.specs.Carries.{first_octets}
 use Rattle.stub_tables.specs.declared.tables.Tables.{Tables}
 use Rattle.stub_tables.specs.Readable.{IsReadable}
 use Rattle.dialogue.specs.declared.call.Call.{Call}
@@ -13,7 +14,7 @@ use Rattle.dialogue.specs.declared.event.Entry.{Entry}
 use Rattle.dialogue.specs.declared.event.Entry.TheVariants as entries
 use Rattle.dialogue.specs.declared.event.Carried.{Carried}
 use Rattle.dialogue.specs.declared.event.Transcript.{Transcript}
-use Rattle.two_ends.specs.Conduct.{given_out, first_octets as passed_octets}
+use Rattle.two_ends.specs.Conduct.{given_out}
 use Rattle.two_ends.specs.Events.{AnsweredOne, AnsweredAt, CarriedOver, CarriedFrom, Happened, called as was_called, carried_over, both_broke, AllHappened, nothing_yet, one_more}
 use Rattle.end_rules.specs.Base.{Base}
 use Rattle.end_rules.specs.Invoking.{Reply}
@@ -26,7 +27,7 @@ use Rattle.bare_end.specs.end_wire.Line.{End, end_of, going_on}
 use Rattle.bare_end.specs.end_wire.Feeding.{Feeds}
 use Rattle.bare_end.specs.View.{EndView, base, body, seen, Stepped, StandsFor}
 use Rattle.bare_end.proofs.Histories.{stands_on}
-use Rattle.bare_duo.specs.Worlds.{ends_of, end_at, stepping, first_octets, Runs, rests, calls, carries, breaks}
+use Rattle.bare_duo.specs.Worlds.{ends_of, end_at, stepping, Runs, rests, calls, carries, breaks}
 use Rattle.bare_duo.specs.Laws.{EveryRunKeepsLaws}
 use Rattle.bare_duo.specs.Ran.{StandsAt, Stand, Told, RanFromStart}
 use Rattle.bare_duo.specs.Steps.{conduct, RunsOn}
@@ -73,11 +74,6 @@ other_alone B w steps = left_alone A w steps
 -- what was given out is a step
 gave_so : (e f : EndView) (n : ℕ) → f ≡ given_out conduct n e → Stepped e f (gave n ∷ [])
 gave_so e f n is = record { tables = ap (λ (x : EndView). x.tables) is; config = ap (λ (x : EndView). x.config) is; end = ap seen is }
-
--- the first octets are the same in both words
-same_octets : (most : Option ℕ) (octets : List ℕ) → passed_octets most octets ≡ first_octets most octets
-same_octets None octets = refl
-same_octets (Some most) octets = refl
 
 module _ (setup : BareSetup) (t : Tables) where
   -- an end that made steps stands for its history with them
@@ -151,7 +147,7 @@ module _ (setup : BareSetup) (t : Tables) where
       → CarriedOver conduct conduct most carried from to from1 to1 → CarryRan side w most carried from1 to1
   carry_ran side w most carried from to from1 to1 s r h =
       let octets = first_octets most (end_at (ends_of setup t) side w).line.waiting in
-      let moved : carried.octets ≡ octets = h.octets_are ∙ same_octets most from.waiting ∙ ap (λ (x : End). first_octets most x.line.waiting) (its_end side w from s) in
+      let moved : carried.octets ≡ octets = h.octets_are ∙ ap (λ (x : End). first_octets most x.line.waiting) (its_end side w from s) in
       let give : List Step = gave (length octets) ∷ [] in
       let u = stepping side w give in
       let v = stepping (other side) u h.feeds.steps in

@@ -10,6 +10,7 @@ use Rattle.dialogue.specs.declared.event.Entry.TheVariants as entries
 use Rattle.dialogue.specs.declared.indication.Indication.{Indication}
 use Rattle.end_rules.specs.Base.{Base}
 use Rattle.osi_base.specs.SetPlaces.{pair_of}
+use Rattle.dialogue.specs.Carries.{first_octets}
 use Rattle.end_rules.specs.Messages.{Message}
 use Rattle.end_rules.specs.State.{Body, passes_over}
 use Rattle.end_rules.specs.Faults.{fault_at, shown_at_fault}
@@ -24,7 +25,7 @@ use Rattle.bare_end.specs.end_wire.Line.{End, after, after_all}
 use Rattle.bare_end.specs.end_wire.Feeding.{Reads, Feeds, passes, waits, takes, fails, taking}
 use Rattle.bare_end.specs.end_wire.Laws.{OneContent}
 use Rattle.bare_duo.specs.Laws.{OneRun}
-use Rattle.bare_duo.specs.Worlds.{ends_of, end_at, stepping, first_octets, Runs, rests, calls, carries, breaks}
+use Rattle.bare_duo.specs.Worlds.{ends_of, end_at, stepping, Runs, rests, calls, carries, breaks}
 
 pub record SameReads (steps steps' : List Step) (shown shown' : List Indication) : Type 0 where
   pub steps_are : steps ≡ steps'

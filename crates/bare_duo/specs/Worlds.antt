@@ -1,8 +1,9 @@
 -- Runs of two ends in bare mode: from a world, a schedule makes entries and leads to another world. What an end does is
 -- what its own rules say of its own history; of the other end it sees octets alone.
-use Rattle.std.specs.Prelude.{ℕ, List, [], ◌∷◌, length, take, Option, Some, None}
+use Rattle.std.specs.Prelude.{ℕ, List, [], ◌∷◌, length, Option}
 use Rattle.osi_base.specs.declared.layer_words.Side.{Side}
 use Rattle.osi_base.specs.declared.layer_words.Side.TheVariants.{A, B}
+use Rattle.dialogue.specs.Carries.{first_octets}
 use Rattle.stub_tables.specs.declared.tables.Tables.{Tables}
 use Rattle.dialogue.specs.declared.config.Config.{Config}
 use Rattle.dialogue.specs.declared.bare_setup.BareSetup.{BareSetup}
@@ -34,11 +35,6 @@ end_at ends side w = end_of (base_at ends side) (history_of side w)
 abbrev pub stepping : Side → World → List Step → World
 stepping side w [] = w
 stepping side w (x ∷ xs) = stepping side (record { side = side; step = x } ∷ w) xs
-
--- the first octets: as many as are asked for, or all
-abbrev pub first_octets : Option ℕ → List ℕ → List ℕ
-first_octets None octets = octets
-first_octets (Some most) octets = take most octets
 
 -- From the world, these events make these entries, and lead to that world.
 pub data Runs (ends : Ends) : World → List Event → List Entry → World → Type 0 where

@@ -146,7 +146,7 @@ impl<'t> End<'t> {
         ensures err { OnErr result (self.new ≡ self.old) }
     {
         if operation.is_silent() {
-            self.invocations.pass();
+            self.invocations.count_silent();
             return Ok(());
         }
         self.invocations

@@ -6,8 +6,9 @@ use Rattle.std.proofs.lemmas.Bool.{lt-ltb, le-ltb, ltb-false, ltb-true, eqb-fals
 use Rattle.osi_base.specs.Oid.{is_oid, IsOid}
 use Rattle.asn1_types.specs.Value.{Value, boolean, integer, null, octets, bits, object_id, text, parts, list, chosen, any}
 use Rattle.asn1_types.specs.Writing.{subidentifiers}
+use Rattle.asn1_types.specs.Fits.{has_32_bits}
 use Rattle.ber_spelling.specs.Octets.{AreOctets}
-use Rattle.ber_spelling.specs.Primitives.{sized, push_front, subidentifiers_of, arcs_from, is_arc, judged_arcs, arcs_of}
+use Rattle.ber_spelling.specs.Primitives.{sized, push_front, subidentifiers_of, arcs_from, judged_arcs, arcs_of}
 use Rattle.ber_spelling.specs.Rules.{object_id_rule}
 use Rattle.ber_spelling.specs.Spelling.{AreDigits, number_128, IsBase128, AreSubidentifiers, IsObjectId, ObjectIdIs}
 use Rattle.ber_spelling.proofs.Numbers.{octets_tail}
@@ -149,11 +150,11 @@ sized_subs (n ∷ ns) contents small h =
 
 -- ---- arcs
 
-pub arcs_small : (arcs : List ℕ) → list_all is_arc arcs ≡ true → AllByRecursion (λ n. n < 2 ^ 32) arcs
+pub arcs_small : (arcs : List ℕ) → list_all has_32_bits arcs ≡ true → AllByRecursion (λ n. n < 2 ^ 32) arcs
 arcs_small [] e = tt
-arcs_small (n ∷ ns) e = let t = and_parts (is_arc n) (list_all is_arc ns) e in (ltb-true n (2 ^ 32) t.0, arcs_small ns t.1)
+arcs_small (n ∷ ns) e = let t = and_parts (has_32_bits n) (list_all has_32_bits ns) e in (ltb-true n (2 ^ 32) t.0, arcs_small ns t.1)
 
-pub small_arcs : (arcs : List ℕ) → AllByRecursion (λ n. n < 2 ^ 32) arcs → list_all is_arc arcs ≡ true
+pub small_arcs : (arcs : List ℕ) → AllByRecursion (λ n. n < 2 ^ 32) arcs → list_all has_32_bits arcs ≡ true
 small_arcs [] h = refl
 small_arcs (n ∷ ns) h = rw (lt-ltb n (2 ^ 32) h.0, small_arcs ns h.1) refl
 
@@ -226,14 +227,14 @@ subs_small (root ∷ second ∷ arcs) h s =
 
 -- ---- the rule of contents
 
-judged : (o : Option (List ℕ)) (arcs : List ℕ) → judged_arcs o ≡ Some arcs → (ns : List ℕ) × (o ≡ Some ns) × (arcs_from ns ≡ arcs) × (list_all is_arc arcs ≡ true) × (is_oid arcs ≡ true)
+judged : (o : Option (List ℕ)) (arcs : List ℕ) → judged_arcs o ≡ Some arcs → (ns : List ℕ) × (o ≡ Some ns) × (arcs_from ns ≡ arcs) × (list_all has_32_bits arcs ≡ true) × (is_oid arcs ≡ true)
 judged None arcs e = absurd cc
 judged (Some ns) arcs e =
-    elim (chosen_some (list_all is_arc (arcs_from ns) && is_oid (arcs_from ns)) (Some (arcs_from ns)) None arcs e) [
+    elim (chosen_some (list_all has_32_bits (arcs_from ns) && is_oid (arcs_from ns)) (Some (arcs_from ns)) None arcs e) [
       | inl t ↦
           let same : arcs_from ns ≡ arcs = let s : Some (arcs_from ns) ≡ Some arcs = t.1 in cc in
-          let u = and_parts (list_all is_arc (arcs_from ns)) (is_oid (arcs_from ns)) t.0 in
-          (ns, refl, same, ap (list_all is_arc) (sym same) ∙ u.0, ap is_oid (sym same) ∙ u.1)
+          let u = and_parts (list_all has_32_bits (arcs_from ns)) (is_oid (arcs_from ns)) t.0 in
+          (ns, refl, same, ap (list_all has_32_bits) (sym same) ∙ u.0, ap is_oid (sym same) ∙ u.1)
       | inr t ↦ absurd (let none : None ≡ Some arcs = t.1 in cc)
     ]
 

@@ -3,6 +3,7 @@ use Rattle.std.specs.Prelude.{ℕ, suc, ◌+◌, ◌-◌, ◌*◌, ◌^◌, min,
 use Rattle.std.specs.List.{list_all}
 use Rattle.osi_base.specs.Oid.{is_oid}
 use Rattle.asn1_types.specs.Whole.{number_256}
+use Rattle.asn1_types.specs.Fits.{has_32_bits}
 
 -- ---- INTEGER and ENUMERATED (X.690 8.3, 8.4)
 
@@ -51,12 +52,9 @@ arcs_from (first ∷ more) =
     if nat_lt first 40 then 0 ∷ first ∷ more
     else (if nat_lt first 80 then 1 ∷ (first - 40) ∷ more else 2 ∷ (first - 80) ∷ more)
 
-abbrev pub is_arc : ℕ → Bool
-is_arc n = nat_lt n (2 ^ 32)
-
 abbrev pub judged_arcs : Option (List ℕ) → Option (List ℕ)
 judged_arcs None = None
-judged_arcs (Some ns) = if list_all is_arc (arcs_from ns) && is_oid (arcs_from ns) then Some (arcs_from ns) else None
+judged_arcs (Some ns) = if list_all has_32_bits (arcs_from ns) && is_oid (arcs_from ns) then Some (arcs_from ns) else None
 
 unfoldable pub arcs_of : List ℕ → Option (List ℕ)
 arcs_of octets = judged_arcs (subidentifiers_of 0 false octets)

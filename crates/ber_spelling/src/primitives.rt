@@ -3,7 +3,8 @@
 ghost use Rattle.std.specs.Prelude.{◌≡◌, ◌∷◌, [], ◌+◌, ◌≤◌, ◌<◌, ◌^◌, length, Some, slice_index, IfOk, option_map, false, if◌then◌else◌, None};
 ghost use Rattle.std.specs.List.{list_all};
 ghost use Rattle.asn1_types.specs.Whole.{number_256};
-ghost use Rattle.ber_spelling.specs.Primitives.{is_padded, is_integer, signed_of, integer_of, subidentifiers_of, arcs_from, arcs_of, is_arc};
+ghost use Rattle.asn1_types.specs.Fits.{has_32_bits};
+ghost use Rattle.ber_spelling.specs.Primitives.{is_padded, is_integer, signed_of, integer_of, subidentifiers_of, arcs_from, arcs_of};
 
 use asn1_types::number_256;
 use osi_base::{NoMemory, Oid};
@@ -140,7 +141,7 @@ fn arcs_from(alloc: Global, found: &[u64]) -> Result<Vec<u64>, NoMemory>
 /// The numbers, if each has 32 bits.
 fn narrowed(alloc: Global, numbers: &[u64]) -> Result<Option<Vec<u32>>, NoMemory>
     ensures { IfOk result (λ narrow. option_map (λ v. v.items) narrow
-        ≡ (if list_all is_arc numbers.now then Some numbers.now else None)) }
+        ≡ (if list_all has_32_bits numbers.now then Some numbers.now else None)) }
 {
     let mut narrow: Vec<u32> = Vec::new(alloc);
     for number in numbers {

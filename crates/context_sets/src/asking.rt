@@ -133,14 +133,14 @@ fn is_bad(alloc: Global, asked: &Alteration) -> Result<bool, NoMemory>
 
 /// What an end asks over.
 #[derive(Clone, Copy, Debug)]
-pub(crate) struct Ground<'a> {
+pub(crate) struct AskedOver<'a> {
     pub initiator: bool,
     pub items: &'a [SetItem],
     pub own: &'a [Alteration],
     pub used: &'a [u32],
 }
 
-fn addition_refusal(ground: &Ground<'_>, proposal: &Proposal) -> Option<SetRefusal>
+fn addition_refusal(ground: &AskedOver<'_>, proposal: &Proposal) -> Option<SetRefusal>
     ensures { result ≡ addition_refusal ground.now.initiator ground.now.items.now ground.now.own.now
         proposal.now }
 {
@@ -174,7 +174,7 @@ fn pair_refusal(used: &[u32], id: u32, pair: Option<&Pair>) -> Option<SetRefusal
     }
 }
 
-fn deletion_refusal(ground: &Ground<'_>, id: u32) -> Option<SetRefusal>
+fn deletion_refusal(ground: &AskedOver<'_>, id: u32) -> Option<SetRefusal>
     ensures { result ≡ deletion_refusal ground.now.items.now ground.now.own.now ground.now.used.now
         id }
 {
@@ -185,7 +185,7 @@ fn deletion_refusal(ground: &Ground<'_>, id: u32) -> Option<SetRefusal>
 }
 
 /// The first refusal of an addition.
-fn additions_refusal(ground: &Ground<'_>, added: &[Proposal]) -> Option<SetRefusal>
+fn additions_refusal(ground: &AskedOver<'_>, added: &[Proposal]) -> Option<SetRefusal>
     ensures { result ≡ first_of (addition_refusal ground.now.initiator ground.now.items.now
         ground.now.own.now) added.now }
 {
@@ -198,7 +198,7 @@ fn additions_refusal(ground: &Ground<'_>, added: &[Proposal]) -> Option<SetRefus
 }
 
 /// The first refusal of a deletion.
-fn deletions_refusal(ground: &Ground<'_>, deleted: &[u32]) -> Option<SetRefusal>
+fn deletions_refusal(ground: &AskedOver<'_>, deleted: &[u32]) -> Option<SetRefusal>
     ensures { result ≡ first_of (deletion_refusal ground.now.items.now ground.now.own.now
         ground.now.used.now) deleted.now }
 {
@@ -210,7 +210,7 @@ fn deletions_refusal(ground: &Ground<'_>, deleted: &[u32]) -> Option<SetRefusal>
     None
 }
 
-fn is_over(ground: &Ground<'_>, added: &[Proposal]) -> bool
+fn is_over(ground: &AskedOver<'_>, added: &[Proposal]) -> bool
     requires { length ground.now.items.now + additions ground.now.own.now ≤ most_contexts }
     ensures { result ≡ is_over ground.now.items.now ground.now.own.now added.now }
 {
@@ -221,7 +221,7 @@ fn is_over(ground: &Ground<'_>, added: &[Proposal]) -> bool
 /// Why the end doesn't ask for this alteration.
 pub(crate) fn refusal(
     alloc: Global,
-    ground: &Ground<'_>,
+    ground: &AskedOver<'_>,
     asked: &Alteration,
 ) -> Result<Option<SetRefusal>, NoMemory>
     requires { length ground.now.items.now + additions ground.now.own.now ≤ most_contexts }

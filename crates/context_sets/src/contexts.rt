@@ -13,7 +13,7 @@ ghost use Rattle.context_sets.specs.Results.{mismatch};
 
 use crate::alteration::Alteration;
 use crate::alteration_answers::{added_answers, deletion_answers, peer_fault};
-use crate::asking::{Ground, additions, is_deleted, refusal};
+use crate::asking::{AskedOver, additions, is_deleted, refusal};
 use crate::fault::{SetFault, SetRefusal};
 use crate::results::mismatch;
 use crate::rules::Rules;
@@ -100,7 +100,7 @@ impl Contexts {
             added: add,
             deleted: delete,
         };
-        let ground = Ground {
+        let ground = AskedOver {
             initiator: self.initiator,
             items: &self.items,
             own: &self.own,

@@ -4,6 +4,7 @@ use Rattle.std.specs.Prelude.{Option, Some, option_map, if◌then◌else◌}
 use Rattle.std.proofs.lemmas.List.{append-nil}
 use Rattle.osi_base.specs.declared.layer_words.Layer.TheVariants as layers
 use Rattle.osi_base.specs.declared.layer_words.Side.TheVariants.{A, B}
+use Rattle.dialogue.specs.Carries.{first_octets}
 use Rattle.dialogue.specs.declared.call.Call.{Call}
 use Rattle.dialogue.specs.declared.event.Event.{Event}
 use Rattle.dialogue.specs.declared.event.Entry.{Entry}
@@ -35,7 +36,7 @@ use Rattle.run_laws.specs.Passing.{PairedMessage, sendings, readings}
 use Rattle.run_laws.specs.Laws.{NothingFails}
 use Rattle.association_runs.specs.association_line.Line.{End, after, after_all}
 use Rattle.association_runs.specs.association_line.Feeding.{taking, failing, Reads, is_over, waits, passes, takes, fails as failed, OwnAfter, Makes}
-use Rattle.association_runs.specs.Worlds.{stepping, first_octets, Runs}
+use Rattle.association_runs.specs.Worlds.{stepping, Runs}
 use Rattle.association_runs.specs.Worlds as runs
 use Rattle.association_runs.specs.Laws.{AreEvents}
 use Rattle.association_runs.specs.Octets.{given}

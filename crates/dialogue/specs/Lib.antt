@@ -1,2 +1,3 @@
 pub mod Config
+pub mod Carries
 pub mod Printed

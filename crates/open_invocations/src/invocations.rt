@@ -135,12 +135,12 @@ impl Invocations {
     }
 
     /// Counts an own invocation that is never open.
-    pub fn pass(&mut self) -> i64
+    pub fn count_silent(&mut self) -> i64
         requires { self.old.made < last_invocation }
         ensures id { result ≡ pos (self.old.made + 1) }
         ensures passed { self.new ≡ record self.old { made = self.old.made + 1 } }
     {
-        self.invoker.pass()
+        self.invoker.count_silent()
     }
 
     /// Closes an invocation of the peer.

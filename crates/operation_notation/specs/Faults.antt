@@ -13,7 +13,7 @@ use Rattle.operation_notation.specs.Modules.{ReadsAsModule}
 use Rattle.notation_tokens.specs.declared.faults.NotationFault.{NotationFault}
 use Rattle.notation_tokens.specs.declared.faults.NotationFault.TheVariants as faults
 use Rattle.notation_tokens.specs.declared.faults.NotationKind.{NotationKind}
-use Rattle.notation_tokens.specs.declared.faults.NotationKind.TheVariants.{TextTooLong, UnexpectedToken, Unsupported}
+use Rattle.notation_tokens.specs.declared.faults.NotationKind.TheVariants.{UnexpectedToken, Unsupported}
 use Rattle.operation_notation.specs.declared.module.ModuleText.{ModuleText}
 
 -- a token that a text may hold, or a mark

@@ -18,7 +18,7 @@ most_negated = 9223372036854775808
 
 -- the first number that is no place: a slice has fewer octets
 abbrev pub past_places : ℕ
-past_places = 2 ^ 63
+past_places = 9223372036854775808
 
 -- the last value of a count, which has 64 bits
 abbrev pub last_count : ℕ
@@ -135,7 +135,7 @@ most_short_data = 512
 abbrev pub most_connect_data : ℕ
 most_connect_data = 10240
 
--- the last number of an activity: six digits, as X.225 is used here
+-- the last number of an activity, and of a mark in a session unit: six digits, as X.225 is used here
 abbrev pub last_serial : ℕ
 last_serial = 999999
 

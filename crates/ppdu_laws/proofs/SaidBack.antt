@@ -17,16 +17,17 @@ use Rattle.osi_base.specs.declared.presentation_word.PresentationWord as units
 use Rattle.osi_base.specs.declared.presentation_word.PresentationWord.TheVariants as unit
 use Rattle.asn1_types.specs.Value.{Value, integer, octets, object_id, parts}
 use Rattle.asn1_types.specs.ValueView.{parts_of, values_of}
+use Rattle.asn1_types.specs.Fits.{has_32_bits}
 use Rattle.fixed_tables.specs.Values.{nth_part, natural_in, small_or, octet_of, maybe_octets, maybe_arcs, maybe_bits, values_list, items_in, bits_value}
 use Rattle.fixed_tables.specs.Pdvs.{content_value, content_in, pdv_value, pdv_in}
 use Rattle.presentation_pdus.specs.Items.{number_value, number_in, octet_in, name_in, list_value, some_list, definition_value, definition_in, answer_value, answer_in, restored_value, restored_in}
 use Rattle.presentation_pdus.specs.Words.{integer_in, contexts_in, unit_in, connect_in, accept_in, reject_in}
-use Rattle.ppdu_laws.specs.Written.{is_short, is_small, all_of, definition_sized, answer_sized, restored_sized, pdv_sized, is_written_whole}
+use Rattle.ppdu_laws.specs.Written.{is_small, all_of, definition_sized, answer_sized, restored_sized, pdv_sized, is_written_whole}
 use Rattle.ppdu_laws.proofs.BackValues.{connect_read, accept_read, reject_read, read_value}
 
 -- ---- numbers
 
-short_is : (n : ℕ) → is_short n ≡ true → natural_in (pos n) ≡ n
+short_is : (n : ℕ) → has_32_bits n ≡ true → natural_in (pos n) ≡ n
 short_is n h = rw h refl
 
 small_is : (n : ℕ) → is_small n ≡ true → octet_of (pos n) ≡ n
@@ -141,8 +142,8 @@ answers_back xs s = some_back answer_value answer_in answer_sized answer_back xs
 users_back : (xs : List pdvs.Pdv) → list_all pdv_sized xs ≡ true → map pdv_in (items_in (some_list pdv_value xs)) ≡ xs
 users_back xs s = some_back pdv_value pdv_in pdv_sized pdv_back xs s
 
-ids_back : (xs : List ℕ) → list_all is_short xs ≡ true → map number_in (items_in (some_list number_value xs)) ≡ xs
-ids_back xs s = some_back number_value number_in is_short short_is xs s
+ids_back : (xs : List ℕ) → list_all has_32_bits xs ≡ true → map number_in (items_in (some_list number_value xs)) ≡ xs
+ids_back xs s = some_back number_value number_in has_32_bits short_is xs s
 
 deletions_back : (xs : List ℕ) → list_all is_small xs ≡ true → map octet_in (items_in (some_list number_value xs)) ≡ xs
 deletions_back xs s = some_back number_value octet_in is_small small_is xs s
@@ -195,7 +196,7 @@ said_back (unit.Connect c) w = ap (λ (x : connects.PresentationConnect). unit.C
 said_back (unit.Accept a) w = ap (λ (x : accepts.PresentationAccept). unit.Accept x) (accept_back a w)
 said_back (unit.Reject r) w = ap (λ (x : rejects.PresentationReject). unit.Reject x) (reject_back r w)
 said_back (unit.Alter add delete) w =
-    let p = and_parts (list_all definition_sized add) (list_all is_short delete) w in
+    let p = and_parts (list_all definition_sized add) (list_all has_32_bits delete) w in
     let os : List (Option Value) = some_list definition_value add ∷ some_list number_value delete ∷ None ∷ [] in
     λ i. unit.Alter ((ap (λ (v : Option Value). map definition_in (items_in v)) (nth_of os 0) ∙ definitions_back add p.0) i) ((ap (λ (v : Option Value). map number_in (items_in v)) (nth_of os 1) ∙ ids_back delete p.1) i)
 said_back (unit.AlterAck answers) w =

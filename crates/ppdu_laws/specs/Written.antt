@@ -8,7 +8,7 @@ use Rattle.osi_base.specs.declared.presentation_word.Pdv as pdvs
 use Rattle.osi_base.specs.declared.presentation_word.PresentationWord as units
 use Rattle.osi_base.specs.declared.presentation_word.PresentationWord.TheVariants as unit
 use Rattle.osi_base.specs.Limits.{most_spelled}
-use Rattle.asn1_types.specs.Fits.{has_form}
+use Rattle.asn1_types.specs.Fits.{has_form, has_32_bits}
 use Rattle.presentation_pdus.specs.declared.place.PpduPlace.{PpduPlace}
 use Rattle.presentation_pdus.specs.declared.place.PpduPlace.TheVariants as place
 use Rattle.presentation_pdus.specs.Rows.{ppdu_rows}
@@ -31,10 +31,6 @@ carries place.Rs (unit.Resynchronize restored) = true
 carries place.Ra (unit.ResynchronizeAck restored) = true
 carries carrier word = false
 
--- numbers have the sizes of their types
-abbrev pub is_short : ℕ → Bool
-is_short n = nat_lt n (2 ^ 32)
-
 abbrev pub is_small : ℕ → Bool
 is_small n = nat_lt n 256
 
@@ -43,23 +39,23 @@ all_of f None = true
 all_of f (Some x) = f x
 
 abbrev pub definition_sized : proposals.Proposal → Bool
-definition_sized p = is_short p.id
+definition_sized p = has_32_bits p.id
 
 abbrev pub answer_sized : answers.AddAnswer → Bool
 answer_sized a = is_small a.result && all_of is_small a.reason
 
 abbrev pub restored_sized : restored.RestoredItem → Bool
-restored_sized r = is_short r.id
+restored_sized r = has_32_bits r.id
 
 abbrev pub pdv_sized : pdvs.Pdv → Bool
-pdv_sized p = is_short p.id
+pdv_sized p = has_32_bits p.id
 
 -- numbers have the sizes of their types, and a default context, which isn't written, lacks; data has a value
 abbrev pub is_written_whole : units.PresentationWord → Bool
 is_written_whole (unit.Connect c) = list_all definition_sized c.definitions && is_none c.default_context && list_all pdv_sized c.user
 is_written_whole (unit.Accept a) = list_all answer_sized a.results && list_all pdv_sized a.user
 is_written_whole (unit.Reject r) = list_all answer_sized r.results && all_of is_small r.default_result && list_all pdv_sized r.user
-is_written_whole (unit.Alter add delete) = list_all definition_sized add && list_all is_short delete
+is_written_whole (unit.Alter add delete) = list_all definition_sized add && list_all has_32_bits delete
 is_written_whole (unit.AlterAck answers) = list_all answer_sized answers.added && list_all is_small answers.deleted
 is_written_whole (unit.Resynchronize restored) = all_of (list_all restored_sized) restored
 is_written_whole (unit.ResynchronizeAck restored) = all_of (list_all restored_sized) restored

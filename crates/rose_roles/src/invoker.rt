@@ -118,7 +118,7 @@ impl Invoker {
     }
 
     /// Counts an invocation that is never open, and answers its identifier.
-    pub fn pass(&mut self) -> i64
+    pub fn count_silent(&mut self) -> i64
         requires { self.old.made < last_invocation }
         ensures id { result ≡ pos (self.old.made + 1) }
         ensures passed { self.new ≡ record self.old { made = self.old.made + 1 } }

@@ -191,7 +191,7 @@ take-take (suc i) zero xs h = absurd (omega arith)
 take-take (suc i) (suc j) [] h = refl
 take-take (suc i) (suc j) (x ∷ xs) h = ap (λ ys. x ∷ ys) (take-take i j xs (omega arith))
 
-resumed-so : (number c : ℕ) (r : Receiving) → r.number ≡ number → 1 ≤ number → c ≤ highest r → received.resumed number c r ≡ Ok (received.back_to c r)
+resumed-so : (number c : ℕ) (r : Receiving) → r.number ≡ number → 1 ≤ number → c ≤ highest r → received.resumption_taken number c r ≡ Ok (received.back_to c r)
 resumed-so number c r same some within =
     rw (eq-eqb number r.number (sym same), le-leb 1 number some, le-leb c (highest r) within) refl
 

@@ -31,11 +31,11 @@ record_behind (Err fault) = Err fault
 
 -- what a word that comes makes of the receiver's record
 abbrev pub came : Word → Receiving → Result Receiving RtseFault
-came (Start number) r = received.started number r
+came (Start number) r = received.start_taken number r
 came (Part octets) r = received.chunked octets r
 came (Point n) r = received.marked n r
 came (Finish n) r = record_behind (received.ended n r)
-came (Resume number n) r = received.resumed number n r
+came (Resume number n) r = received.resumption_taken number n r
 
 -- A mark that comes is confirmed.
 abbrev pub confirmations : Word → List ℕ

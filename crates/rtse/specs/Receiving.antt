@@ -34,8 +34,8 @@ abbrev pub back_to : ℕ → Receiving → Receiving
 back_to n r = record r { octets = take (octets_at r n) r.octets; marks = take n r.marks }
 
 -- An activity starts with the number behind the last one's.
-abbrev pub started : ℕ → Receiving → Result Receiving RtseFault
-started number r =
+abbrev pub start_taken : ℕ → Receiving → Result Receiving RtseFault
+start_taken number r =
     if number == r.number + 1 then Ok (fresh number) else Err (WrongNumber r.number number)
 
 -- The next octets come.
@@ -52,8 +52,8 @@ marked n r =
     Err (WrongNumber (highest r) n)
 
 -- The last activity is resumed at one of its marks or from nothing, or the next one is resumed from nothing, of which no start came.
-abbrev pub resumed : ℕ → ℕ → Receiving → Result Receiving RtseFault
-resumed number n r =
+abbrev pub resumption_taken : ℕ → ℕ → Receiving → Result Receiving RtseFault
+resumption_taken number n r =
     if (number == r.number) && nat_lt 0 number
     then (if nat_le n (highest r) then Ok (back_to n r) else Err (WrongNumber (highest r) n))
     else if (number == r.number + 1) && (n == 0) then Ok (fresh number) else

@@ -1,7 +1,7 @@
 //! The end that takes transfers.
 
 ghost use Rattle.std.specs.Prelude.{◌≡◌, ◌≢◌, ◌+◌, ◌<◌, ◌≤◌, ◌==◌, Ok, Err, IfOk, OnOk, OnErr, IfErr};
-ghost use Rattle.rtse.specs.Receiving.{nothing, started, chunked, marked, resumed, ended, dropped, IsRefused, fresh, highest, octets_at, back_to};
+ghost use Rattle.rtse.specs.Receiving.{nothing, start_taken, chunked, marked, resumption_taken, ended, dropped, IsRefused, fresh, highest, octets_at, back_to};
 
 use crate::fault::RtseFault;
 use osi_base::{NoMemory, Octets};
@@ -68,9 +68,9 @@ impl Incoming {
 
     /// An activity of this number starts. Of another number than the one behind the last
     /// activity's it is `WrongNumber` with the last one's, and nothing has changed.
-    pub fn started(&mut self, number: u32) -> Result<(), RtseFault>
-        ensures ok { OnOk result (started number self.old ≡ Ok self.new) }
-        ensures err { IfErr result (λ fault. started number self.old ≡ Err fault) }
+    pub fn start_taken(&mut self, number: u32) -> Result<(), RtseFault>
+        ensures ok { OnOk result (start_taken number self.old ≡ Ok self.new) }
+        ensures err { IfErr result (λ fault. start_taken number self.old ≡ Err fault) }
         ensures stays { OnErr result (self.new ≡ self.old) }
     {
         if !self.is_behind(number) {
@@ -115,9 +115,9 @@ impl Incoming {
     /// last one with one of its marks, or the one behind it from nothing; else it is `WrongNumber`
     /// with the two activity numbers or, where these are equal, with the highest mark and n, and
     /// nothing has changed.
-    pub fn resumed(&mut self, number: u32, n: u32) -> Result<(), RtseFault>
-        ensures ok { OnOk result (resumed number n self.old ≡ Ok self.new) }
-        ensures err { IfErr result (λ fault. resumed number n self.old ≡ Err fault) }
+    pub fn resumption_taken(&mut self, number: u32, n: u32) -> Result<(), RtseFault>
+        ensures ok { OnOk result (resumption_taken number n self.old ≡ Ok self.new) }
+        ensures err { IfErr result (λ fault. resumption_taken number n self.old ≡ Err fault) }
         ensures stays { OnErr result (self.new ≡ self.old) }
     {
         if number == self.number && number > 0 {

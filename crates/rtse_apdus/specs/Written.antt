@@ -1,11 +1,11 @@
 -- What may be written of reliable transfer, and as what octets.
-use Rattle.std.specs.Prelude.{◌≡◌, ◌&&◌, ℕ, Bool, true, List, length, ◌≤◌, nat_lt, nat_le}
+use Rattle.std.specs.Prelude.{◌≡◌, ◌&&◌, ℕ, Bool, true, List, length, ◌≤◌, nat_lt, nat_le, ◌+◌}
 use Rattle.std.specs.List.{list_all}
 use Rattle.osi_base.specs.declared.rtse_word.ConnectionData as connections
 use Rattle.osi_base.specs.declared.rtse_word.ConnectionData.TheVariants as connection
 use Rattle.osi_base.specs.declared.rtse_word.Rtse as apdus
 use Rattle.osi_base.specs.declared.rtse_word.Rtse.TheVariants as apdu
-use Rattle.osi_base.specs.Limits.{most_32, most_spelled}
+use Rattle.osi_base.specs.Limits.{most_32, most_spelled, most_checkpoint, most_window}
 use Rattle.asn1_types.specs.Fits.{is_number, octets_fit}
 use Rattle.asn1_types.specs.Value.{octets}
 use Rattle.asn1_types.specs.Whole.{is_whole}
@@ -24,8 +24,8 @@ can_carry (connection.Recover reference common) = are_octets reference && are_oc
 
 -- each number is one that is read, and what is carried for the user is one whole value
 abbrev pub can_write : apdus.Rtse → Bool
-can_write (apdu.OpenRequest checkpoint window mode data_) = nat_lt checkpoint 256 && nat_lt window 256 && is_number mode && can_carry data_
-can_write (apdu.OpenAccept checkpoint window data_) = nat_lt checkpoint 256 && nat_lt window 256 && can_carry data_
+can_write (apdu.OpenRequest checkpoint window mode data_) = nat_lt checkpoint (most_checkpoint + 1) && nat_lt window (most_window + 1) && is_number mode && can_carry data_
+can_write (apdu.OpenAccept checkpoint window data_) = nat_lt checkpoint (most_checkpoint + 1) && nat_lt window (most_window + 1) && can_carry data_
 can_write (apdu.OpenReject reason) = is_number reason
 can_write (apdu.Abort reason) = is_number reason
 can_write (apdu.TurnPlease priority) = nat_le priority most_32

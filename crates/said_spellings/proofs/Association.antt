@@ -15,7 +15,7 @@ use Rattle.osi_base.specs.declared.presentation_word.PdvContent.TheVariants as f
 use Rattle.osi_base.specs.declared.presentation_word.PresentationWord.{PresentationWord}
 use Rattle.osi_base.specs.declared.presentation_word.PresentationWord.TheVariants as ppdus
 use Rattle.osi_base.specs.declared.session_word.SessionWord.TheVariants as units
-use Rattle.asn1_types.specs.Fits.{has_form}
+use Rattle.asn1_types.specs.Fits.{has_form, has_32_bits}
 use Rattle.asn1_types.specs.Whole.{is_whole}
 use Rattle.asn1_types.specs.Whole as whole
 use Rattle.asn1_types.specs.Writing.{written, writes}
@@ -24,7 +24,7 @@ use Rattle.acse.specs.Written.{written_acse}
 use Rattle.end_config.specs.presentation_pdus.declared.place.PpduPlace.TheVariants as place
 use Rattle.end_config.specs.presentation_pdus.Rows.{ppdu_rows, connect_row}
 use Rattle.end_config.specs.presentation_pdus.Words.{value_of, written_ppdu}
-use Rattle.association_worlds.specs.ppdu_laws.Written.{definition_sized, answer_sized, is_short}
+use Rattle.association_worlds.specs.ppdu_laws.Written.{definition_sized, answer_sized}
 use Rattle.spdu_codec.specs.Written.{connect_data}
 use Rattle.tpkt.specs.Wire.{parameter}
 use Rattle.tpkt.specs.Written.{selector_parameter, connection_fields, control_packet}
@@ -296,7 +296,7 @@ accept_unit called results k os =
 
 pub accept-in : (called : List ℕ) (results : List AddAnswer) (k : ℕ) (os : List ℕ) → IsContext k → AreOctets called → length called ≤ 16 → AreResults results → length results ≤ 64 → IsContent (forms.SingleAsn1Type os) → length os ≤ 1000 → InPlace place.Ac (accept_unit called results k os) 50000
 accept-in called results k os i o short r few c size =
-    stands-in place.Ac (accept_unit called results k os) 50000 (omega arith) refl (both (list_all answer_sized results) (is_short k && true) (results-whole results r) (pdv-whole k (forms.SingleAsn1Type os) i))
+    stands-in place.Ac (accept_unit called results k os) 50000 (omega arith) refl (both (list_all answer_sized results) (has_32_bits k && true) (results-whole results r) (pdv-whole k (forms.SingleAsn1Type os) i))
     (accept-stands called results (requirement_bits true) k (forms.SingleAsn1Type os) o short (answering results r) few bits-true i c (omega arith))
 
 pub each-named : (ps : List Proposal) → AreIdentifiers ps → AreNamed ps → Each Named ps
@@ -307,7 +307,7 @@ pub identified-whole : (ps : List Proposal) → AreIdentifiers ps → list_all d
 identified-whole [] i = refl
 identified-whole (p ∷ ps) i = both (definition_sized p) (list_all definition_sized ps) (short p.id i.0.high) (identified-whole ps i.1)
   where
-    short : (k : ℕ) → k ≤ 32767 → is_short k ≡ true
+    short : (k : ℕ) → k ≤ 32767 → has_32_bits k ≡ true
     short k h = grind (arith, nat_tests)
 
 -- user data of a CN in its one parameter, or in the other

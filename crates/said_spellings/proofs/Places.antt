@@ -10,11 +10,12 @@ use Rattle.osi_base.specs.declared.layer_words.RestoredItem.{RestoredItem}
 use Rattle.osi_base.specs.declared.presentation_word.PdvContent.{PdvContent}
 use Rattle.osi_base.specs.declared.presentation_word.PresentationWord.{PresentationWord}
 use Rattle.osi_base.specs.declared.presentation_word.PresentationWord.TheVariants as unit
+use Rattle.asn1_types.specs.Fits.{has_32_bits}
 use Rattle.end_config.specs.presentation_pdus.declared.place.PpduPlace.{PpduPlace}
 use Rattle.end_config.specs.presentation_pdus.declared.place.PpduPlace.TheVariants as place
 use Rattle.end_config.specs.presentation_pdus.Rows.{ppdu_rows}
 use Rattle.end_config.specs.presentation_pdus.Words.{row_of, value_of, written_ppdu}
-use Rattle.association_worlds.specs.ppdu_laws.Written.{carries, is_written_whole, is_short, is_small, all_of, definition_sized, answer_sized, restored_sized, IsWritable}
+use Rattle.association_worlds.specs.ppdu_laws.Written.{carries, is_written_whole, is_small, all_of, definition_sized, answer_sized, restored_sized, IsWritable}
 use Rattle.der_octets.specs.Laws.{AreOctets}
 use Rattle.der_octets.proofs.Octets.{der-octets}
 use Rattle.said_words.specs.Fields.{IsContext, AreContexts, AreFew, IsReason, IsResult, AreResults, AreVerdicts, AreRestored, IsAlteration, AreAnswers}
@@ -26,7 +27,7 @@ both false b e f = cc
 
 -- ---- numbers have the sizes of their types
 
-short-so : (k : ℕ) → k ≤ 32767 → is_short k ≡ true
+short-so : (k : ℕ) → k ≤ 32767 → has_32_bits k ≡ true
 short-so k h = grind (arith, nat_tests)
 
 small-so : (k : ℕ) → k ≤ 3 → is_small k ≡ true
@@ -36,9 +37,9 @@ pub definitions-whole : (add : List Proposal) → AreFew add → list_all defini
 definitions-whole [] h = refl
 definitions-whole (p ∷ ps) h = both (definition_sized p) (list_all definition_sized ps) (short-so p.id h.0.1) (definitions-whole ps h.2)
 
-deletions-whole : (ks : List ℕ) → AreContexts ks → list_all is_short ks ≡ true
+deletions-whole : (ks : List ℕ) → AreContexts ks → list_all has_32_bits ks ≡ true
 deletions-whole [] h = refl
-deletions-whole (k ∷ ks) h = both (is_short k) (list_all is_short ks) (short-so k h.0.1) (deletions-whole ks h.1)
+deletions-whole (k ∷ ks) h = both (has_32_bits k) (list_all has_32_bits ks) (short-so k h.0.1) (deletions-whole ks h.1)
 
 reason-whole : (r : Option ℕ) → IsReason r → all_of is_small r ≡ true
 reason-whole None h = refl
@@ -59,8 +60,8 @@ restored-whole : (xs : List RestoredItem) → AreRestored xs → list_all restor
 restored-whole [] h = refl
 restored-whole (x ∷ xs) h = both (restored_sized x) (list_all restored_sized xs) (short-so x.id h.0.1) (restored-whole xs h.2)
 
-pub pdv-whole : (id : ℕ) (content : PdvContent) → IsContext id → (is_short id && true) ≡ true
-pdv-whole id content h = both (is_short id) true (short-so id h.1) refl
+pub pdv-whole : (id : ℕ) (content : PdvContent) → IsContext id → (has_32_bits id && true) ≡ true
+pdv-whole id content h = both (has_32_bits id) true (short-so id h.1) refl
 
 -- ---- a unit in its place
 
@@ -80,7 +81,7 @@ stands-in carrier word most m c w s =
 
 pub alter-in : (add : List Proposal) (delete : List ℕ) → IsAlteration add delete → InPlace place.Td (unit.Alter add delete) 131600
 alter-in add delete i =
-    stands-in place.Td (unit.Alter add delete) 131600 (omega arith) refl (both (list_all definition_sized add) (list_all is_short delete) (definitions-whole add i.added) (deletions-whole delete i.deleted))
+    stands-in place.Td (unit.Alter add delete) 131600 (omega arith) refl (both (list_all definition_sized add) (list_all has_32_bits delete) (definitions-whole add i.added) (deletions-whole delete i.deleted))
     (alter-stands add delete (defined add i.named i.added) i.deleted i.count i.deletions)
 
 pub ack-in : (answers : Answers) → AreAnswers answers → InPlace place.Td (unit.AlterAck answers) 131600

@@ -32,7 +32,7 @@ use Rattle.end_model.specs.OpenInvocations.{IsProper}
 use Rattle.end_model.specs.Acting.{ReadsBack, IsSaidBack}
 use Rattle.end_model.proofs.Fitting.{same-itself}
 use Rattle.association_reading.specs.association_wire.Values.{in_form}
-use Rattle.association_reading.specs.declared.layer_of_values.Carriage.TheVariants as carriage
+use Rattle.association_reading.specs.declared.layer_of_values.LayerOfValues.TheVariants as carriage
 use Rattle.association_reading.specs.Places.{PdvPlaces, places_of, spot_at}
 use Rattle.association_reading.specs.Contexts.{is_form, is_carried, pdv_fault, invalid_at}
 use Rattle.association_reading.specs.Values.{content_under}

@@ -1,5 +1,5 @@
 -- How an end acts in a run of two ends.
-use Rattle.std.specs.Prelude.{◌≡◌, ℤ, ℕ, List, take, drop, Option, Some, None, Result}
+use Rattle.std.specs.Prelude.{◌≡◌, ℤ, ℕ, List, drop, Option, Result}
 use Rattle.dialogue.specs.declared.call.Call.{Call}
 use Rattle.dialogue.specs.declared.call.CallRefusal.{CallRefusal}
 use Rattle.dialogue.specs.declared.indication.Indication.{Indication}
@@ -23,8 +23,3 @@ IsBut acts e other = e ≡ acts.with_waiting (acts.waiting e) other
 -- so many octets less wait
 abbrev pub given_out : {E : Type 0} → Conduct E → ℕ → E → E
 given_out acts n e = acts.with_waiting (drop n (acts.waiting e)) e
-
--- the first octets: as many as are asked for, or all
-abbrev pub first_octets : Option ℕ → List ℕ → List ℕ
-first_octets None octets = octets
-first_octets (Some most) octets = take most octets

@@ -2,13 +2,14 @@
 use Rattle.std.specs.Prelude.{◌≡◌, ℕ, List, [], ◌∷◌, ◌++◌, length, Option}
 use Rattle.osi_base.specs.declared.layer_words.Side.{Side}
 use Rattle.osi_base.specs.declared.layer_words.Side.TheVariants.{A, B}
+use Rattle.dialogue.specs.Carries.{first_octets}
 use Rattle.dialogue.specs.declared.call.Call.{Call}
 use Rattle.dialogue.specs.declared.event.Event.{Event}
 use Rattle.dialogue.specs.declared.event.Event.TheVariants as events
 use Rattle.dialogue.specs.declared.event.Entry.{Entry}
 use Rattle.dialogue.specs.declared.event.Entry.TheVariants as entries
 use Rattle.dialogue.specs.declared.event.Carried.{Carried}
-use Rattle.two_ends.specs.Conduct.{CallAnswer, Conduct, given_out, first_octets}
+use Rattle.two_ends.specs.Conduct.{CallAnswer, Conduct, given_out}
 
 -- One end answered a call, and the other is as it was.
 pub record AnsweredOne {X Y : Type 0} (acts : Conduct X) (call : Call) (answer : CallAnswer) (end : X) (rest : Y) (end_after : X) (rest_after : Y) : Type 0 where

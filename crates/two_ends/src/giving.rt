@@ -2,7 +2,8 @@
 
 ghost use Rattle.std.specs.Prelude.{◌≡◌, ◌++◌, min, length, take, drop, IfOk, OnOk};
 ghost use Rattle.osi_base.specs.Limits.{most_given};
-ghost use Rattle.two_ends.specs.Conduct.{IsBut, given_out, first_octets};
+ghost use Rattle.dialogue.specs.Carries.{first_octets};
+ghost use Rattle.two_ends.specs.Conduct.{IsBut, given_out};
 
 use crate::run_end::RunEnd;
 use osi_base::{NoMemory, Octets};

@@ -1,4 +1,4 @@
-use Rattle.association_intake.specs.association_reading.declared.layer_of_values.Carriage.TheVariants as carriage
+use Rattle.association_intake.specs.association_reading.declared.layer_of_values.LayerOfValues.TheVariants as carriage
 use Rattle.association_intake.specs.association_reading.Places.{pdv_places}
 use Rattle.association_intake.specs.association_reading.Values.{values_under}
 use Rattle.association_intake.specs.association_reading.Association.{is_aarq}

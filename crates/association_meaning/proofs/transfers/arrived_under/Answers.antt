@@ -1,6 +1,6 @@
 use Rattle.std.specs.Option.{option_copied}
 use Rattle.osi_base.specs.PdvContent.{octets_of}
-use Rattle.association_intake.specs.association_reading.declared.layer_of_values.Carriage.TheVariants as carriage
+use Rattle.association_intake.specs.association_reading.declared.layer_of_values.LayerOfValues.TheVariants as carriage
 use Rattle.association_intake.specs.association_reading.Places.{places_of, spot_at}
 use Rattle.association_intake.specs.association_reading.Values.{content_under}
 use Rattle.association_intake.specs.association_reading.Transfers.{arrived_under}

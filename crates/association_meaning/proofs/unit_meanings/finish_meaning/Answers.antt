@@ -1,7 +1,7 @@
 use Rattle.std.proofs.Common.{List}
 use Rattle.presentation_pdus.specs.declared.place.PpduPlace.TheVariants as place
 use Rattle.end_rules.specs.Messages.{DataValue, OfAssociation, Finish}
-use Rattle.association_intake.specs.association_reading.declared.layer_of_values.Carriage.TheVariants as carriage
+use Rattle.association_intake.specs.association_reading.declared.layer_of_values.LayerOfValues.TheVariants as carriage
 use Rattle.association_words.specs.Seen.{seen_word}
 use Rattle.association_meaning.specs.Words.{values_with, finished}
 use Rattle.association_meaning.proofs.Fails.{halts, values_fail}
