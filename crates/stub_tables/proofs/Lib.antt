@@ -1,4 +1,3 @@
 pub mod CodePlaces
 pub mod OwnCodes
 pub mod Readings
-pub mod WrittenApdus

@@ -1,15 +1,11 @@
 -- The heads of APDUs of remote operations as rows of types (X.880 9, X.882 9). What an operation or
 -- an error carries stands in them as one whole value of any type.
-use Rattle.std.specs.Prelude.{ℕ, ℤ, pos, negsuc, true, false, List, [], ◌∷◌, Option, Some, None, codes}
+use Rattle.std.specs.Prelude.{ℕ, pos, negsuc, true, false, List, [], ◌∷◌, None, codes}
 use Rattle.osi_base.specs.Limits.{last_invocation, most_signed}
 use Rattle.asn1_types.specs.declared.row.Part.{Part}
 use Rattle.asn1_types.specs.declared.row.Class.TheVariants.{Context}
 use Rattle.asn1_types.specs.declared.row.TypeRow.{TypeRow}
 use Rattle.asn1_types.specs.declared.row.TypeRow.TheVariants.{Integer, ObjectId, Sequence, Choice, Tagged, Any}
-use Rattle.asn1_types.specs.Value.{Value, integer, object_id, parts, chosen, any, MaybeValues, no_parts, absent, present}
-use Rattle.stub_tables.specs.declared.operation.Code.{Code}
-use Rattle.stub_tables.specs.declared.operation.Code.TheVariants.{Local, Global}
-use Rattle.stub_tables.specs.declared.apdu.Returned.{Returned}
 
 abbrev pub part : List ℕ → ℕ → Part
 part name row = record { name = name; inner = record { 0 = row }; optional = false; default = None }
@@ -17,12 +13,9 @@ part name row = record { name = name; inner = record { 0 = row }; optional = fal
 abbrev pub optional_part : List ℕ → ℕ → Part
 optional_part name row = record { name = name; inner = record { 0 = row }; optional = true; default = None }
 
--- the row of one whole value of any type, and the row of all APDUs
+-- the row of one whole value of any type
 abbrev pub any_row : ℕ
 any_row = 5
-
-abbrev pub apdu_row : ℕ
-apdu_row = 13
 
 abbrev pub head_rows : List TypeRow
 head_rows =
@@ -49,31 +42,3 @@ head_rows =
     -- 13: any of them
     ∷ Choice (part (codes "invoke") 7 ∷ part (codes "returnResult") 10 ∷ part (codes "returnError") 12 ∷ [])
     ∷ []
-
--- ---- their values
-
-abbrev pub code_value : Code → Value
-code_value (Local number) = chosen 0 (integer number)
-code_value (Global arcs) = chosen 1 (object_id arcs)
-
-abbrev pub linked_part : Option ℤ → MaybeValues → MaybeValues
-linked_part None more = absent more
-linked_part (Some id) more = present (integer id) more
-
-abbrev pub any_part : Option (List ℕ) → MaybeValues
-any_part None = absent no_parts
-any_part (Some octets) = present (any octets) no_parts
-
-abbrev pub invoke_value : ℤ → Option ℤ → Code → Option (List ℕ) → Value
-invoke_value id linked code argument = chosen 0 (parts (present (integer id) (linked_part linked (present (code_value code) (any_part argument)))))
-
--- what is returned, whose value these octets spell
-abbrev pub returned_part : Option Returned → List ℕ → MaybeValues
-returned_part None octets = absent no_parts
-returned_part (Some r) octets = present (parts (present (code_value r.code) (present (any octets) no_parts))) no_parts
-
-abbrev pub result_value : ℤ → Option Returned → List ℕ → Value
-result_value id returned octets = chosen 1 (parts (present (integer id) (returned_part returned octets)))
-
-abbrev pub error_value : ℤ → Code → Option (List ℕ) → Value
-error_value id code parameter = chosen 2 (parts (present (integer id) (present (code_value code) (any_part parameter))))

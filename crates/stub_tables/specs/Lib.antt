@@ -5,4 +5,3 @@ pub mod Uses
 pub mod Heads
 pub mod Apdus
 pub mod Readable
-pub mod Laws

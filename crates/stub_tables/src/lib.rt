@@ -4,7 +4,6 @@
 
 mod apdu;
 mod code_places;
-mod laws;
 mod lookup;
 mod operation;
 mod readable;
@@ -12,7 +11,6 @@ mod rows;
 mod tables;
 
 pub use apdu::{Apdu, Returned};
-pub use laws::{one_apdu, written_apdu_is_spelled};
 pub use operation::{Code, ErrorRow, Operation, Use};
 pub use rows::{ErrorRows, Operations};
 pub use tables::Tables;
