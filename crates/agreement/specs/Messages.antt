@@ -75,8 +75,8 @@ pub data Message : Type 0 where
   Accept : (set : ContextSet) → Message  -- AC (X.225 8.3.4), the accepted contexts
   Refuse : Message  -- RF (X.225 8.3.5)
   Data : (value : Value) → Message  -- DT (X.225 8.3.11)
-  Alter : (items : List Item) → Message  -- alter context (X.226 8.4.2)
-  AlterAnswer : (results : List Result) → Message  -- its acknowledgement (X.226 8.4.3)
+  Alter : (items : List Item) → Message  -- alter context (X.226 8.2)
+  AlterAnswer : (results : List Result) → Message  -- its acknowledgement (X.226 8.2)
   Mark : (number : ℕ) → Message  -- MIP, a minor synchronization point (X.225 8.3.20)
   MarkAnswer : (number : ℕ) → Message  -- MIA (X.225 8.3.21)
   Restart : (number : ℕ) → (list : List Listed) → Message  -- RS (X.225 8.3.24)

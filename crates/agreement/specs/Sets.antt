@@ -56,13 +56,13 @@ remove k [] = []
 remove k (c ∷ cs) = if nat_eq c.identifier k then remove k cs else c ∷ remove k cs
 
 -- one item of an alteration: a context to be added, with the pairs that are offered for it, or one
--- to be deleted (X.226 8.4.2)
+-- to be deleted (X.226 8.2)
 pub data Item : Type 0 where
   Addition : (identifier : ℕ) → (offers : List Pair) → Item
   Deletion : (identifier : ℕ) → Item
 
 -- its result: an addition is rejected, or accepted with one of its pairs; a deletion is accepted, or its context is
--- kept (X.226 8.4.3)
+-- kept (X.226 8.2)
 pub data Result : Type 0 where
   Rejected : Result
   AcceptedAs : (pair : Pair) → Result
@@ -96,7 +96,7 @@ AnswersItem (Deletion k) Kept = Unit {0}
 AnswersItem (Deletion k) Rejected = ⊥
 AnswersItem (Deletion k) (AcceptedAs p) = ⊥
 
--- the results answer the items, one for one, in their order (X.226 8.4.3)
+-- the results answer the items, one for one, in their order (X.226 8.2)
 abbrev pub AnswersEach : List Item → List Result → Type 0
 AnswersEach [] [] = Unit {0}
 AnswersEach [] (result ∷ results) = ⊥

@@ -2,6 +2,8 @@
 //! dialogues. The others are laid out by hand, by X.882 9 in the basic encoding (X.690 8) or by the
 //! rules of the packed syntax, which is this project's own; which problem they have follows from
 //! X.880 9.4.2 in each syntax: unrecognized is 0, mistyped 1 and badly structured 2.
+//! The octets of a worked dialogue were given by a model of the rules that was written apart from
+//! this program and isn't part of this repository.
 
 use Read::{Invokes, Linked, Refused};
 use Syntax::{Ber, Der, Packed};

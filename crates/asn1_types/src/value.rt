@@ -19,7 +19,7 @@ pub struct Val {
 /// The parts of a SEQUENCE or SET in the order of the notation, each with its value or absent.
 pub type MaybeVals = Vec<Option<Val>>;
 
-/// The items of a SEQUENCE OF.
+/// The items of a SEQUENCE OF or SET OF; those of a SET OF by rising DER spellings.
 pub type Vals = Vec<Val>;
 
 /// What a value is.
@@ -42,7 +42,7 @@ pub enum Node {
     Text(Octets),
     /// Of SEQUENCE or SET.
     Parts(MaybeVals),
-    /// Of SEQUENCE OF.
+    /// Of SEQUENCE OF or SET OF.
     List(Vals),
     /// Of CHOICE: the alternative's place from 0, and its value.
     Chosen { which: u32, value: Box<Val> },

@@ -16,35 +16,35 @@ pub fn has_units(bits: u16, requirements: u16) -> bool
     requirements & bits == bits
 }
 
-/// Minor synchronize.
+/// Whether minor synchronize is among these units.
 pub fn has_marks(requirements: u16) -> bool
     ensures { result ≡ has_marks requirements }
 {
     has_units(8, requirements)
 }
 
-/// Resynchronize.
+/// Whether resynchronize is among these units.
 pub fn has_restarts(requirements: u16) -> bool
     ensures { result ≡ has_restarts requirements }
 {
     has_units(32, requirements)
 }
 
-/// Activity management.
+/// Whether activity management is among these units.
 pub fn has_activities(requirements: u16) -> bool
     ensures { result ≡ has_activities requirements }
 {
     has_units(64, requirements)
 }
 
-/// Typed data.
+/// Whether typed data is among these units.
 pub fn has_typed_data(requirements: u16) -> bool
     ensures { result ≡ has_typed_data requirements }
 {
     has_units(1024, requirements)
 }
 
-/// What a mode can't do without.
+/// The functional units that a mode needs.
 pub fn needed_units(mode: Mode) -> u16
     ensures { result ≡ needed_units mode }
 {
@@ -61,7 +61,7 @@ pub fn selected_with(mode: Mode, theirs: Option<u16>) -> u16
     proposed_units(mode) & theirs.unwrap_or(0)
 }
 
-/// Version 2 of the session protocol (X.225 8.3.1.12).
+/// Whether version 2 of the session protocol is among these (X.225 8.3.1).
 pub fn has_version_two(versions: Option<u8>) -> bool
     ensures { result ≡ has_version_two versions }
 {

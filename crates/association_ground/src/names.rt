@@ -8,7 +8,7 @@ use dialogue::Mode;
 use osi_base::{NoMemory, Oid};
 use std::alloc::Global;
 
-/// Whether two object identifiers are one, or two strings of octets.
+/// Whether two object identifiers are equal, arc by arc.
 pub fn same_name(a: &[u32], b: &[u32]) -> bool
     ensures { result ≡ same_name a.now b.now }
 {

@@ -35,7 +35,8 @@ fn hear_octets(
     }
 }
 
-/// What becomes of octets on a context in a syntax: what no head is read from is rejected.
+/// What becomes of octets on a context in a syntax: octets from which no head can be read are
+/// rejected, but a reject that can't be read is only told.
 pub fn hear_unread(
     basis: &Basis<'_>,
     calls: &mut Invocations,

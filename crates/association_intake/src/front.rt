@@ -10,10 +10,19 @@ pub enum Front {
     Short,
     /// A transport unit (X.224 13).
     OfTransport(TransportUnit),
-    /// A unit of the session (X.225 8.3), and where its user data begin in the TSDU; 0 where it has
-    /// none.
-    OfSession { unit: SessionWord, start: usize },
-    /// Octets that break the grammar of the transport, with the place of the field in the stream of
-    /// the connection, or of the session, with its place in the TSDU.
-    Faulty { layer: Layer, place: u64 },
+    /// A unit of the session (X.225 8.3).
+    OfSession {
+        /// The unit.
+        unit: SessionWord,
+        /// Where its user data begin in the TSDU; 0 where it has none.
+        start: usize,
+    },
+    /// Octets that break the grammar of the transport or of the session.
+    Faulty {
+        /// Whose grammar they break: that of the transport or of the session.
+        layer: Layer,
+        /// The place of the faulty field: of the transport in the stream of the connection, of the
+        /// session in the TSDU.
+        place: u64,
+    },
 }

@@ -14,9 +14,9 @@ pub enum Stage {
     Unused,
     /// CR was sent or taken.
     Asked,
-    /// CC was.
+    /// CC was sent or taken.
     Joined,
-    /// CN was.
+    /// CN was sent or taken.
     Carrying,
 }
 
@@ -58,7 +58,8 @@ pub struct Link {
     pub reference: Option<Octets>,
     /// The common reference of that CN.
     pub common: Option<Octets>,
-    /// Agreed for transfers (X.228 8.1).
+    /// The checkpoint size agreed for transfers, in units of 1,024 octets; 0 is without checkpoints
+    /// (X.228 8.1).
     pub checkpoint: u32,
     /// The window size agreed for transfers: how many marks may be unconfirmed.
     pub window: u32,
@@ -75,7 +76,7 @@ impl Awaited {
         }
     }
 
-    /// Whether a restart is.
+    /// Whether the answer to an own restart is awaited.
     pub fn is_restarting(self) -> bool
         ensures { result ≡ is_restarting (seen_awaited self) }
     {

@@ -5,7 +5,7 @@ ghost use Rattle.std.specs.Prelude.{◌≡◌};
 use osi_base::{Ids, Proposals};
 use std::marker::Model;
 
-/// What an end asks for: contexts to be added, and to be deleted (X.226 8.4.2).
+/// What an end asks for: contexts to be added, and to be deleted (X.226 8.2).
 #[derive(Debug, Drop)]
 pub struct Alteration {
     pub(crate) add: Proposals,

@@ -1,4 +1,4 @@
-//! Whether answers fit what was proposed (X.226 8.4.3).
+//! Whether answers fit what was proposed (X.226 8.2).
 
 ghost use Rattle.std.specs.Prelude.{◌≡◌};
 ghost use Rattle.association_ground.specs.end_rules.Sets.{is_offered, fits_proposal, fit_proposals, fit_alteration};

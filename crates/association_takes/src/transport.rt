@@ -59,7 +59,8 @@ fn may_come(basis: &Basis<'_>, body: &Body, unit: &TransportUnit) -> bool
     }
 }
 
-/// What is out of place, an ER always.
+/// Why a transport unit may not stand where it comes; an ER never may, nor may a CC with a size
+/// other than 128 to 8,192 octets.
 pub fn transport_fault(basis: &Basis<'_>, body: &Body, unit: &TransportUnit) -> Option<Fault>
     ensures { option_map seen_fault result ≡ transport_unit_fault (base_in basis.now)
         (seen body.now) (seen_transport unit.now) }

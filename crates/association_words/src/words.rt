@@ -123,7 +123,7 @@ pub enum AssociationWord {
     AbortAccept,
 }
 
-/// Values, and alterations in typed data (X.225 8.3.11, 8.3.13; X.226 8.4.1 to 8.4.3).
+/// Values, and alterations in typed data (X.225 8.3.11, 8.3.13; X.226 8.2, 8.4.2).
 #[derive(Debug, Drop)]
 pub enum DataWord {
     /// DT.

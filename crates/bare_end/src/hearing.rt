@@ -29,7 +29,12 @@ pub enum Taken {
     /// The user is told.
     Told(Indication),
     /// It is rejected.
-    Rejects { id: Option<i64>, problem: Problem },
+    Rejects {
+        /// The identifier of the APDU, if it has one that can be read.
+        id: Option<i64>,
+        /// The problem that this end found.
+        problem: Problem,
+    },
 }
 
 /// What the user is told, or the reject that is due.

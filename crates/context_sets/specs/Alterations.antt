@@ -1,4 +1,4 @@
--- Alterations of a set, their answers, and the set afterwards (X.226 8.4).
+-- Alterations of a set, their answers, and the set afterwards (X.226 8.2).
 use Rattle.std.specs.Prelude.{ℕ, ◌+◌, Bool, ◌||◌, nat_eq, if◌then◌else◌, List, [], ◌∷◌, ◌++◌, length, map, Option, Some, None}
 use Rattle.std.specs.List.{list_any}
 use Rattle.osi_base.specs.declared.syntax.Syntax.{Syntax}

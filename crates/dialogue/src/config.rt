@@ -51,13 +51,16 @@ pub struct Config {
     pub contexts: Proposals,
     /// The transfer syntaxes that a responder accepts.
     pub accepts: Oids,
-    /// The calling selector, of 1 to 16 octets.
+    /// The calling selector of the transport, of the session and of the presentation alike (X.224
+    /// 13.3.4, X.225 8.3.1, X.226 8.2.1), 1 to 16 octets.
     pub calling: Octets,
-    /// The called selector, of 1 to 16 octets.
+    /// The called selector of the transport, of the session and of the presentation alike (X.224
+    /// 13.3.4, X.225 8.3.1, X.226 8.2.1), 1 to 16 octets.
     pub called: Octets,
     /// The calling reference of the session connection, of 1 to 64 octets.
     pub reference: Octets,
-    /// The common reference of the session connection, of 13 octets.
+    /// The common reference of the session connection, a UTCTime of 13 octets (X.225 8.3.1). Only
+    /// its length is checked.
     pub common: Octets,
     /// The octets between two marks of a transfer, in units of 1,024, at most 255; 0 for no marks.
     pub checkpoint: u32,

@@ -142,8 +142,8 @@ pub enum Indication {
         /// transport unit or, in bare mode, in the octets that weren't taken; 0 where no one field
         /// is at fault.
         place: u64,
-        /// The reason: of the presentation's provider (X.226 8.2.5), 4 of reliable transfer, else
-        /// 0.
+        /// The number of the fault: that of the presentation's provider (X.226 8.2), 4 for a fault
+        /// of reliable transfer (X.228 9), else 0.
         reason: u8,
     },
     /// The list that came with a restart isn't the one of the set that was kept.

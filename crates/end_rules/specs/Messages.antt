@@ -73,7 +73,7 @@ pub data AssociationWord : Type 0 where
   Abort : (transport : Option ℕ) → (user : AbortData) → AssociationWord  -- AB with ARU, ARP or nothing
   AbortAccept : AssociationWord  -- AA
 
--- values, and alterations in typed data (X.225 8.3.11, 8.3.13; X.226 8.4.1 to 8.4.3)
+-- values, and alterations in typed data (X.225 8.3.11, 8.3.13; X.226 8.2, 8.4.2)
 pub data DataWord : Type 0 where
   Values : (values : List DataValue) → DataWord  -- DT
   AlterContext : (add : List Proposal) → (delete : List ℕ) → DataWord  -- TD with AC

@@ -32,7 +32,7 @@ put k pair (item ∷ items) =
 
 -- ---- alterations
 
--- what an end asked for: contexts to be added, and to be deleted (X.226 8.4.2)
+-- what an end asked for: contexts to be added, and to be deleted (X.226 8.2)
 pub record Alteration : Type 0 where
   pub add : List Proposal
   pub delete : List ℕ
@@ -90,7 +90,7 @@ is_offered offers (Some name) = list_any (same_name name) offers && is_some (syn
 abbrev pub fits_proposal : Proposal → AddAnswer → Bool
 fits_proposal p answer = not (nat_eq answer.result 0) || is_offered p.transfers answer.transfer
 
--- the answers fit the proposals, one for one (X.226 8.4.3)
+-- the answers fit the proposals, one for one (X.226 8.2)
 abbrev pub fit_proposals : List Proposal → List AddAnswer → Bool
 fit_proposals [] [] = true
 fit_proposals [] (answer ∷ answers) = false

@@ -1,6 +1,8 @@
 //! Octets of worked dialogues: an invocation, openings, marks, a release; and units that end a
 //! connection or tell an error, headers that are faulty and packets as large as may be, laid out by
 //! hand by RFC 1006 6 and X.224 13. Places are counted in the octets.
+//! The octets of a worked dialogue were given by a model of the rules that was written apart from
+//! this program and isn't part of this repository.
 
 use osi_base::{Kind, Octets};
 use std::alloc::Global;

@@ -1,5 +1,7 @@
 //! Octets of each unit: those of worked dialogues, and others that are laid out by hand by X.225
 //! 8.2 and 8.3, which are named so. Places of faults are counted in the octets.
+//! The octets of a worked dialogue were given by a model of the rules that was written apart from
+//! this program and isn't part of this repository.
 
 ghost use Rattle.std.specs.Prelude.{◌≡◌, ◌≤◌, true, [], ◌∷◌, ◌++◌, length};
 ghost use Rattle.spdu_codec.specs.Written.{AreFields, AreWritable, octets_in, stands_alone, stands_second};

@@ -1,4 +1,4 @@
--- What contexts are proposed with (X.226 8.2.2).
+-- What contexts are proposed with (X.226 8.2).
 use Rattle.std.specs.Prelude.{Bool, ◌||◌, nat_eq, nat_lt, length}
 use Rattle.osi_base.specs.declared.layer_words.Proposal.{Proposal}
 use Rattle.osi_base.specs.Limits.{most_transfers}

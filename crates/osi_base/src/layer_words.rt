@@ -188,7 +188,8 @@ impl fmt::Display for Problem {
     }
 }
 
-/// How a run of the program ended.
+/// How a run of the program ends. No command of today ends with `LineFault`, `Ended` or `Spent`;
+/// they are for planned ones.
 #[derive(Clone, Copy, Debug, PartialEq, Eq)]
 pub enum Status {
     /// The command's work is whole.
@@ -203,7 +204,7 @@ pub enum Status {
     LineFault,
     /// The module was refused.
     ModuleRefused,
-    /// The second file was refused.
+    /// The schedule or the recording was refused.
     ScriptRefused,
     /// The association ended before the script did.
     Ended,
@@ -225,7 +226,7 @@ pub struct SetItem {
 /// A set of contexts, by rising identifier.
 pub type SetList = ListOf<SetItem>;
 
-/// An item of the list that a restart carries (X.226 7.9).
+/// An item of the list that a restart carries (X.226 8.2).
 #[derive(Debug, Drop)]
 pub struct RestoredItem {
     /// Presentation context identifier, 1 to 32,767.
@@ -238,7 +239,7 @@ pub struct RestoredItem {
 pub type RestoredList = ListOf<RestoredItem>;
 
 /// A proposed context: its identifier, its abstract syntax and the transfer syntaxes that are
-/// offered for it (X.226 7.2.3).
+/// offered for it (X.226 8.2).
 #[derive(Debug, Drop)]
 pub struct Proposal {
     /// Presentation context identifier, 1 to 32,767.

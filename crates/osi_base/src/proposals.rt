@@ -13,7 +13,7 @@ fn has_bad_transfers(proposal: &Proposal) -> bool
 }
 
 /// Whether one of these proposals of contexts offers no transfer syntax, or more than eight (this
-/// project's own limit; X.226 8.2.2 and 8.4.2 name the lists).
+/// project's own limit; X.226 8.2 names the lists).
 pub fn is_badly_offered(proposals: &[Proposal]) -> bool
     ensures { result ≡ list_any has_bad_transfers proposals.now }
 {

@@ -26,9 +26,10 @@ pub enum ConnectionData {
 pub enum Rtse {
     /// RTORQ.
     OpenRequest {
-        /// Checkpoint size, `[0]`, in units of 1,024 octets; 0, no checkpoints, where it lacks.
+        /// Checkpoint size, `[0]`, 0 to 255 units of 1,024 octets; 0, no checkpoints, where it
+        /// lacks.
         checkpoint: u32,
-        /// Window size, `[1]`: how many checkpoints may be unconfirmed; 3 where it lacks.
+        /// Window size, `[1]`, 0 to 255: how many checkpoints may be unconfirmed; 3 where it lacks.
         window: u32,
         /// Dialogue mode, `[2]`: 0 one way, 1 two ways in turn; 0 where it lacks.
         mode: i64,
@@ -37,9 +38,10 @@ pub enum Rtse {
     },
     /// RTOAC.
     OpenAccept {
-        /// Checkpoint size, `[0]`, in units of 1,024 octets; 0, no checkpoints, where it lacks.
+        /// Checkpoint size, `[0]`, 0 to 255 units of 1,024 octets; 0, no checkpoints, where it
+        /// lacks.
         checkpoint: u32,
-        /// Window size, `[1]`: how many checkpoints may be unconfirmed; 3 where it lacks.
+        /// Window size, `[1]`, 0 to 255: how many checkpoints may be unconfirmed; 3 where it lacks.
         window: u32,
         /// Connection data, `[2]`.
         data: ConnectionData,

@@ -11,9 +11,11 @@ use osi_base::{Name, Words};
 /// What is done with a second file, by the tables of a module.
 #[derive(Clone, Copy, Debug, PartialEq, Eq)]
 pub enum Work {
-    /// It is a schedule, which is run; with `brief` a summary of its run is wanted, else its
-    /// transcript.
-    Replay { brief: bool },
+    /// It is a schedule, which is run.
+    Replay {
+        /// Whether a summary of the run is wanted; else its transcript is.
+        brief: bool,
+    },
     /// It is a recorded dialogue, of which it is told what it says.
     Trace,
 }

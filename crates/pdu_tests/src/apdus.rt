@@ -3,6 +3,8 @@
 //! with fields that are passed over or with faults, are laid out field by field by X.227 9, in the
 //! basic encoding (X.690 8), and the APDUs of reliable transfer in user information by X.228 9; the
 //! others are those of worked dialogues. The place of a fault is counted in the octets of its row.
+//! The octets of a worked dialogue were given by a model of the rules that was written apart from
+//! this program and isn't part of this repository.
 
 use acse::{AcseFault, read_acse, write_acse};
 use osi_base::{Acse, Diagnostic, External, Kind};

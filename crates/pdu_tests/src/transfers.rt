@@ -4,6 +4,8 @@
 //! field by X.228 9, in the basic encoding (X.690 8). The place of a fault is counted in the octets
 //! of its row. The lengths of a transfer and of its first part are those of a worked one, whose
 //! invocation stores 2,975 octets and whose checkpoint is 1.
+//! The octets of a worked dialogue were given by a model of the rules that was written apart from
+//! this program and isn't part of this repository.
 
 use fixed_tables::PduFault;
 use osi_base::{ConnectionData, Kind, Octets, Pdv, PdvContent, Rtse};

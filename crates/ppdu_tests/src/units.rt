@@ -5,6 +5,8 @@
 //! X.228 9 and X.882 9, in the basic encoding (X.690 8). The others are those of worked dialogues.
 //! The place of a fault is counted in the octets of its row; its reason is that of an abort by the
 //! provider (X.226 8.2): 1 for a unit that isn't known, 6 for another fault.
+//! The octets of a worked dialogue were given by a model of the rules that was written apart from
+//! this program and isn't part of this repository.
 
 use Read::{Refused, Same, Written};
 use osi_base::{Kind, Ppdu};

@@ -64,8 +64,13 @@ impl fmt::Display for ScriptKind {
 /// Why a text isn't read.
 #[derive(Clone, Copy, Debug, PartialEq, Eq)]
 pub enum ScriptFault {
-    /// The first faulty line, counted from 1.
-    At { line: u32, kind: ScriptKind },
+    /// A line breaks the grammar.
+    At {
+        /// The first faulty line, counted from 1.
+        line: u32,
+        /// How that line breaks the grammar.
+        kind: ScriptKind,
+    },
     /// An allocation was refused.
     NoMemory,
 }
