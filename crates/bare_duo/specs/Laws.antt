@@ -43,7 +43,7 @@ NothingWrong (m ∷ w) = IsCalm m.step × NothingWrong w
 abbrev pub NothingWholeWaits : Ends → World → Type 0
 NothingWholeWaits ends w = (side : Side) → passes_over (end_at ends side w).body.link.phase ≡ false → first_at (end_at ends side w).line.rest ≡ Short
 
--- only want of memory makes an end dead
+-- no end is dead
 abbrev pub NobodyIsDead : Ends → World → Type 0
 NobodyIsDead ends w = (side : Side) → is_dead (end_at ends side w).body.link.phase ≡ false
 

@@ -29,7 +29,7 @@ abbrev pub NothingFails : World → Type 0
 NothingFails [] = Unit {0}
 NothingFails (m ∷ w) = IsFaultless m.step × NothingFails w
 
--- only want of memory makes an end dead
+-- no end is dead
 abbrev pub NobodyIsDead : Ends → World → Type 0
 NobodyIsDead ends w = (side : Side) → is_dead (body_at ends side w).link.phase ≡ false
 
