@@ -7,7 +7,7 @@ ghost use Rattle.end_rules.specs.Altering.{used};
 ghost use Rattle.end_rules.specs.Policy.{answer_to_deletion, policy};
 ghost use Rattle.association_calls.specs.association_state.Seen.{base_in, seen};
 
-use association_calls::association_state_layer::{Body, Basis};
+use association_calls::association_state_layer::{Basis, Body};
 use association_calls::contexts_in_use;
 use association_ground::is_among;
 use association_sends::set_rules_layer::answers_to_additions;

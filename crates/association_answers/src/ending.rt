@@ -10,7 +10,7 @@ ghost use Rattle.association_answers.specs.BroughtAs.{FailsAs};
 
 use crate::brought::{Messages, Reaction, one_message};
 use crate::telling::push_cuts;
-use association_calls::association_state_layer::{Body, Basis};
+use association_calls::association_state_layer::{Basis, Body};
 use association_sends::abort_of;
 use association_sends::association_words_layer::Fault;
 use dialogue::{Indication, Indications, Phase};

@@ -12,7 +12,7 @@ use association_state::association_ground_layer::{is_among, is_reliable};
 use association_state::association_sets_layer::{
     Alteration, count_added, has_parity, is_bad_alteration, is_fixed, is_named_in,
 };
-use association_state::{Body, Basis};
+use association_state::{Basis, Body};
 use dialogue::CallRefusal;
 use osi_base::{NoMemory, Proposal, pair_of};
 

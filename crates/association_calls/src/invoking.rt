@@ -16,7 +16,7 @@ use association_state::apdu_codec_layer::is_too_long_with;
 use association_state::association_ground_layer::{is_direct, is_reliable};
 use association_state::association_sets_layer::{has_abstract, is_deleted_in};
 use association_state::rose_roles_layer::{invoke_apdu, is_linked_to};
-use association_state::{Body, Basis};
+use association_state::{Basis, Body};
 use dialogue::CallRefusal;
 use osi_base::pair_of;
 use stub_tables::{Apdu, Operation};

@@ -7,7 +7,7 @@ ghost use Rattle.association_state.specs.Seen.{base_in, seen};
 use crate::Reply;
 use crate::units::{has_marks, has_restarts, has_token};
 use association_state::association_ground_layer::is_direct;
-use association_state::{Body, Basis};
+use association_state::{Basis, Body};
 use dialogue::CallRefusal;
 
 /// The most marks that are kept.

@@ -18,7 +18,7 @@ use association_state::apdu_codec_layer::is_too_long_with;
 use association_state::association_ground_layer::is_direct;
 use association_state::association_sets_layer::carrier;
 use association_state::rose_roles_layer::{error_apdu, result_apdu};
-use association_state::{Body, Basis};
+use association_state::{Basis, Body};
 use dialogue::CallRefusal;
 use stub_tables::{Apdu, ErrorRow, Operation, Use};
 

@@ -8,7 +8,7 @@ ghost use Rattle.association_calls.specs.Replies.{IsRefusal};
 use association_state::association_ground_layer::{
     is_bare, is_dead, is_initiators, is_of_bare_mode, is_phase_for,
 };
-use association_state::{Body, Basis};
+use association_state::{Basis, Body};
 use dialogue::{Call, CallRefusal};
 
 /// Why a call is refused whatever its own rows say: the end is dead, the call is the initiator's,

@@ -10,7 +10,7 @@ ghost use Rattle.association_calls.specs.Replies.{Replies, IsCounted};
 use crate::Reply;
 use crate::marks::has_activity;
 use association_state::association_ground_layer::{is_direct, is_reliable};
-use association_state::{Body, Basis};
+use association_state::{Basis, Body};
 use dialogue::CallRefusal;
 
 /// Whether there is a current transfer.

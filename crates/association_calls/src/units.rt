@@ -5,7 +5,7 @@ ghost use Rattle.end_rules.specs.Units.{has_units, has_marks, has_restarts, has_
 ghost use Rattle.association_state.specs.Seen.{base_in, seen};
 
 use association_state::association_ground_layer::{is_direct, is_reliable, proposed_units};
-use association_state::{Body, Basis};
+use association_state::{Basis, Body};
 use dialogue::Mode;
 use osi_base::BitString;
 

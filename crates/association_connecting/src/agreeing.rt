@@ -7,7 +7,7 @@ ghost use Rattle.association_connecting.specs.Agreed.{seen_agreed, names_recover
 ghost use Rattle.association_answers.specs.association_state.Seen.{base_in, seen};
 
 use association_answers::association_sends_layer::connection_data;
-use association_answers::association_state_layer::{Body, Basis};
+use association_answers::association_state_layer::{Basis, Body};
 use association_ground::is_broken;
 use osi_base::{ConnectionData, Copied, NoMemory, Octets, Rtse};
 

@@ -15,7 +15,7 @@ use crate::joining::Terms;
 use association_answers::association_sends_layer::{
     Response, accept_message, provider_refusal, refuse_message, rtse_context, rtse_information,
 };
-use association_answers::association_state_layer::{Body, Basis};
+use association_answers::association_state_layer::{Basis, Body};
 use association_words::{Information, Message, UserInformation, Value};
 use osi_base::{AddAnswers, ListOf, NoMemory, PresentationConnect, Rtse, SessionConnect, SetItem};
 use set_rules::opening_policy;

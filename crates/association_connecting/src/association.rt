@@ -16,7 +16,7 @@ use crate::connect_faults::connect_fault;
 use crate::taking_accept::{accept_fault, take_accept};
 use crate::taking_connect::take_connect;
 use association_answers::association_sends_layer::disconnect_message;
-use association_answers::association_state_layer::{Awaited, Body, Basis};
+use association_answers::association_state_layer::{Awaited, Basis, Body};
 use association_answers::{Brought, end_association, one_message, push_cuts, with_indication};
 use association_sets::copy_set;
 use association_words::{AssociationWord, Fault, Value};

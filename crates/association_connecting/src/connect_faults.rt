@@ -10,7 +10,7 @@ use crate::associated::{is_request, request_information_fault, rtse_in, user_of}
 use association_answers::association_calls_layer::{
     has_units, has_version_two, needed_units, selected_with,
 };
-use association_answers::association_state_layer::{Body, Basis};
+use association_answers::association_state_layer::{Basis, Body};
 use association_ground::is_reliable;
 use association_words::{Fault, Value};
 use osi_base::{Layer, PresentationConnect, SessionConnect, SetItem};

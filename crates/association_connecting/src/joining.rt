@@ -7,7 +7,7 @@ ghost use Rattle.association_connecting.specs.Joined.{kept_first, stood};
 ghost use Rattle.association_answers.specs.association_state.Seen.{base_in, seen};
 
 use crate::agreeing::Agreed;
-use association_answers::association_state_layer::{Awaited, Body, Basis, SavedSets, Stage};
+use association_answers::association_state_layer::{Awaited, Basis, Body, SavedSets, Stage};
 use association_ground::is_broken;
 use association_sets::copy_set;
 use dialogue::{Mode, Phase};

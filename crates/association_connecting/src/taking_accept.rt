@@ -17,7 +17,7 @@ use crate::associated::{accept_information_fault, is_accepting, rtse_in, user_of
 use crate::connect_faults::{has_acse, has_rtse};
 use crate::joining::{Terms, join};
 use association_answers::association_calls_layer::{manages_with, selected_with};
-use association_answers::association_state_layer::{Body, Basis};
+use association_answers::association_state_layer::{Basis, Body};
 use association_answers::{Brought, push_losses};
 use association_ground::{is_recovering, is_reliable};
 use association_sets::fit_proposals;

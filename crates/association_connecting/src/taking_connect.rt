@@ -14,7 +14,7 @@ use crate::associated::{rtse_in, user_of};
 use crate::connect_faults::is_refused;
 use crate::joining::{Terms, begin, join, refuse};
 use association_answers::association_calls_layer::{manages_with, selected_with};
-use association_answers::association_state_layer::{Body, Basis};
+use association_answers::association_state_layer::{Basis, Body};
 use association_answers::{Brought, one_message, push_cuts, push_losses, with_answer};
 use association_ground::{is_broken, is_reliable};
 use association_words::Value;

@@ -8,7 +8,7 @@ use association_ground::is_up;
 use association_meaning::apdu_codec_layer::Heads;
 use association_meaning::association_codecs_layer::Codecs;
 use association_meaning::association_intake_layer::Intake;
-use association_reacting::association_state_layer::{Body, Basis};
+use association_reacting::association_state_layer::{Basis, Body};
 use association_requests::connection_broke;
 use dialogue::{Config, ConfigRefusal, Phase};
 use end_config::check_config;

@@ -17,7 +17,7 @@ use crate::end::End;
 use association_line::own_acts_end;
 use association_meaning::association_codecs_layer::Codecs;
 use association_reacting::association_sends_layer::pair_copied;
-use association_reacting::association_state_layer::{Body, Encoded, Basis, Queued, Transfer};
+use association_reacting::association_state_layer::{Basis, Body, Encoded, Queued, Transfer};
 use association_requests::{OwnAct, after_sent, next_own};
 use association_words::{Message, TransferItem};
 use association_writing::write_item;
@@ -106,12 +106,7 @@ fn encoded_on(
 }
 
 /// The item of the current transfer is encoded on a context.
-fn encode(
-    basis: &Basis<'_>,
-    codecs: &Codecs,
-    body: &mut Body,
-    context: u32,
-) -> Result<(), NoMemory>
+fn encode(basis: &Basis<'_>, codecs: &Codecs, body: &mut Body, context: u32) -> Result<(), NoMemory>
     ensures ok { OnOk result (seen body.new ≡ encoding (base_in basis.now) context
         (seen body.old)) }
     ensures link { (seen body.new).link ≡ (seen body.old).link }

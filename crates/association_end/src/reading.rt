@@ -27,7 +27,7 @@ use association_meaning::association_intake_layer::Front;
 use association_meaning::{Halt, ReadingBasis, arrived_at, meaning_of_unit};
 use association_reacting::association_answers_layer::{Reaction, fail_association};
 use association_reacting::association_place_layer::{is_unit_in_place, is_unit_purged};
-use association_reacting::association_state_layer::{Body, Basis};
+use association_reacting::association_state_layer::{Basis, Body};
 use association_reacting::{fails_on_accepted, has_connection, react, react_to_end};
 use association_sets::copy_set;
 use association_words::{

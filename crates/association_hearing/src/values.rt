@@ -12,7 +12,7 @@ use crate::apdus::hear_apdu;
 use crate::unread::hear_unread;
 use association_answers::association_calls_layer::carrier_in;
 use association_answers::association_sends_layer::pair_copied;
-use association_answers::association_state_layer::{Body, Basis, Queued};
+use association_answers::association_state_layer::{Basis, Body, Queued};
 use association_answers::open_invocations_layer::Invocations;
 use association_answers::{Brought, one_indication, one_message, with_indication, with_nothing};
 use association_ground::is_reliable;

@@ -120,11 +120,7 @@ fn arrived_in(
 /// What the octets of a transfer are under a set: an APDU, or octets on a context of the module
 /// that spell none; or the fault that ends the association, of which places count in the octets.
 /// `NoMemory` where memory runs out.
-pub fn arrived_at(
-    basis: &ReadingBasis<'_>,
-    set: &[SetItem],
-    octets: &[u8],
-) -> Result<Arrived, Halt>
+pub fn arrived_at(basis: &ReadingBasis<'_>, set: &[SetItem], octets: &[u8]) -> Result<Arrived, Halt>
     ensures { GivesAs seen_arrived result (reading.arrived_at basis.now.tables.now set.now
         octets.now) }
 {

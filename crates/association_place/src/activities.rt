@@ -10,7 +10,7 @@ ghost use Rattle.association_pieces.specs.Seen.{seen_receiving};
 ghost use Rattle.association_calls.specs.association_state.Seen.{base_in, seen};
 
 use crate::association::is_peers;
-use association_calls::association_state_layer::{Awaited, Body, Basis, Receiving};
+use association_calls::association_state_layer::{Awaited, Basis, Body, Receiving};
 use association_calls::has_activities;
 use association_ground::is_up;
 use association_words::ActivityWord;

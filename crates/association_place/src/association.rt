@@ -7,7 +7,7 @@ ghost use Rattle.association_words.specs.Seen.{seen_association};
 ghost use Rattle.association_pieces.specs.Link.{seen_awaited};
 ghost use Rattle.association_calls.specs.association_state.Seen.{base_in, seen};
 
-use association_calls::association_state_layer::{Awaited, Body, Basis};
+use association_calls::association_state_layer::{Awaited, Basis, Body};
 use association_calls::{has_units, has_version_two, needed_units, selected_with};
 use association_ground::{is_opening, is_reliable, is_up};
 use association_words::{Accepting, AssociationWord};

@@ -6,7 +6,7 @@ ghost use Rattle.end_rules.specs.InPlace.{may_send_data, may_send_typed, is_in_p
 ghost use Rattle.association_words.specs.Seen.{seen_data};
 ghost use Rattle.association_calls.specs.association_state.Seen.{base_in, seen};
 
-use association_calls::association_state_layer::{Body, Basis};
+use association_calls::association_state_layer::{Basis, Body};
 use association_calls::has_typed_data;
 use association_ground::{is_reliable, is_up};
 use association_words::DataWord;

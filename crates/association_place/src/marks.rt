@@ -9,7 +9,7 @@ ghost use Rattle.association_pieces.specs.Sending.{seen_transfer};
 ghost use Rattle.association_calls.specs.association_state.Seen.{base_in, seen};
 
 use crate::association::is_peers;
-use association_calls::association_state_layer::{Awaited, Body, Basis, Transfer};
+use association_calls::association_state_layer::{Awaited, Basis, Body, Transfer};
 use association_calls::{has_marks, has_restarts, has_token};
 use association_ground::{is_direct, is_reliable, is_up};
 use association_words::MarkWord;

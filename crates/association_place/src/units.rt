@@ -14,7 +14,7 @@ use crate::data::{may_send_data, may_send_typed};
 use crate::marks::{
     awaits_restart, may_confirm_mark, may_give, may_give_all, may_mark, may_please, may_restart,
 };
-use association_calls::association_state_layer::{Body, Basis};
+use association_calls::association_state_layer::{Basis, Body};
 use association_ground::is_up;
 use association_words::Accepting;
 use osi_base::SessionWord;

@@ -10,7 +10,7 @@ use crate::activities::is_activity_in_place;
 use crate::association::is_association_in_place;
 use crate::data::is_data_in_place;
 use crate::marks::is_mark_in_place;
-use association_calls::association_state_layer::{Body, Basis};
+use association_calls::association_state_layer::{Basis, Body};
 use association_words::Word;
 
 /// Whether a unit of the session may stand where it comes: the phase, the functional units, the

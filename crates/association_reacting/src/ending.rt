@@ -12,7 +12,7 @@ ghost use Rattle.association_reacting.specs.SeenReaction.{ReactsAs};
 use crate::faults::{fails_on_accepted, has_connection};
 use association_connecting::association_answers_layer::Reaction;
 use association_ground::passes_over;
-use association_place::association_state_layer::{Body, Basis};
+use association_place::association_state_layer::{Basis, Body};
 use association_place::{is_in_place, is_purged};
 use association_takes::end_taken;
 use association_words::{ActivityWord, Fault, Value, Word};

@@ -10,7 +10,7 @@ ghost use Rattle.association_reacting.specs.SeenReaction.{ReactsAs};
 
 use association_connecting::association_answers_layer::{Reaction, fail_association};
 use association_connecting::association_fault;
-use association_place::association_state_layer::{Body, Basis};
+use association_place::association_state_layer::{Basis, Body};
 use association_place::is_in_place;
 use association_sets::copy_set;
 use association_takes::{data_fault, mark_fault};

@@ -13,7 +13,7 @@ use crate::faults::{fails_on_accepted, has_connection};
 use crate::taking::take_or_fail;
 use association_connecting::association_answers_layer::Reaction;
 use association_ground::passes_over;
-use association_place::association_state_layer::{Body, Basis};
+use association_place::association_state_layer::{Basis, Body};
 use association_place::{is_purged, is_transport_purged};
 use association_takes::{take_transport, transport_fault};
 use association_words::{Fault, Message, TransportUnit, Word};

@@ -11,7 +11,7 @@ ghost use Rattle.association_reacting.specs.SeenReaction.{ReactsAs};
 use crate::faults::word_fault;
 use association_connecting::association_answers_layer::{Brought, Reaction, fail_association};
 use association_connecting::{contexts_for, take_association};
-use association_place::association_state_layer::{Body, Basis};
+use association_place::association_state_layer::{Basis, Body};
 use association_sets::copy_set;
 use association_takes::{take_activity, take_data, take_mark};
 use association_words::{Fault, Word};

@@ -5,7 +5,7 @@ ghost use Rattle.end_rules.specs.History.{broken_phase, after_broke};
 ghost use Rattle.association_hearing.specs.association_state.Seen.{base_in, seen};
 
 use association_ground::is_reliable;
-use association_hearing::association_state_layer::{Awaited, Body, Basis, Stage};
+use association_hearing::association_state_layer::{Awaited, Basis, Body, Stage};
 use association_hearing::suspend;
 use dialogue::{Mode, Phase};
 

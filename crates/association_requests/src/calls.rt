@@ -16,7 +16,7 @@ use crate::operations::{answer, invoke, refuse};
 use crate::sent::after_sent;
 use association_hearing::association_answers_layer::end_association;
 use association_hearing::association_calls_layer::{Making, check_phase};
-use association_hearing::association_state_layer::{Body, Basis};
+use association_hearing::association_state_layer::{Basis, Body};
 use association_words::Message;
 use dialogue::{Call, CallRefusal, Phase};
 use osi_base::NoMemory;

@@ -3,16 +3,16 @@
 //! request has been sent, and when the connection breaks.
 #![tactic(auto)]
 
-mod broken;
 mod accepted_call;
+mod broken;
 mod calls;
 mod messages_due;
 mod operations;
 mod own_messages;
 mod sent;
 
-pub use broken::connection_broke;
 pub use accepted_call::AcceptedCall;
+pub use broken::connection_broke;
 pub use calls::make_call;
 pub use own_messages::{OwnAct, next_own};
 pub use sent::after_sent;

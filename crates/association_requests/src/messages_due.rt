@@ -20,7 +20,7 @@ use association_hearing::association_calls_layer::{
 use association_hearing::association_sends_layer::{
     connection_request, finish_message, give_message, please_message, user_abort,
 };
-use association_hearing::association_state_layer::{Body, Basis};
+use association_hearing::association_state_layer::{Basis, Body};
 use association_sets::{Alteration, restored_list};
 use association_words::{ActivityWord, DataWord, MarkWord, Message, Word};
 use dialogue::{Call, CallRefusal};

@@ -22,7 +22,7 @@ use asn1_types::Val;
 use association_hearing::association_calls_layer::{
     Making, carrier_in, check_answer, check_invoke, check_refuse,
 };
-use association_hearing::association_state_layer::{Body, Basis};
+use association_hearing::association_state_layer::{Basis, Body};
 use association_hearing::{data_on, queue_apdu};
 use association_words::Message;
 use dialogue::{CallRefusal, Mode};
@@ -105,7 +105,7 @@ fn open(basis: &Basis<'_>, body: &mut Body, making: Making) -> Result<i64, NoMem
         making.place (next_id (seen body.old)) making.linked (seen body.old)) }
 {
     if is_silent_at(basis, making.place) {
-        return pass(body);
+        return count_silent(body);
     }
     body.calls.open(making.place, making.context, making.linked)
 }

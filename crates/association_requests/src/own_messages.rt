@@ -11,7 +11,7 @@ ghost use Rattle.association_requests.specs.OwnActs.{seen_act};
 use association_ground::{is_reliable, is_up};
 use association_hearing::association_calls_layer::carrier_in;
 use association_hearing::association_sends_layer::part_message;
-use association_hearing::association_state_layer::{Body, Encoded, Basis, Transfer};
+use association_hearing::association_state_layer::{Basis, Body, Encoded, Transfer};
 use association_words::{ActivityWord, MarkWord, Message, Word};
 use osi_base::{NoMemory, Octets};
 

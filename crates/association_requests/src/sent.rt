@@ -9,7 +9,7 @@ ghost use Rattle.association_pieces.specs.Sending.{seen_queued, seen_transfer, s
 ghost use Rattle.association_hearing.specs.association_state.Seen.{seen};
 
 use association_hearing::association_state_layer::{
-    Awaited, Body, Basis, Progress, Queued, Sending, Stage, Transfer, TransferPieces, take_next,
+    Awaited, Basis, Body, Progress, Queued, Sending, Stage, Transfer, TransferPieces, take_next,
 };
 use association_hearing::{part_in, set_resumed};
 use association_sets::{Alteration, copy_set};

@@ -9,7 +9,7 @@ ghost use Rattle.association_state.specs.Seen.{base_in, seen};
 
 use crate::opening::{initial_number, requirement_bits};
 use crate::values::acse_value;
-use association_state::{Body, Basis};
+use association_state::{Basis, Body};
 use association_words::{
     Accepting, AssociationWord, Message, UserInformation, Value, Values, Word,
 };

@@ -18,7 +18,7 @@ ghost use Rattle.association_hearing.specs.association_sends.Due.{listed};
 use association_hearing::association_answers_layer::{
     Brought, one_message, push_losses, with_indication, with_nothing,
 };
-use association_hearing::association_state_layer::{Awaited, Body, Basis, Receiving};
+use association_hearing::association_state_layer::{Awaited, Basis, Body, Receiving};
 use association_hearing::{set_resumed, suspend, take_value};
 use association_sets::copy_set;
 use association_words::{ActivityWord, Message, Value, Word};

@@ -14,7 +14,7 @@ use association_ground::is_reliable;
 use association_hearing::association_answers_layer::{
     Brought, alteration_answers, with_indication, with_nothing,
 };
-use association_hearing::association_state_layer::{Body, Basis, take_oldest};
+use association_hearing::association_state_layer::{Basis, Body, take_oldest};
 use association_sets::{Alteration, alter_set, fit_alteration, proposed_ids};
 use association_words::{DataWord, Fault, Message, Word};
 use dialogue::Indication;

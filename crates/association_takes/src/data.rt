@@ -11,7 +11,7 @@ use crate::alterations::{alter_fault, answered_fault, take_alter, take_answers};
 use crate::parts::{take_parts, values_fault};
 use association_ground::is_reliable;
 use association_hearing::association_answers_layer::{Brought, with_nothing};
-use association_hearing::association_state_layer::{Body, Basis};
+use association_hearing::association_state_layer::{Basis, Body};
 use association_hearing::take_values;
 use association_words::{DataWord, Fault, Values};
 use osi_base::NoMemory;

@@ -15,7 +15,7 @@ use crate::parts::has_associated;
 use association_hearing::association_answers_layer::{
     Brought, one_message, push_cuts, push_losses, with_answer, with_indication, with_nothing,
 };
-use association_hearing::association_state_layer::{Awaited, Body, Basis};
+use association_hearing::association_state_layer::{Awaited, Basis, Body};
 use association_sets::{copy_set, restored_list, same_lists};
 use association_words::{Fault, MarkWord, Message, Value, ValueContent, Word};
 use dialogue::{Indication, Indications, Mode};

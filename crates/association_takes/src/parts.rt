@@ -11,7 +11,7 @@ ghost use Rattle.association_words.specs.Seen.{seen_fault, seen_content, seen_va
 ghost use Rattle.association_hearing.specs.association_state.Seen.{base_in, seen};
 
 use association_ground::is_reliable;
-use association_hearing::association_state_layer::{Body, Basis};
+use association_hearing::association_state_layer::{Basis, Body};
 use association_hearing::part_in;
 use association_words::{Fault, Value, ValueContent};
 use osi_base::{Layer, NoMemory, Octets};

@@ -15,7 +15,7 @@ use association_hearing::association_answers_layer::{
     Brought, with_answer, with_indication, with_nothing,
 };
 use association_hearing::association_sends_layer::connect_message;
-use association_hearing::association_state_layer::{Body, Basis, Stage};
+use association_hearing::association_state_layer::{Basis, Body, Stage};
 use association_words::{Fault, Message, TransportUnit};
 use dialogue::{Indication, Phase};
 use osi_base::{Layer, NoMemory};

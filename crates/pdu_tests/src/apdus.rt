@@ -204,9 +204,9 @@ fn faults_behind_known_fields(rt: HostRuntime) {
     assert!(rt; are_refused(&rt, rt.alloc(), &LATER_FAULTS));
 }
 
-/// What an APDU says.
+/// The fields that an APDU is to have.
 #[derive(Clone, Copy)]
-enum Says {
+enum Fields {
     /// A request of reliable transfer: an EXTERNAL on context 3 with 17 octets.
     Asks,
     /// A refusal by the user, with no reason given.
@@ -272,21 +272,21 @@ fn is_aborted(apdu: &Acse, by: u8, count: usize) -> bool {
     }
 }
 
-fn says_this(apdu: &Acse, says: Says) -> bool {
-    match says {
-        Says::Asks => asks(apdu),
-        Says::Refuses => refuses(apdu),
-        Says::Releases(number) => releases(apdu, number),
-        Says::Aborts(by, count) => is_aborted(apdu, by, count),
+fn says_this(apdu: &Acse, fields: Fields) -> bool {
+    match fields {
+        Fields::Asks => asks(apdu),
+        Fields::Refuses => refuses(apdu),
+        Fields::Releases(number) => releases(apdu, number),
+        Fields::Aborts(by, count) => is_aborted(apdu, by, count),
     }
 }
 
 /// Whether these octets are an APDU that says this.
-fn is_said(rt: &impl Abort, alloc: Global, text: &str, says: Says) -> bool {
+fn is_said(rt: &impl Abort, alloc: Global, text: &str, fields: Fields) -> bool {
     let octets = octets_of(alloc, text).expect(rt, "memory");
     let read = read_acse(alloc, octets.as_slice());
     let so = match &read {
-        Ok(apdu) => says_this(apdu, says),
+        Ok(apdu) => says_this(apdu, fields),
         Err(_) => false,
     };
     drop(read);
@@ -294,9 +294,9 @@ fn is_said(rt: &impl Abort, alloc: Global, text: &str, says: Says) -> bool {
 }
 
 /// Whether the octets of each row are an APDU that says this.
-fn are_said(rt: &impl Abort, alloc: Global, rows: &[(&'static str, Says)]) -> bool {
-    for (text, says) in rows {
-        if !is_said(rt, alloc, text, *says) {
+fn are_said(rt: &impl Abort, alloc: Global, rows: &[(&'static str, Fields)]) -> bool {
+    for (text, fields) in rows {
+        if !is_said(rt, alloc, text, *fields) {
             return false;
         }
     }
@@ -304,16 +304,16 @@ fn are_said(rt: &impl Abort, alloc: Global, rows: &[(&'static str, Says)]) -> bo
 }
 
 /// Associations.
-const ASSOCIATIONS_SAID: [(&'static str, Says); 2] = [
+const ASSOCIATIONS_SAID: [(&'static str, Fields); 2] = [
     // request of reliable transfer: an EXTERNAL on context 3 with 17 octets
     (
         "60 22 A1 06 06 04 88 37 05 04 BE 18 28 16 02 01 03 A0 11 B0 0F 80 01 01 81 01 02 82 01 01 A3 04 A0 02 05 00",
-        Says::Asks,
+        Fields::Asks,
     ),
     // refusal, by hand: by the user, with no reason given
     (
         "61 14 A1 06 06 04 88 37 05 03 A2 03 02 01 01 A3 05 A1 03 02 01 01",
-        Says::Refuses,
+        Fields::Refuses,
     ),
 ];
 
@@ -323,19 +323,19 @@ fn associations_say_their_fields(rt: HostRuntime) {
 }
 
 /// Releases and aborts.
-const ENDS_SAID: [(&'static str, Says); 5] = [
+const ENDS_SAID: [(&'static str, Fields); 5] = [
     // a release without its reason, which is 0 then
-    ("62 00", Says::Releases(0)),
+    ("62 00", Fields::Releases(0)),
     // by hand, one with the reason 30
-    ("62 03 80 01 1E", Says::Releases(30)),
+    ("62 03 80 01 1E", Fields::Releases(30)),
     // an abort by the user
-    ("64 03 80 01 00", Says::Aborts(0, 0)),
+    ("64 03 80 01 00", Fields::Aborts(0, 0)),
     // by hand, one by association control
-    ("64 03 80 01 01", Says::Aborts(1, 0)),
+    ("64 03 80 01 01", Fields::Aborts(1, 0)),
     // by hand, one by reliable transfer
     (
         "64 11 80 01 00 BE 0C 28 0A 02 01 03 A0 05 B6 03 80 01 04",
-        Says::Aborts(0, 1),
+        Fields::Aborts(0, 1),
     ),
 ];
 
