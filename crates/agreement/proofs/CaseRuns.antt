@@ -59,7 +59,7 @@ first-offer : (p : Pair) → Contains (p ∷ []) p
 first-offer p = (0, omega arith, refl)
 
 -- within the limits
-two_marks : 2 ≤ 4096
+two_marks : 2 ≤ 65536
 two_marks = omega arith
 
 five_octets : 5 ≤ 262400
