@@ -68,7 +68,7 @@ impl Incoming {
 
     /// An activity of this number starts. Of another number than the one behind the last
     /// activity's it is `WrongNumber` with the last one's, and nothing has changed.
-    pub fn start_taken(&mut self, number: u32) -> Result<(), RtseFault>
+    pub fn started(&mut self, number: u32) -> Result<(), RtseFault>
         ensures ok { OnOk result (start_taken number self.old ≡ Ok self.new) }
         ensures err { IfErr result (λ fault. start_taken number self.old ≡ Err fault) }
         ensures stays { OnErr result (self.new ≡ self.old) }
@@ -115,7 +115,7 @@ impl Incoming {
     /// last one with one of its marks, or the one behind it from nothing; else it is `WrongNumber`
     /// with the two activity numbers or, where these are equal, with the highest mark and n, and
     /// nothing has changed.
-    pub fn resumption_taken(&mut self, number: u32, n: u32) -> Result<(), RtseFault>
+    pub fn resumed(&mut self, number: u32, n: u32) -> Result<(), RtseFault>
         ensures ok { OnOk result (resumption_taken number n self.old ≡ Ok self.new) }
         ensures err { IfErr result (λ fault. resumption_taken number n self.old ≡ Err fault) }
         ensures stays { OnErr result (self.new ≡ self.old) }
