@@ -6,8 +6,8 @@ use Rattle.association_hearing.specs.association_state.Seen.{base_in, seen}
 use Rattle.association_requests.proofs.Invoked.{numbered, roomy, next_is, silent_invoked, open_invoked}
 use Rattle.association_requests.proofs.operations.open.Goals as goal
 
-pub pass-requires : goal.pass-requires
-pass-requires c = numbered (operation_at c.args.basis.now.tables.now c.args.making.place) (seen c.args.body.now) c.requires.room c.requires.there
+pub count_silent-requires : goal.count_silent-requires
+count_silent-requires c = numbered (operation_at c.args.basis.now.tables.now c.args.making.place) (seen c.args.body.now) c.requires.room c.requires.there
 
 pub open-requires-clause-numbers : goal.open-requires-clause-numbers
 open-requires-clause-numbers c = numbered (operation_at c.args.basis.now.tables.now c.args.making.place) (seen c.args.body.now) c.requires.room c.requires.there
@@ -18,18 +18,18 @@ open-requires-clause-room c =
 
 pub returns-then-is_silent_at-clause-id : goal.returns-then-is_silent_at-clause-id
 returns-then-is_silent_at-clause-id c =
-    IfOk-weaker c.pass.result _ _
+    IfOk-weaker c.count_silent.result _ _
     (λ id h. h ∙ next_is (seen c.args.body.now) (numbered (operation_at c.args.basis.now.tables.now c.args.making.place) (seen c.args.body.now) c.requires.room c.requires.there))
-    c.pass.ensures.id
+    c.count_silent.ensures.id
 
 pub returns-then-is_silent_at-clause-opened : goal.returns-then-is_silent_at-clause-opened
 returns-then-is_silent_at-clause-opened c =
     let now : Calls = (seen c.args.body.now).calls in
-    on_ok_weaker c.pass.result
+    on_ok_weaker c.count_silent.result
     (λ h. h ∙ silent_invoked (base_in c.args.basis.now) (seen c.args.body.now) c.args.making.context c.args.making.place c.args.making.linked
     (numbered (operation_at c.args.basis.now.tables.now c.args.making.place) (seen c.args.body.now) c.requires.room c.requires.there)
     (record now { made = now.made + 1 }) (sym c.is_silent_at.ensures ∙ c.if-is_silent_at.true) refl)
-    c.pass.ensures.passed
+    c.count_silent.ensures.passed
 
 pub returns-clause-id : goal.returns-clause-id
 returns-clause-id c =
