@@ -92,7 +92,9 @@ abbrev pub has_identifier : Value → Bool
 has_identifier value = nat_lt value.identifier 32768
 
 abbrev pub IsFaithful : Type 0
-IsFaithful = (set : ContextSet) (value : Value) → has_identifier value ≡ true → lookup set value.identifier ≡ Some value.pair → read_plainly set (value.identifier ∷ written_plainly value.apdu) ≡ Some value
+IsFaithful =
+    (set : ContextSet) (value : Value) → has_identifier value ≡ true → lookup set value.identifier ≡ Some value.pair
+    → read_plainly set (value.identifier ∷ written_plainly value.apdu) ≡ Some value
 
 abbrev pub is_name : List ℕ → List ℕ → Bool
 is_name [] [] = true

@@ -155,7 +155,8 @@ packed_error_parts = part (codes "invokeId") identifier_row ∷ part (codes "err
 -- the kind octet is 1 to 4; the alternative 0 is no APDU
 abbrev pub packed_apdu_kinds : List Part
 packed_apdu_kinds =
-    part (codes "none") nothing_row ∷ part (codes "invoke") packed_invoke_row ∷ part (codes "returnResult") packed_result_row ∷ part (codes "returnError") packed_error_row ∷ part (codes "reject") reject_row ∷ []
+    part (codes "none") nothing_row ∷ part (codes "invoke") packed_invoke_row
+    ∷ part (codes "returnResult") packed_result_row ∷ part (codes "returnError") packed_error_row ∷ part (codes "reject") reject_row ∷ []
 
 -- ---- the table
 

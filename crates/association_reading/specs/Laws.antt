@@ -110,13 +110,16 @@ pub record DataAreReadBack : Type 0 where
       meaning base body (with_user (user_octets base.tables (OfData (Values (value ∷ values)))) (unit_of (OfData (Values (value ∷ values))))) start ≡ Ok (OfData (Values (value ∷ values)))
   pub please : (base : Base) (body : Body) (start : ℕ) (tokens : ℕ) (value : DataValue) (values : List DataValue) →
       IsWrittenIn place.Pt (ppdus.Data (pdvs_of base.tables (value ∷ values))) → AreMeantIn base.tables body.sets.held carriage.Transfer (value ∷ values) →
-      meaning base body (with_user (user_octets base.tables (OfMarks (Please (Some tokens) (value ∷ values)))) (unit_of (OfMarks (Please (Some tokens) (value ∷ values))))) start ≡ Ok (OfMarks (Please (Some tokens) (value ∷ values)))
+      meaning base body (with_user (user_octets base.tables (OfMarks (Please (Some tokens) (value ∷ values))))
+      (unit_of (OfMarks (Please (Some tokens) (value ∷ values))))) start ≡ Ok (OfMarks (Please (Some tokens) (value ∷ values)))
   pub finish : (base : Base) (body : Body) (start : ℕ) (transport : Option ℕ) (value : DataValue) (values : List DataValue) →
       IsWrittenIn place.Fn (ppdus.Data (pdvs_of base.tables (value ∷ values))) → AreMeantIn base.tables body.sets.held carriage.Association (value ∷ values) →
-      meaning base body (with_user (user_octets base.tables (OfAssociation (Finish transport (value ∷ values)))) (unit_of (OfAssociation (Finish transport (value ∷ values))))) start ≡ Ok (OfAssociation (Finish transport (value ∷ values)))
+      meaning base body (with_user (user_octets base.tables (OfAssociation (Finish transport (value ∷ values))))
+      (unit_of (OfAssociation (Finish transport (value ∷ values))))) start ≡ Ok (OfAssociation (Finish transport (value ∷ values)))
   pub disconnect : (base : Base) (body : Body) (start : ℕ) (value : DataValue) (values : List DataValue) →
       IsWrittenIn place.Dn (ppdus.Data (pdvs_of base.tables (value ∷ values))) → AreMeantIn base.tables body.sets.held carriage.Association (value ∷ values) →
-      meaning base body (with_user (user_octets base.tables (OfAssociation (Disconnect (value ∷ values)))) (unit_of (OfAssociation (Disconnect (value ∷ values))))) start ≡ Ok (OfAssociation (Disconnect (value ∷ values)))
+      meaning base body (with_user (user_octets base.tables (OfAssociation (Disconnect (value ∷ values))))
+      (unit_of (OfAssociation (Disconnect (value ∷ values))))) start ≡ Ok (OfAssociation (Disconnect (value ∷ values)))
 
 -- An APDU of the module that may be written is what its octets are in data, on a context of the module.
 abbrev pub RemoteIsReadBack : Type 0

@@ -29,7 +29,8 @@ pub record IsHeard (common : Common) : Type 0 where
 pub record IsMeant (common : Common) : Type 0 where
   pub associated : is_bare common.mode ≡ false
   pub carried : (two : Two) (ledger : Ledger) → Speaks common two ledger → (role : Role) → AreCarried common.tables (coming_to role two)
-  pub faultless : (two : Two) (ledger : Ledger) → ReachedWithLedger common two ledger → (role : Role) (message : Message) (left : List Message) (fault : Fault) (body : Body) (aborts : List Message) (shown : List Indication)
+  pub faultless : (two : Two) (ledger : Ledger) → ReachedWithLedger common two ledger → (role : Role) (message : Message) (left : List Message)
+      (fault : Fault) (body : Body) (aborts : List Message) (shown : List Indication)
       → coming_to role two ≡ message ∷ left → react (base_at role common) (body_at role two) message ≡ Fails fault body aborts shown → ⊥
   pub meant : (two : Two) (ledger : Ledger) → Speaks common two ledger → (role : Role) (word : Word) (left : List Message) (body : Body) (answers : List Message) (shown : List Indication) (start : ℕ)
       → coming_to role two ≡ Session word ∷ left → react (base_at role common) (body_at role two) (Session word) ≡ Takes body answers shown
@@ -46,7 +47,8 @@ pub record IsSaid (common : Common) : Type 0 where
 -- neither end ever fails
 abbrev pub AreFaultless : Common → Type 0
 AreFaultless common =
-    (two : Two) (ledger : Ledger) → ReachedWithLedger common two ledger → (role : Role) (message : Message) (left : List Message) (fault : Fault) (body : Body) (aborts : List Message) (shown : List Indication) →
+    (two : Two) (ledger : Ledger) → ReachedWithLedger common two ledger → (role : Role) (message : Message) (left : List Message)
+    (fault : Fault) (body : Body) (aborts : List Message) (shown : List Indication) →
     coming_to role two ≡ message ∷ left → react (base_at role common) (body_at role two) message ≡ Fails fault body aborts shown → ⊥
 
 -- A word of the session alone means itself whatever the sets, so that less is to be presumed.

@@ -66,11 +66,14 @@ pub data Spoken (common : Common) : LineEnds → Type 0 where
   -- An accepted call is made, and sends what it makes due.
   calls : (ends : LineEnds) (role : Role) (call : Call) (answer : Option ℤ) (size : ℕ) → IsUnitSize size → IsCall call → Spoken common ends
       → can_call (base_at role common) (end_at role ends).body call ≡ Ok answer
-      → Spoken common (with_end role (sending common.tables size (end_at role ends) (after_called common.mode (base_at role common) (end_at role ends).body call answer) (due_of (base_at role common) (end_at role ends).body call (Ok answer)) (end_at role ends).line.came) ends)
+      → Spoken common (with_end role (sending common.tables size (end_at role ends)
+      (after_called common.mode (base_at role common) (end_at role ends).body call answer)
+      (due_of (base_at role common) (end_at role ends).body call (Ok answer)) (end_at role ends).line.came) ends)
   -- An end makes a step by itself.
   acts : (ends : LineEnds) (role : Role) (own : OwnAct) (size : ℕ) → IsUnitSize size → Spoken common ends
       → next_own (base_at role common) (end_at role ends).body ≡ Some own
-      → Spoken common (with_end role (sending common.tables size (end_at role ends) (after_step (base_at role common) (end_at role ends).body (step_of own)) (own_messages own) (end_at role ends).line.came) ends)
+      → Spoken common (with_end role (sending common.tables size (end_at role ends)
+      (after_step (base_at role common) (end_at role ends).body (step_of own)) (own_messages own) (end_at role ends).line.came) ends)
   -- Octets go over.
   carries : (ends : LineEnds) (role : Role) (n : ℕ) → Spoken common ends → Spoken common (carried role n ends)
   -- What stands first is taken and answered, passed over, or is a fault, behind which nothing is taken any more.

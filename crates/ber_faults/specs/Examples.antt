@@ -8,7 +8,9 @@ integer = Integer (negsuc 9223372036854775807) (pos 9223372036854775807)
 
 -- SEQUENCE {a INTEGER, b INTEGER DEFAULT 7}
 abbrev pub with_default : List TypeRow
-with_default = integer ∷ Sequence (record { name = codes "a"; inner = record { 0 = 0 }; optional = false; default = None } ∷ record { name = codes "b"; inner = record { 0 = 0 }; optional = false; default = Some (pos 7) } ∷ []) ∷ []
+with_default =
+    integer ∷ Sequence (record { name = codes "a"; inner = record { 0 = 0 }; optional = false; default = None }
+    ∷ record { name = codes "b"; inner = record { 0 = 0 }; optional = false; default = Some (pos 7) } ∷ []) ∷ []
 
 -- SET OF INTEGER
 abbrev pub set_of_integers : List TypeRow
@@ -20,7 +22,9 @@ string_table = OctetString 100 ∷ []
 
 -- SET {a INTEGER, b BOOLEAN OPTIONAL}
 abbrev pub number_and_flag : List TypeRow
-number_and_flag = integer ∷ Boolean ∷ Set (record { name = codes "a"; inner = record { 0 = 0 }; optional = false; default = None } ∷ record { name = codes "b"; inner = record { 0 = 1 }; optional = true; default = None } ∷ []) ∷ []
+number_and_flag =
+    integer ∷ Boolean ∷ Set (record { name = codes "a"; inner = record { 0 = 0 }; optional = false; default = None }
+    ∷ record { name = codes "b"; inner = record { 0 = 1 }; optional = true; default = None } ∷ []) ∷ []
 
 -- {a 5, b 7} with the default written
 abbrev pub default_written : List ℕ

@@ -182,7 +182,8 @@ IsNoPart begins p scope at =
 pub data PartsFault (begins : ℕ → Class → ℕ → Bool) (inner : ℕ → Spelled) (W : ℕ → WrongAs) (scope : Scope) : List Part → Spot → ReadFault → Type 0 where
   part_ahead : (ps : List Part) (at : Spot) (f : ReadFault) → AheadFault scope at.place at.rest f → PartsFault begins inner W scope ps at f
   part_extra : (at : Spot) (o : Opened) (s : Spot) (f : ReadFault) → Begins scope at o s → IsAt at.place Extra f → PartsFault begins inner W scope [] at f
-  part_missing : (p : Part) (ps : List Part) (at : Spot) (f : ReadFault) → IsNoPart begins p scope at → may_be_absent p ≡ false → IsAt at.place Missing f → PartsFault begins inner W scope (p ∷ ps) at f
+  part_missing : (p : Part) (ps : List Part) (at : Spot) (f : ReadFault) → IsNoPart begins p scope at → may_be_absent p ≡ false → IsAt at.place Missing f
+      → PartsFault begins inner W scope (p ∷ ps) at f
   part_inside : (p : Part) (ps : List Part) (at : Spot) (o : Opened) (s : Spot) (f : ReadFault) → Begins scope at o s → begins p.inner.0 o.class o.number ≡ true
       → W p.inner.0 (bare p.default) scope o s f → PartsFault begins inner W scope (p ∷ ps) at f
   part_left_out : (p : Part) (ps : List Part) (at : Spot) (f : ReadFault) → IsNoPart begins p scope at → may_be_absent p ≡ true

@@ -284,7 +284,8 @@ TaggedIs false inner class number guise strict levels v spelled = inner (under (
 abbrev pub RowIs : (ℕ → Value → List ℕ) → (ℕ → Spelled) → TypeRow → Spelled
 RowIs spell inner row.Boolean guise strict levels v spelled = IsPrimitive (tag_or guise.tag Universal 1) strict levels (λ c. BooleanIs strict v c × IsOther guise.default strict v) spelled
 RowIs spell inner (row.Integer low high) guise strict levels v spelled = IsPrimitive (tag_or guise.tag Universal 2) strict levels (λ c. IntegerIs low high v c × IsOther guise.default strict v) spelled
-RowIs spell inner (row.Enumerated items) guise strict levels v spelled = IsPrimitive (tag_or guise.tag Universal 10) strict levels (λ c. EnumeratedIs items v c × IsOther guise.default strict v) spelled
+RowIs spell inner (row.Enumerated items) guise strict levels v spelled =
+    IsPrimitive (tag_or guise.tag Universal 10) strict levels (λ c. EnumeratedIs items v c × IsOther guise.default strict v) spelled
 RowIs spell inner row.Null guise strict levels v spelled = IsPrimitive (tag_or guise.tag Universal 5) strict levels (NullIs v) spelled
 RowIs spell inner (row.OctetString most) guise strict levels v spelled = StringIs OfOctets (whole_octets most) always (tag_or guise.tag Universal 4) strict levels v spelled
 RowIs spell inner row.BitString guise strict levels v spelled = StringIs OfBits whole_bits has_zero_bits (tag_or guise.tag Universal 3) strict levels v spelled

@@ -28,7 +28,8 @@ pub record AreReliable (tables : Tables) (a b : Config) : Type 0 where
 
 abbrev pub EverInRuns : (Ends → World → Type 0) → Type 0
 EverInRuns Law =
-    (tables : Tables) (a b : Config) → AreReliable tables a b → (all : List Event) (told : List Entry) (w : World) → AreEvents all → Runs (ends_of tables a b) [] all told w → Law (ends_of tables a b) w
+    (tables : Tables) (a b : Config) → AreReliable tables a b → (all : List Event) (told : List Entry) (w : World) → AreEvents all
+    → Runs (ends_of tables a b) [] all told w → Law (ends_of tables a b) w
 
 -- each message that is taken is the one that was sent in its place, at each moment
 abbrev pub ReliableRunsTakeInPlace : Type 0

@@ -54,7 +54,8 @@ DirectEndsTake =
 abbrev pub DirectValuesAreAsSent : Type 0
 DirectValuesAreAsSent =
     (free : Free) (tables : Tables) (transfers : Transfers) (a b : Config) → WritesAll free → IsReadable tables → IsDirect a →
-    (two : Two) (shared : Shared) (sets : SetsSent) (role : Role) (value : DataValue) (left : List Message) (set : List SetItem) (sets_left : List (List SetItem)) (body : Body) (answers : List Message) (shown : List Indication) →
+    (two : Two) (shared : Shared) (sets : SetsSent) (role : Role) (value : DataValue) (left : List Message)
+    (set : List SetItem) (sets_left : List (List SetItem)) (body : Body) (answers : List Message) (shown : List Indication) →
     Shares (direct_ends tables transfers a b) two shared sets →
     coming_to role two ≡ Session (OfData (Values (value ∷ []))) ∷ left → sets_to role sets ≡ set ∷ sets_left →
     react (base_at role (direct_ends tables transfers a b)) (body_at role two) (Session (OfData (Values (value ∷ [])))) ≡ Takes body answers shown →

@@ -74,7 +74,8 @@ pub data Reached (common : Common) : Two → Type 0 where
   begins : Reached common (two_new common)
   calls : (two : Two) (role : Role) (call : Call) (answer : Option ℤ) → Reached common two
       → can_call (base_at role common) (body_at role two) call ≡ Ok answer
-      → Reached common (stepped role (after_called common.mode (base_at role common) (body_at role two) call answer) (coming_to role two) (due_of (base_at role common) (body_at role two) call (Ok answer)) two)
+      → Reached common (stepped role (after_called common.mode (base_at role common) (body_at role two) call answer)
+      (coming_to role two) (due_of (base_at role common) (body_at role two) call (Ok answer)) two)
   takes : (two : Two) (role : Role) (message : Message) (left : List Message) (body : Body) (answers : List Message) (shown : List Indication) → Reached common two
       → coming_to role two ≡ message ∷ left → react (base_at role common) (body_at role two) message ≡ Takes body answers shown
       → Reached common (stepped role body left answers two)

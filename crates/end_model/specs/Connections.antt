@@ -28,17 +28,21 @@ pub record ConnectionsAct : Type 0 where
   -- a CC brings the CN
   pub connects : (mode : Mode) (destination : ℕ) (size : Option ℕ) (free : Free) (base : Base) (proposed : List Proposal) (body : Body) → IsAssociated mode →
       body.link.phase ≡ Opening → transport_unit_fault (at mode base) body (ConnectionConfirm destination size) ≡ None →
-      ActsAs free mode base proposed body (after_transport (at mode base) body (ConnectionConfirm destination size)) (answers_to_transport (at mode base) body (ConnectionConfirm destination size)) Connects
+      ActsAs free mode base proposed body (after_transport (at mode base) body (ConnectionConfirm destination size))
+      (answers_to_transport (at mode base) body (ConnectionConfirm destination size)) Connects
   pub recovers : (destination : ℕ) (size : Option ℕ) (free : Free) (base : Base) (proposed : List Proposal) (body : Body) →
       body.link.phase ≡ Recovering → transport_unit_fault (at Reliable base) body (ConnectionConfirm destination size) ≡ None →
-      ActsAs free Reliable base proposed body (after_transport (at Reliable base) body (ConnectionConfirm destination size)) (answers_to_transport (at Reliable base) body (ConnectionConfirm destination size)) Recovers
+      ActsAs free Reliable base proposed body (after_transport (at Reliable base) body (ConnectionConfirm destination size))
+      (answers_to_transport (at Reliable base) body (ConnectionConfirm destination size)) Recovers
   -- a DR refuses the connection
   pub fails : (mode : Mode) (destination : ℕ) (free : Free) (base : Base) (proposed : List Proposal) (body : Body) → IsAssociated mode →
       body.link.phase ≡ Opening → transport_unit_fault (at mode base) body (DisconnectRequest destination) ≡ None →
-      ActsAs free mode base proposed body (after_transport (at mode base) body (DisconnectRequest destination)) (answers_to_transport (at mode base) body (DisconnectRequest destination)) TransportFails
+      ActsAs free mode base proposed body (after_transport (at mode base) body (DisconnectRequest destination))
+      (answers_to_transport (at mode base) body (DisconnectRequest destination)) TransportFails
   pub recovery_fails : (mode : Mode) (destination : ℕ) (free : Free) (base : Base) (proposed : List Proposal) (body : Body) → IsAssociated mode →
       body.link.phase ≡ Recovering → transport_unit_fault (at mode base) body (DisconnectRequest destination) ≡ None →
-      ActsAs free mode base proposed body (after_transport (at mode base) body (DisconnectRequest destination)) (answers_to_transport (at mode base) body (DisconnectRequest destination)) TransportFails
+      ActsAs free mode base proposed body (after_transport (at mode base) body (DisconnectRequest destination))
+      (answers_to_transport (at mode base) body (DisconnectRequest destination)) TransportFails
   -- an own abort, with an AB once a CN was sent or taken
   pub aborts : (mode : Mode) (free : Free) (base : Base) (proposed : List Proposal) (body : Body) (answer : Option ℤ) → IsAssociated mode →
       body.link.stage ≡ Carrying → can_call (at mode base) body the_calls.Abort ≡ Ok answer →

@@ -62,16 +62,25 @@ pub data Shares (common : Common) : Two → Shared → SetsSent → Type 0 where
   begins : Shares common (two_new common) (shared_first (base_at Initiator common)) none_sent
   calls : (two : Two) (shared : Shared) (sets : SetsSent) (role : Role) (call : Call) (answer : Option ℤ) → Shares common two shared sets
       → can_call (base_at role common) (body_at role two) call ≡ Ok answer
-      → Shares common (stepped role (after_called common.mode (base_at role common) (body_at role two) call answer) (coming_to role two) (due_of (base_at role common) (body_at role two) call (Ok answer)) two)
+      → Shares common (stepped role (after_called common.mode (base_at role common) (body_at role two) call answer)
+      (coming_to role two) (due_of (base_at role common) (body_at role two) call (Ok answer)) two)
       (shared_all_sent common.mode (side_of role) (due_of (base_at role common) (body_at role two) call (Ok answer)) shared)
       (sets_stepped role (sets_to role sets) (before shared (due_of (base_at role common) (body_at role two) call (Ok answer))) sets)
-  takes : (two : Two) (shared : Shared) (sets : SetsSent) (role : Role) (message : Message) (left : List Message) (set : List SetItem) (sets_left : List (List SetItem)) (body : Body) (answers : List Message) (shown : List Indication) → Shares common two shared sets
+  takes : (two : Two) (shared : Shared) (sets : SetsSent) (role : Role) (message : Message) (left : List Message)
+      (set : List SetItem) (sets_left : List (List SetItem))
+      (body : Body) (answers : List Message) (shown : List Indication)
+      → Shares common two shared sets
       → coming_to role two ≡ message ∷ left → sets_to role sets ≡ set ∷ sets_left → react (base_at role common) (body_at role two) message ≡ Takes body answers shown
       → Shares common (stepped role body left answers two) (shared_all_answered (base_at role common) message answers shared) (sets_stepped role sets_left (before shared answers) sets)
-  passes : (two : Two) (shared : Shared) (sets : SetsSent) (role : Role) (message : Message) (left : List Message) (set : List SetItem) (sets_left : List (List SetItem)) → Shares common two shared sets
+  passes : (two : Two) (shared : Shared) (sets : SetsSent) (role : Role) (message : Message) (left : List Message)
+      (set : List SetItem) (sets_left : List (List SetItem))
+      → Shares common two shared sets
       → coming_to role two ≡ message ∷ left → sets_to role sets ≡ set ∷ sets_left → react (base_at role common) (body_at role two) message ≡ Passes
       → Shares common (stepped role (body_at role two) left [] two) shared (sets_stepped role sets_left [] sets)
-  fails : (two : Two) (shared : Shared) (sets : SetsSent) (role : Role) (message : Message) (left : List Message) (set : List SetItem) (sets_left : List (List SetItem)) (fault : Fault) (body : Body) (aborts : List Message) (shown : List Indication) → Shares common two shared sets
+  fails : (two : Two) (shared : Shared) (sets : SetsSent) (role : Role) (message : Message) (left : List Message)
+      (set : List SetItem) (sets_left : List (List SetItem))
+      (fault : Fault) (body : Body) (aborts : List Message) (shown : List Indication)
+      → Shares common two shared sets
       → coming_to role two ≡ message ∷ left → sets_to role sets ≡ set ∷ sets_left → react (base_at role common) (body_at role two) message ≡ Fails fault body aborts shown
       → Shares common (stepped role body left aborts two) (shared_all_sent common.mode (side_of role) aborts shared) (sets_stepped role sets_left (before shared aborts) sets)
   breaks : (two : Two) (shared : Shared) (sets : SetsSent) → Shares common two shared sets → Shares common (both_broke common two) shared none_sent
@@ -82,7 +91,8 @@ abbrev pub DirectAsSent : Type 0
 DirectAsSent =
     (free : Free) (tables : Tables) (spellings : Spellings) (a b : Config) → WritesAll free →
     ReadsBack (base_at Initiator (direct_common tables spellings a b)) → ProposesRightly (direct_common tables spellings a b) →
-    (two : Two) (shared : Shared) (sets : SetsSent) (role : Role) (value : DataValue) (left : List Message) (set : List SetItem) (sets_left : List (List SetItem)) (body : Body) (answers : List Message) (shown : List Indication) →
+    (two : Two) (shared : Shared) (sets : SetsSent) (role : Role) (value : DataValue) (left : List Message)
+    (set : List SetItem) (sets_left : List (List SetItem)) (body : Body) (answers : List Message) (shown : List Indication) →
     Shares (direct_common tables spellings a b) two shared sets →
     coming_to role two ≡ Session (OfData (Values (value ∷ []))) ∷ left → sets_to role sets ≡ set ∷ sets_left →
     react (base_at role (direct_common tables spellings a b)) (body_at role two) (Session (OfData (Values (value ∷ [])))) ≡ Takes body answers shown →

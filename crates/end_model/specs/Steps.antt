@@ -33,7 +33,8 @@ pub record EndOf (free : Free) (common : Common) (proposed : List Proposal) (wor
   pub flight : AreOnWay proposed (base_at Initiator common) coming (flight_to (setup_of free common) role world)
 
 -- a run, the end of this role, and the other
-pub record RunWithBoth (free : Free) (common : Common) (proposed : List Proposal) (world : World) (role : Role) (body : Body) (coming : List Message) (peer : Body) (to_peer : List Message) : Type 0 where
+pub record RunWithBoth (free : Free) (common : Common) (proposed : List Proposal) (world : World)
+    (role : Role) (body : Body) (coming : List Message) (peer : Body) (to_peer : List Message) : Type 0 where
   pub run : IsRun (setup_of free common) world
   pub own : EndOf free common proposed world role body coming
   pub others : EndOf free common proposed world (other role) peer to_peer
@@ -47,15 +48,18 @@ ActsKept =
 
 -- The word that comes next has no fault, and is taken, where the end isn't over and doesn't pass it over: what the word means
 -- may be taken in every run, and with that the word is taken as the message.
-pub record TookIt (free : Free) (common : Common) (proposed : List Proposal) (world : World) (role : Role) (body : Body) (word : Word) (left : List Message) (peer : Body) (to_peer : List Message) (choice : Choice) : Type 0 where
+pub record TookIt (free : Free) (common : Common) (proposed : List Proposal) (world : World)
+    (role : Role) (body : Body) (word : Word) (left : List Message) (peer : Body) (to_peer : List Message) (choice : Choice) : Type 0 where
   pub message : ModelMessage
   pub means : Means proposed (base_at Initiator common) word message
   pub no_fault : word_fault (base_at role common) body word ≡ None
-  pub ends : RunWithBoth free common proposed (By role (Takes message choice) ∷ world) role (after_word (base_at role common) body word) left peer (to_peer ++ answers_to_word (base_at role common) body word)
+  pub ends : RunWithBoth free common proposed (By role (Takes message choice) ∷ world) role
+      (after_word (base_at role common) body word) left peer (to_peer ++ answers_to_word (base_at role common) body word)
 
 abbrev pub TakesKept : Type 0
 TakesKept =
-    (free : Free) (common : Common) (proposed : List Proposal) (world : World) (role : Role) (body : Body) (word : Word) (left : List Message) (peer : Body) (to_peer : List Message) (choice : Choice) →
+    (free : Free) (common : Common) (proposed : List Proposal) (world : World)
+    (role : Role) (body : Body) (word : Word) (left : List Message) (peer : Body) (to_peer : List Message) (choice : Choice) →
     RunWithBoth free common proposed world role body (Session word ∷ left) peer to_peer →
     ((seen (base_at role common) body).phase ≡ Over → ⊥) →
     ((message : ModelMessage) → Means proposed (base_at Initiator common) word message → is_purged role (seen (base_at role common) body).awaits message ≡ false) →

@@ -75,7 +75,18 @@ plain_spellings =
     }
 
 abbrev pub calc : Tables
-calc = record { name = codes "Calc"; name_oid = module_name; types = []; operations = two_operations; errors = []; few_operations = lit< tt; few_errors = lit< tt; operation_codes = refl; error_codes = refl }
+calc =
+    record {
+      name = codes "Calc";
+      name_oid = module_name;
+      types = [];
+      operations = two_operations;
+      errors = [];
+      few_operations = lit< tt;
+      few_errors = lit< tt;
+      operation_codes = refl;
+      error_codes = refl;
+    }
 
 abbrev pub proposal_of : ℕ → List ℕ → Proposal
 proposal_of id transfer = record { id = id; abstract_name = module_name; transfers = transfer ∷ [] }

@@ -44,4 +44,7 @@ AreFound all places = (name : List ℕ) → get_by (λ (k : Bor (List ℕ)). byt
 
 -- a name has this place now, unless it had one, and other names have what they had
 abbrev pub IsAdded : {S : Type 0} → HashMap (Bor (List ℕ)) ℕ S → HashMap (Bor (List ℕ)) ℕ S → List ℕ → ℕ → Type 0
-IsAdded old new name place = (other : List ℕ) → get_by (λ (k : Bor (List ℕ)). bytes_eq other k.now) new ≡ option_or (get_by (λ (k : Bor (List ℕ)). bytes_eq other k.now) old) (cond (bytes_eq other name) (Some place) None)
+IsAdded old new name place =
+    (other : List ℕ) → get_by (λ (k : Bor (List ℕ)). bytes_eq other k.now) new
+    ≡ option_or (get_by (λ (k : Bor (List ℕ)). bytes_eq other k.now) old)
+    (cond (bytes_eq other name) (Some place) None)

@@ -17,7 +17,9 @@ TablesOrFault = (octets : List ℕ) (tables : Tables) (line column : ℕ) (kind 
 
 -- Octets are refused for one fault, at one place.
 abbrev pub OneFault : Type 0
-OneFault = (octets : List ℕ) (line column other_line other_column : ℕ) (kind other_kind : ModuleKind) → IsRefused octets (faults.At line column kind) → IsRefused octets (faults.At other_line other_column other_kind)
+OneFault =
+    (octets : List ℕ) (line column other_line other_column : ℕ) (kind other_kind : ModuleKind)
+    → IsRefused octets (faults.At line column kind) → IsRefused octets (faults.At other_line other_column other_kind)
     → faults.At line column kind ≡ faults.At other_line other_column other_kind
 
 -- Octets that have tables are without a fault.

@@ -49,4 +49,6 @@ IsRefused bytes faults.NoMemory = Unit {0}
 
 -- Octets without a fault: a table file that loads, or a text that reads as a module without a fault.
 abbrev pub IsFaultless : List ℕ → Type 0
-IsFaultless bytes = ((is_table_file bytes ≡ true) × ((contents : Contents) × (load_of bytes ≡ Ok contents))) ⊎ ((is_table_file bytes ≡ false) × ((read : ModuleText) × (module_of bytes ≡ Ok read) × HasNoFault read))
+IsFaultless bytes =
+    ((is_table_file bytes ≡ true) × ((contents : Contents) × (load_of bytes ≡ Ok contents)))
+    ⊎ ((is_table_file bytes ≡ false) × ((read : ModuleText) × (module_of bytes ≡ Ok read) × HasNoFault read))

@@ -13,14 +13,28 @@ use Rattle.notation_tokens.specs.declared.token.Place.{Place}
 
 -- the words that the grammar quotes; none of them is a name
 abbrev pub quoted : List (List ℕ)
-quoted = codes "DEFINITIONS" ∷ codes "EXPLICIT" ∷ codes "IMPLICIT" ∷ codes "TAGS" ∷ codes "BEGIN" ∷ codes "END" ∷ codes "IMPORTS" ∷ codes "FROM" ∷ codes "OPERATION" ∷ codes "ERROR" ∷ codes "ARGUMENT" ∷ codes "OPTIONAL" ∷ codes "DEFAULT" ∷ codes "RESULT" ∷ codes "RETURN" ∷ codes "ERRORS" ∷ codes "LINKED" ∷ codes "SYNCHRONOUS" ∷ codes "IDEMPOTENT" ∷ codes "ALWAYS" ∷ codes "RESPONDS" ∷ codes "INVOKE" ∷ codes "PRIORITY" ∷ codes "RESULT-PRIORITY" ∷ codes "CODE" ∷ codes "PARAMETER" ∷ codes "TRUE" ∷ codes "FALSE" ∷ codes "UNIVERSAL" ∷ codes "APPLICATION" ∷ codes "PRIVATE" ∷ codes "BOOLEAN" ∷ codes "NULL" ∷ codes "INTEGER" ∷ codes "ENUMERATED" ∷ codes "OCTET" ∷ codes "STRING" ∷ codes "SIZE" ∷ codes "BIT" ∷ codes "OBJECT" ∷ codes "IDENTIFIER" ∷ codes "UTF8String" ∷ codes "IA5String" ∷ codes "VisibleString" ∷ codes "PrintableString" ∷ codes "NumericString" ∷ codes "SEQUENCE" ∷ codes "OF" ∷ codes "SET" ∷ codes "CHOICE" ∷ codes "MIN" ∷ codes "MAX" ∷ []
+quoted =
+    codes "DEFINITIONS" ∷ codes "EXPLICIT" ∷ codes "IMPLICIT" ∷ codes "TAGS" ∷ codes "BEGIN"
+    ∷ codes "END" ∷ codes "IMPORTS" ∷ codes "FROM" ∷ codes "OPERATION" ∷ codes "ERROR"
+    ∷ codes "ARGUMENT" ∷ codes "OPTIONAL" ∷ codes "DEFAULT" ∷ codes "RESULT" ∷ codes "RETURN"
+    ∷ codes "ERRORS" ∷ codes "LINKED" ∷ codes "SYNCHRONOUS" ∷ codes "IDEMPOTENT" ∷ codes "ALWAYS"
+    ∷ codes "RESPONDS" ∷ codes "INVOKE" ∷ codes "PRIORITY" ∷ codes "RESULT-PRIORITY" ∷ codes "CODE"
+    ∷ codes "PARAMETER" ∷ codes "TRUE" ∷ codes "FALSE" ∷ codes "UNIVERSAL" ∷ codes "APPLICATION"
+    ∷ codes "PRIVATE" ∷ codes "BOOLEAN" ∷ codes "NULL" ∷ codes "INTEGER" ∷ codes "ENUMERATED"
+    ∷ codes "OCTET" ∷ codes "STRING" ∷ codes "SIZE" ∷ codes "BIT" ∷ codes "OBJECT"
+    ∷ codes "IDENTIFIER" ∷ codes "UTF8String" ∷ codes "IA5String" ∷ codes "VisibleString"
+    ∷ codes "PrintableString" ∷ codes "NumericString" ∷ codes "SEQUENCE" ∷ codes "OF" ∷ codes "SET"
+    ∷ codes "CHOICE" ∷ codes "MIN" ∷ codes "MAX" ∷ []
 
 unfoldable pub is_quoted : List ℕ → Bool
 is_quoted text = list_any (same text) quoted
 
 -- what is left out of the notation, and refused where it stands
 abbrev pub unsupported : List (List ℕ)
-unsupported = codes "AUTOMATIC" ∷ codes "EXPORTS" ∷ codes "..." ∷ codes "REAL" ∷ codes "ANY" ∷ codes "CLASS" ∷ codes "COMPONENTS" ∷ codes "WITH" ∷ codes "EMBEDDED" ∷ codes "EXTERNAL" ∷ codes "TYPE-IDENTIFIER" ∷ codes "ABSENT" ∷ codes "PRESENT" ∷ codes "/*" ∷ []
+unsupported =
+    codes "AUTOMATIC" ∷ codes "EXPORTS" ∷ codes "..." ∷ codes "REAL" ∷ codes "ANY" ∷ codes "CLASS"
+    ∷ codes "COMPONENTS" ∷ codes "WITH" ∷ codes "EMBEDDED" ∷ codes "EXTERNAL"
+    ∷ codes "TYPE-IDENTIFIER" ∷ codes "ABSENT" ∷ codes "PRESENT" ∷ codes "/*" ∷ []
 
 unfoldable pub is_unsupported : List ℕ → Bool
 is_unsupported text = list_any (same text) unsupported

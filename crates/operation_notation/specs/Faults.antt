@@ -27,7 +27,8 @@ pub record Begins (ext : Extent) (front : List Lexeme) : Type 0 where
   pub formed : AllByRecursion IsFormed back
   pub spelled : Module ext (front ++ back) whole
 
--- What isn't supported: what is so wherever it stands (`kind_at`: a word or sign of the list), and that with which the wide grammar goes on: a brace behind a Name, an import of another name, and the first token of a type one level too deep.
+-- What isn't supported: what is so wherever it stands (`kind_at`: a word or sign of the list), and that with which the wide grammar goes on:
+-- a brace behind a Name, an import of another name, and the first token of a type one level too deep.
 abbrev pub IsUnsupported : List Lexeme → Lexeme → List Lexeme → Type 0
 IsUnsupported front token behind = (kind_at (token ∷ behind) ≡ Unsupported) ⊎ Begins wide (front ++ token ∷ [])
 

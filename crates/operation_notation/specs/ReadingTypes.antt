@@ -236,7 +236,11 @@ type_text_at ext inner = do
 
 -- the words with which a type begins
 abbrev pub type_words : List (List ℕ)
-type_words = codes "[" ∷ codes "SEQUENCE" ∷ codes "SET" ∷ codes "CHOICE" ∷ codes "BOOLEAN" ∷ codes "NULL" ∷ codes "INTEGER" ∷ codes "ENUMERATED" ∷ codes "OCTET" ∷ codes "BIT" ∷ codes "OBJECT" ∷ codes "UTF8String" ∷ codes "IA5String" ∷ codes "VisibleString" ∷ codes "PrintableString" ∷ codes "NumericString" ∷ []
+type_words =
+    codes "[" ∷ codes "SEQUENCE" ∷ codes "SET" ∷ codes "CHOICE" ∷ codes "BOOLEAN" ∷ codes "NULL"
+    ∷ codes "INTEGER" ∷ codes "ENUMERATED" ∷ codes "OCTET" ∷ codes "BIT" ∷ codes "OBJECT"
+    ∷ codes "UTF8String" ∷ codes "IA5String" ∷ codes "VisibleString" ∷ codes "PrintableString"
+    ∷ codes "NumericString" ∷ []
 
 -- a token with which a type begins
 abbrev pub starts_type : List Lexeme → Bool

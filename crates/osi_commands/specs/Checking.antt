@@ -53,7 +53,8 @@ pub record IsShownDone (told : Option FileMap) (old new : ℕ) (check : Check) (
 pub record IsCheckDue (map : FileMap) (check : Check) (sink_old sink_new : ℕ) (status : Status) : Type 0 where
   pub no_module : map check.«module» ≡ None → IsUnless sink_old sink_new ReadFault status
   pub tables : (octets : List ℕ) (tables : Tables) → map check.«module» ≡ Some octets → HasTables octets tables → IsUnless sink_old sink_new Done status
-  pub fault : (octets : List ℕ) (line column : ℕ) (kind : ModuleKind) → map check.«module» ≡ Some octets → IsRefused octets (faults.At line column kind) → IsUnless sink_old sink_new ModuleRefused status
+  pub fault : (octets : List ℕ) (line column : ℕ) (kind : ModuleKind) → map check.«module» ≡ Some octets → IsRefused octets (faults.At line column kind)
+      → IsUnless sink_old sink_new ModuleRefused status
   pub no_tables : (octets : List ℕ) → map check.«module» ≡ Some octets → HasNoTables octets → IsUnless sink_old sink_new ModuleRefused status
   pub no_fault : (octets : List ℕ) → map check.«module» ≡ Some octets → HasNoFault octets → IsUnless sink_old sink_new Done status
   pub there : (octets : List ℕ) → map check.«module» ≡ Some octets → IsUnless sink_old sink_new Done status ⊎ IsUnless sink_old sink_new ModuleRefused status

@@ -122,21 +122,28 @@ pub data ReachedWithExchanges (common : Common) : Two → Ledger → Exchanges �
   begins : ReachedWithExchanges common (two_new common) (first_ledger common) (record { a = nothing_exchanged; b = nothing_exchanged })
   calls : (two : Two) (ledger : Ledger) (exchanges : Exchanges) (role : Role) (call : Call) (answer : Option ℤ) → ReachedWithExchanges common two ledger exchanges
       → can_call (base_at role common) (body_at role two) call ≡ Ok answer
-      → ReachedWithExchanges common (stepped role (after_called common.mode (base_at role common) (body_at role two) call answer) (coming_to role two) (due_of (base_at role common) (body_at role two) call (Ok answer)) two)
+      → ReachedWithExchanges common (stepped role (after_called common.mode (base_at role common) (body_at role two) call answer)
+      (coming_to role two) (due_of (base_at role common) (body_at role two) call (Ok answer)) two)
       (after_sending common role (due_of (base_at role common) (body_at role two) call (Ok answer)) ledger)
-      (on_exchange role (calls_so (apdus_of (base_at role common) (body_at role two) call answer) (asked_by call answer)) (gets (due_of (base_at role common) (body_at role two) call (Ok answer))) exchanges)
+      (on_exchange role (calls_so (apdus_of (base_at role common) (body_at role two) call answer) (asked_by call answer))
+      (gets (due_of (base_at role common) (body_at role two) call (Ok answer))) exchanges)
   acts : (two : Two) (ledger : Ledger) (exchanges : Exchanges) (role : Role) (own : OwnAct) → ReachedWithExchanges common two ledger exchanges
       → next_own (base_at role common) (body_at role two) ≡ Some own
-      → ReachedWithExchanges common (stepped role (after_step (base_at role common) (body_at role two) (step_of own)) (coming_to role two) (own_messages own) two) (after_own common role (body_at role two) own ledger)
+      → ReachedWithExchanges common (stepped role (after_step (base_at role common) (body_at role two) (step_of own)) (coming_to role two) (own_messages own) two)
+      (after_own common role (body_at role two) own ledger)
       (on_exchange role stays (gets (own_messages own)) exchanges)
-  takes : (two : Two) (ledger : Ledger) (exchanges : Exchanges) (role : Role) (message : Message) (left : List Message) (body : Body) (answers : List Message) (shown : List Indication) → ReachedWithExchanges common two ledger exchanges
+  takes : (two : Two) (ledger : Ledger) (exchanges : Exchanges) (role : Role) (message : Message) (left : List Message)
+      (body : Body) (answers : List Message) (shown : List Indication)
+      → ReachedWithExchanges common two ledger exchanges
       → coming_to role two ≡ message ∷ left → react (base_at role common) (body_at role two) message ≡ Takes body answers shown
       → ReachedWithExchanges common (stepped role body left answers two) (after_taking common role (body_at role two) message answers ledger)
       (on_exchange role (takes_so (base_at role common) (body_at role two) message shown) (gets answers) exchanges)
   passes : (two : Two) (ledger : Ledger) (exchanges : Exchanges) (role : Role) (message : Message) (left : List Message) → ReachedWithExchanges common two ledger exchanges
       → coming_to role two ≡ message ∷ left → react (base_at role common) (body_at role two) message ≡ Passes
       → ReachedWithExchanges common (stepped role (body_at role two) left [] two) ledger (on_exchange role (meets message) stays exchanges)
-  fails : (two : Two) (ledger : Ledger) (exchanges : Exchanges) (role : Role) (message : Message) (left : List Message) (fault : Fault) (body : Body) (aborts : List Message) (shown : List Indication) → ReachedWithExchanges common two ledger exchanges
+  fails : (two : Two) (ledger : Ledger) (exchanges : Exchanges) (role : Role) (message : Message) (left : List Message)
+      (fault : Fault) (body : Body) (aborts : List Message) (shown : List Indication)
+      → ReachedWithExchanges common two ledger exchanges
       → coming_to role two ≡ message ∷ left → react (base_at role common) (body_at role two) message ≡ Fails fault body aborts shown
       → ReachedWithExchanges common (stepped role body left aborts two) (after_sending common role aborts ledger) (on_exchange role (meets message) (gets aborts) exchanges)
   breaks : (two : Two) (ledger : Ledger) (exchanges : Exchanges) → ReachedWithExchanges common two ledger exchanges

@@ -102,7 +102,10 @@ ShortIsWithin = (rows : List TypeRow) (n limit : ℕ) (bytes : List ℕ) → rea
 
 -- under a larger limit every answer but TooLong stays
 abbrev pub WiderStays : Type 0
-WiderStays = (rows : List TypeRow) (n limit more : ℕ) (bytes : List ℕ) → limit ≤ more → ((place : ℕ) → read_at rows n limit bytes ≢ Err (TooLong place)) → read_at rows n more bytes ≡ read_at rows n limit bytes
+WiderStays =
+    (rows : List TypeRow) (n limit more : ℕ) (bytes : List ℕ) → limit ≤ more
+    → ((place : ℕ) → read_at rows n limit bytes ≢ Err (TooLong place))
+    → read_at rows n more bytes ≡ read_at rows n limit bytes
 
 -- and what is read with more octets than the smaller limit is TooLong there
 abbrev pub WiderIsLong : Type 0

@@ -8,7 +8,9 @@ integer = Integer (negsuc 9223372036854775807) (pos 9223372036854775807)
 
 -- SEQUENCE {a INTEGER, b INTEGER DEFAULT 7}
 abbrev pub with_default : List TypeRow
-with_default = integer ∷ Sequence (record { name = codes "a"; inner = record { 0 = 0 }; optional = false; default = None } ∷ record { name = codes "b"; inner = record { 0 = 0 }; optional = false; default = Some (pos 7) } ∷ []) ∷ []
+with_default =
+    integer ∷ Sequence (record { name = codes "a"; inner = record { 0 = 0 }; optional = false; default = None }
+    ∷ record { name = codes "b"; inner = record { 0 = 0 }; optional = false; default = Some (pos 7) } ∷ []) ∷ []
 
 -- SET OF INTEGER
 abbrev pub set_of_integers : List TypeRow

@@ -41,7 +41,9 @@ default_field = record { class = Context; number = 6; holds = holds.Any; optiona
 
 -- CP: version, calling, called, definitions, default context, requirements, session requirements, user data
 abbrev pub connect_fields : List known.Field
-connect_fields = of_row Context 0 32 true ∷ of_row Context 1 33 true ∷ of_row Context 2 34 true ∷ of_row Context 4 36 true ∷ default_field ∷ of_row Context 8 39 true ∷ of_row Context 9 40 true ∷ user_field ∷ []
+connect_fields =
+    of_row Context 0 32 true ∷ of_row Context 1 33 true ∷ of_row Context 2 34 true ∷ of_row Context 4 36 true
+    ∷ default_field ∷ of_row Context 8 39 true ∷ of_row Context 9 40 true ∷ user_field ∷ []
 
 -- before the user data
 abbrev pub connect_passed : List over.Passed

@@ -67,19 +67,26 @@ abbrev pub mode_parts : List Part
 mode_parts = part (codes "mode") 29 false ∷ []
 
 abbrev pub connect_fields_parts : List Part
-connect_fields_parts = part (codes "version") 32 true ∷ part (codes "calling") 33 true ∷ part (codes "called") 34 true ∷ part (codes "definitions") 36 true ∷ part (codes "requirements") 39 true ∷ part (codes "session") 40 true ∷ part (codes "user") 16 true ∷ []
+connect_fields_parts =
+    part (codes "version") 32 true ∷ part (codes "calling") 33 true ∷ part (codes "called") 34 true
+    ∷ part (codes "definitions") 36 true ∷ part (codes "requirements") 39 true ∷ part (codes "session") 40 true
+    ∷ part (codes "user") 16 true ∷ []
 
 abbrev pub connect_parts : List Part
 connect_parts = part (codes "mode") 31 false ∷ part (codes "fields") 43 false ∷ []
 
 abbrev pub accept_fields_parts : List Part
-accept_fields_parts = part (codes "version") 32 true ∷ part (codes "responding") 35 true ∷ part (codes "results") 37 true ∷ part (codes "requirements") 39 true ∷ part (codes "session") 40 true ∷ part (codes "user") 16 true ∷ []
+accept_fields_parts =
+    part (codes "version") 32 true ∷ part (codes "responding") 35 true ∷ part (codes "results") 37 true
+    ∷ part (codes "requirements") 39 true ∷ part (codes "session") 40 true ∷ part (codes "user") 16 true ∷ []
 
 abbrev pub accept_parts : List Part
 accept_parts = part (codes "mode") 31 false ∷ part (codes "fields") 46 false ∷ []
 
 abbrev pub reject_parts : List Part
-reject_parts = part (codes "version") 32 true ∷ part (codes "responding") 35 true ∷ part (codes "results") 37 true ∷ part (codes "default") 38 true ∷ part (codes "reason") 41 true ∷ part (codes "user") 16 true ∷ []
+reject_parts =
+    part (codes "version") 32 true ∷ part (codes "responding") 35 true ∷ part (codes "results") 37 true
+    ∷ part (codes "default") 38 true ∷ part (codes "reason") 41 true ∷ part (codes "user") 16 true ∷ []
 
 abbrev pub alter_parts : List Part
 alter_parts = part (codes "additions") 49 true ∷ part (codes "deletions") 50 true ∷ []

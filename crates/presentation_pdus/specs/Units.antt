@@ -124,7 +124,9 @@ PpduIs place.Ac = UnitIs 1 (SelectedIs ModeIs (Fielded accept_fields accept_pass
 PpduIs place.Rf = UnitIs 2 (Fielded reject_fields [] sequence_tag)
 PpduIs place.Fn = UnitIs 9 DataIs
 PpduIs place.Dn = UnitIs 9 DataIs
-PpduIs place.Ab = λ strict levels v spelled. UnitIs 7 (Fielded user_abort_fields [] (context_tag 0)) strict levels v spelled ⊎ UnitIs 8 (Fielded provider_abort_fields [] sequence_tag) strict levels v spelled
+PpduIs place.Ab =
+    λ strict levels v spelled. UnitIs 7 (Fielded user_abort_fields [] (context_tag 0)) strict levels v spelled
+    ⊎ UnitIs 8 (Fielded provider_abort_fields [] sequence_tag) strict levels v spelled
 PpduIs place.Pt = UnitIs 9 DataIs
 PpduIs place.Td = λ strict levels v spelled. UnitIs 3 (Fielded alter_fields [] (context_tag 0)) strict levels v spelled ⊎ UnitIs 4 (Fielded alter_ack_fields [] (context_tag 1)) strict levels v spelled
 PpduIs place.Dt = UnitIs 9 DataIs

@@ -90,13 +90,20 @@ abbrev pub with_mode : Value → Value
 with_mode fields = parts (parts_of (Some normal_mode ∷ Some fields ∷ []))
 
 abbrev pub connect_value : connects.PresentationConnect → Value
-connect_value c = with_mode (parts (parts_of (option_map bits_value c.version ∷ option_map octets c.calling ∷ option_map octets c.called ∷ some_list definition_value c.definitions ∷ option_map bits_value c.requirements ∷ option_map bits_value c.session_requirements ∷ some_list pdv_value c.user ∷ [])))
+connect_value c =
+    with_mode (parts (parts_of (option_map bits_value c.version ∷ option_map octets c.calling ∷ option_map octets c.called
+    ∷ some_list definition_value c.definitions ∷ option_map bits_value c.requirements
+    ∷ option_map bits_value c.session_requirements ∷ some_list pdv_value c.user ∷ [])))
 
 abbrev pub accept_value : accepts.PresentationAccept → Value
-accept_value a = with_mode (parts (parts_of (option_map bits_value a.version ∷ option_map octets a.responding ∷ some_list answer_value a.results ∷ option_map bits_value a.requirements ∷ option_map bits_value a.session_requirements ∷ some_list pdv_value a.user ∷ [])))
+accept_value a =
+    with_mode (parts (parts_of (option_map bits_value a.version ∷ option_map octets a.responding ∷ some_list answer_value a.results
+    ∷ option_map bits_value a.requirements ∷ option_map bits_value a.session_requirements ∷ some_list pdv_value a.user ∷ [])))
 
 abbrev pub reject_value : rejects.PresentationReject → Value
-reject_value r = parts (parts_of (option_map bits_value r.version ∷ option_map octets r.responding ∷ some_list answer_value r.results ∷ option_map number_value r.default_result ∷ option_map integer r.reason ∷ some_list pdv_value r.user ∷ []))
+reject_value r =
+    parts (parts_of (option_map bits_value r.version ∷ option_map octets r.responding ∷ some_list answer_value r.results
+    ∷ option_map number_value r.default_result ∷ option_map integer r.reason ∷ some_list pdv_value r.user ∷ []))
 
 -- the row and the value of a unit
 abbrev pub row_of : units.PresentationWord → ℕ

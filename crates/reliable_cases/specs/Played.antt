@@ -39,7 +39,8 @@ telling Responder shown place = record place { told_b = place.told_b ++ shown }
 abbrev pub after_call_at : Common → Role → Call → Place → Reply → Option Place
 after_call_at common role call place (Ok answer) =
     Some (record place {
-      two = stepped role (after_called common.mode (base_at role common) (body_at role place.two) call answer) (coming_to role place.two) (due_of (base_at role common) (body_at role place.two) call (Ok answer)) place.two;
+      two = stepped role (after_called common.mode (base_at role common) (body_at role place.two) call answer)
+          (coming_to role place.two) (due_of (base_at role common) (body_at role place.two) call (Ok answer)) place.two;
       ledger = after_sending common role (due_of (base_at role common) (body_at role place.two) call (Ok answer)) place.ledger;
     })
 after_call_at common role call place (Err refusal) = None

@@ -140,18 +140,21 @@ pub data ReachedWithLedger (common : Common) : Two → Ledger → Type 0 where
   begins : ReachedWithLedger common (two_new common) (first_ledger common)
   calls : (two : Two) (ledger : Ledger) (role : Role) (call : Call) (answer : Option ℤ) → ReachedWithLedger common two ledger
       → can_call (base_at role common) (body_at role two) call ≡ Ok answer
-      → ReachedWithLedger common (stepped role (after_called common.mode (base_at role common) (body_at role two) call answer) (coming_to role two) (due_of (base_at role common) (body_at role two) call (Ok answer)) two)
+      → ReachedWithLedger common (stepped role (after_called common.mode (base_at role common) (body_at role two) call answer)
+      (coming_to role two) (due_of (base_at role common) (body_at role two) call (Ok answer)) two)
       (after_sending common role (due_of (base_at role common) (body_at role two) call (Ok answer)) ledger)
   acts : (two : Two) (ledger : Ledger) (role : Role) (own : OwnAct) → ReachedWithLedger common two ledger
       → next_own (base_at role common) (body_at role two) ≡ Some own
-      → ReachedWithLedger common (stepped role (after_step (base_at role common) (body_at role two) (step_of own)) (coming_to role two) (own_messages own) two) (after_own common role (body_at role two) own ledger)
+      → ReachedWithLedger common (stepped role (after_step (base_at role common) (body_at role two) (step_of own)) (coming_to role two) (own_messages own) two)
+      (after_own common role (body_at role two) own ledger)
   takes : (two : Two) (ledger : Ledger) (role : Role) (message : Message) (left : List Message) (body : Body) (answers : List Message) (shown : List Indication) → ReachedWithLedger common two ledger
       → coming_to role two ≡ message ∷ left → react (base_at role common) (body_at role two) message ≡ Takes body answers shown
       → ReachedWithLedger common (stepped role body left answers two) (after_taking common role (body_at role two) message answers ledger)
   passes : (two : Two) (ledger : Ledger) (role : Role) (message : Message) (left : List Message) → ReachedWithLedger common two ledger
       → coming_to role two ≡ message ∷ left → react (base_at role common) (body_at role two) message ≡ Passes
       → ReachedWithLedger common (stepped role (body_at role two) left [] two) ledger
-  fails : (two : Two) (ledger : Ledger) (role : Role) (message : Message) (left : List Message) (fault : Fault) (body : Body) (aborts : List Message) (shown : List Indication) → ReachedWithLedger common two ledger
+  fails : (two : Two) (ledger : Ledger) (role : Role) (message : Message) (left : List Message)
+      (fault : Fault) (body : Body) (aborts : List Message) (shown : List Indication) → ReachedWithLedger common two ledger
       → coming_to role two ≡ message ∷ left → react (base_at role common) (body_at role two) message ≡ Fails fault body aborts shown
       → ReachedWithLedger common (stepped role body left aborts two) (after_sending common role aborts ledger)
   breaks : (two : Two) (ledger : Ledger) → ReachedWithLedger common two ledger → ReachedWithLedger common (both_broke common two) ledger

@@ -58,7 +58,8 @@ ReliableAsSent =
     EverReliable (λ common two ledger. (role : Role) (item : Item) → TakesTransferEnd common two role →
     arrived_now (base_at role common) (body_at role two) ≡ Ok (Whole item) →
     (pair_of (body_at role two).sets.held item.id ≡ Some item.pair) ×
-    IsNewest (record { activity = (body_at role two).receiving.last; id = item.id; pair = pair_of (body_at role two).sets.held item.id; apdu = item.apdu }) (transfer_log_of (other role) ledger.transfer_logs).encoded)
+    IsNewest (record { activity = (body_at role two).receiving.last; id = item.id; pair = pair_of (body_at role two).sets.held item.id; apdu = item.apdu })
+    (transfer_log_of (other role) ledger.transfer_logs).encoded)
 
 -- the k-th item that was started, of a list with the newest first
 abbrev pub item_of : ℕ → List Queued → Option Queued

@@ -22,4 +22,6 @@ AlwaysCarries = (tables : Tables) (syntax : Syntax) (head : ApduHead) → AreSou
 
 -- Whatever is heard, at most 4,096 invocations of an end stay open.
 abbrev pub StaysWithin : Type 0
-StaysWithin = (base : Base) (calls : Calls) (context : ℕ) (head : HeardHead) (own : Bool) → length (opens_of own calls.opens) ≤ most_open → length (opens_of own (hear base calls context head).calls.opens) ≤ most_open
+StaysWithin =
+    (base : Base) (calls : Calls) (context : ℕ) (head : HeardHead) (own : Bool) → length (opens_of own calls.opens) ≤ most_open
+    → length (opens_of own (hear base calls context head).calls.opens) ≤ most_open

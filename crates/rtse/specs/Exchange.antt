@@ -52,7 +52,9 @@ pub record Exchange : Type 0 where
   pub down : List Word
   pub up : List ℕ
 
--- What may happen: the sender gives what is next; the receiver takes the next word; the sender takes the next confirmation; what is on its way is lost, in a break or as an interrupt purges it, and the sender resumes at its highest confirmed mark; the same, and the value is encoded anew, which is resumed from nothing.
+-- What may happen: the sender gives what is next; the receiver takes the next word; the sender takes the next confirmation;
+-- what is on its way is lost, in a break or as an interrupt purges it, and the sender resumes at its highest confirmed mark;
+-- the same, and the value is encoded anew, which is resumed from nothing.
 pub data Event : Type 0 where
   SendsWords : Event
   Takes : Event

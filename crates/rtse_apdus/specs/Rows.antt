@@ -50,5 +50,6 @@ rtse_rows =
     ∷ implicit 18 20
     ∷ implicit 22 20
     -- 23: any of them
-    ∷ Choice (part (codes "openRequest") 16 false ∷ part (codes "openAccept") 18 false ∷ part (codes "openReject") 21 false ∷ part (codes "abort") 22 false ∷ part (codes "turnPlease") 2 false ∷ part (codes "transfer") 3 false ∷ [])
+    ∷ Choice (part (codes "openRequest") 16 false ∷ part (codes "openAccept") 18 false ∷ part (codes "openReject") 21 false ∷
+    part (codes "abort") 22 false ∷ part (codes "turnPlease") 2 false ∷ part (codes "transfer") 3 false ∷ [])
     ∷ []

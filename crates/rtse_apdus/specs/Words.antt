@@ -39,7 +39,8 @@ data_value (connection.Open value) = chosen 0 (any value)
 data_value (connection.Recover reference common) = chosen 1 (parts (present (octets reference) (present (octets common) no_parts)))
 
 abbrev pub value_of : apdus.Rtse → Value
-value_of (apdu.OpenRequest checkpoint window mode data_) = chosen 0 (parts (present (integer (pos checkpoint)) (present (integer (pos window)) (present (integer mode) (present (data_value data_) no_parts)))))
+value_of (apdu.OpenRequest checkpoint window mode data_) =
+    chosen 0 (parts (present (integer (pos checkpoint)) (present (integer (pos window)) (present (integer mode) (present (data_value data_) no_parts)))))
 value_of (apdu.OpenAccept checkpoint window data_) = chosen 1 (parts (present (integer (pos checkpoint)) (present (integer (pos window)) (present (data_value data_) no_parts))))
 value_of (apdu.OpenReject reason) = chosen 2 (reason_value reason)
 value_of (apdu.Abort reason) = chosen 3 (reason_value reason)

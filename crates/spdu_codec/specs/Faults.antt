@@ -37,7 +37,10 @@ CodeFault Inside table p place code rest f =
     ⊎ (IsFree (row_of code table) p × ValueFault (Inside (row_of code table) p) (place + 1) rest f)
 
 -- parameters, of which those in the table are looked at, from p on: some are right, and the next has the fault
-pub record ParametersFault (Inside : Option Slot → Parameters → ℕ → List ℕ → UnitFault → Type 0) (One : Option Slot → List ℕ → Parameters → Parameters → Type 0) (table : List (ℕ × Slot)) (p : Parameters) (place : ℕ) (octets : List ℕ) (f : UnitFault) : Type 0 where
+pub record ParametersFault
+    (Inside : Option Slot → Parameters → ℕ → List ℕ → UnitFault → Type 0)
+    (One : Option Slot → List ℕ → Parameters → Parameters → Type 0)
+    (table : List (ℕ × Slot)) (p : Parameters) (place : ℕ) (octets : List ℕ) (f : UnitFault) : Type 0 where
   pub right : List (ℕ × List ℕ)
   pub before : List ℕ
   pub made : Parameters

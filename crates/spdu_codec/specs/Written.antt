@@ -73,7 +73,9 @@ reason_value (Some user) code = code ∷ user
 -- The parameters of a unit, in the order in which they are written: of a connection's beginning and end and of tokens,
 -- or of marks, restarts and activities. The other units have none.
 abbrev pub connection_parameters : SessionWord → List (ℕ × List ℕ)
-connection_parameters (Connect c) = group 1 (identifier_items c) ++ group 5 (connect_items c) ++ optional 20 (option_map pair c.requirements) ++ optional 51 c.calling ++ optional 52 c.called ++ connect_data c.user
+connection_parameters (Connect c) =
+    group 1 (identifier_items c) ++ group 5 (connect_items c) ++ optional 20 (option_map pair c.requirements)
+    ++ optional 51 c.calling ++ optional 52 c.called ++ connect_data c.user
 connection_parameters (Accept options version initial requirements user) = group 5 (accept_items options version initial) ++ optional 20 (option_map pair requirements) ++ (193, user) ∷ []
 connection_parameters (Refuse transport reason user) = optional 17 (option_map octet transport) ++ optional 50 (option_map (reason_value user) reason)
 connection_parameters (Finish transport user) = optional 17 (option_map octet transport) ++ (193, user) ∷ []

@@ -68,7 +68,8 @@ ReliableEndsArriveWhole = EverInEnds (λ common two ledger. (role : Role) → Ta
 abbrev pub ReliableEndsKeepItems : Type 0
 ReliableEndsKeepItems =
     EverInEnds (λ common two ledger.
-    (role : Role) (encoding : Encoding) → IsNewest encoding (transfer_log_of role ledger.transfer_logs).encoded → IsOf encoding.apdu (item_of encoding.activity (transfer_log_of role ledger.transfer_logs).started))
+    (role : Role) (encoding : Encoding) → IsNewest encoding (transfer_log_of role ledger.transfer_logs).encoded
+    → IsOf encoding.apdu (item_of encoding.activity (transfer_log_of role ledger.transfer_logs).started))
 
 -- The numbers of the transfers that are handed up rise.
 abbrev pub ReliableEndsArriveOnce : Type 0
@@ -81,7 +82,8 @@ ReliableEndsTakeAsSent =
     EverInEnds (λ common two ledger.
     (role : Role) (item : Item) → TakesTransferEnd common two role → arrived_now (base_at role common) (body_at role two) ≡ Ok (Whole item) →
     (pair_of (body_at role two).sets.held item.id ≡ Some item.pair) ×
-    IsNewest (record { activity = (body_at role two).receiving.last; id = item.id; pair = pair_of (body_at role two).sets.held item.id; apdu = item.apdu }) (transfer_log_of (other role) ledger.transfer_logs).encoded)
+    IsNewest (record { activity = (body_at role two).receiving.last; id = item.id; pair = pair_of (body_at role two).sets.held item.id; apdu = item.apdu })
+    (transfer_log_of (other role) ledger.transfer_logs).encoded)
 
 -- Each outcome that an end is told is an APDU that the other end wrote.
 abbrev pub ReliableEndsTellAnswers : Type 0

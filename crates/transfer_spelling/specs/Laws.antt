@@ -37,4 +37,5 @@ pdv_with id syntax octets = record { transfer = None; id = id; content = form_of
 -- What may be written of an APDU is a transfer, on each identifier of a context.
 abbrev pub ValuesAreTransfers : Type 0
 ValuesAreTransfers =
-    (tables : Tables) (id : ℕ) (syntax : Syntax) (apdu : Apdu) → IsModule tables → 1 ≤ id → id ≤ highest_context → IsWritable tables syntax apdu → IsTransfer (pdv_with id syntax (written_apdu tables syntax apdu))
+    (tables : Tables) (id : ℕ) (syntax : Syntax) (apdu : Apdu) → IsModule tables → 1 ≤ id → id ≤ highest_context
+    → IsWritable tables syntax apdu → IsTransfer (pdv_with id syntax (written_apdu tables syntax apdu))
