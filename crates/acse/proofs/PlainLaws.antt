@@ -7,11 +7,11 @@ use Rattle.asn1_types.specs.declared.row.Class.TheVariants.{Context}
 use Rattle.asn1_types.specs.declared.row.Part.{Part}
 use Rattle.asn1_types.specs.Rows.{openings, tag}
 use Rattle.asn1_types.specs.Value.{Value, chosen}
+use Rattle.asn1_types.specs.FixedRows.{part}
 use Rattle.ber_spelling.specs.Rules.{plain}
 use Rattle.ber_spelling.specs.Spelling.{IsConstructed, SequenceIs, ChoiceIs, SpelledBy}
 use Rattle.ber_spelling.proofs.Wholes.{whole_is}
 use Rattle.ber_spelling.proofs.Written.{written_spelled}
-use Rattle.fixed_tables.specs.Rows.{part}
 use Rattle.passed_fields.specs.declared.field.Field as known
 use Rattle.passed_fields.specs.declared.field.Passed as over
 use Rattle.passed_fields.specs.Spelling.{FieldsAre}

@@ -3,7 +3,7 @@ use Rattle.std.specs.Prelude.{◌≡◌, ◌↔◌, ℕ, ◌<◌, ◌≤◌, Lis
 use Rattle.osi_base.specs.declared.layer_words.Kind.{Kind}
 use Rattle.osi_base.specs.declared.layer_words.Kind.TheVariants.{Missing}
 use Rattle.osi_base.specs.declared.acse_word.Acse as apdus
-use Rattle.ber_spelling.specs.Octets.{AreOctets}
+use Rattle.osi_base.specs.Octets.{AreOctets}
 use Rattle.fixed_tables.specs.declared.pdu.PduFault.TheVariants as unit
 use Rattle.acse.specs.Fields.{SpellsAcse, acse_at}
 use Rattle.acse.specs.Known.{SpellsKnown}

@@ -5,8 +5,8 @@ use Rattle.osi_base.specs.OctetPlaces.{HasPlaces}
 use Rattle.asn1_types.specs.declared.row.Class.TheVariants.{Universal, Application}
 use Rattle.asn1_types.specs.declared.row.TypeRow.{TypeRow}
 use Rattle.asn1_types.specs.declared.row.TypeRow.TheVariants.{Integer, BitString, ObjectId, Sequence, SequenceOf, Choice, Tagged, Any}
+use Rattle.asn1_types.specs.FixedRows.{part, implicit, explicit}
 use Rattle.ber_spelling.specs.declared.spot.Spot.{Spot}
-use Rattle.fixed_tables.specs.Rows.{part, implicit, explicit}
 
 -- how many rows the table has
 abbrev pub row_count : ℕ

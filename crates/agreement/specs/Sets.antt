@@ -123,7 +123,7 @@ abbrev pub is_among : ℕ → List ℕ → Bool
 is_among k [] = false
 is_among k (j ∷ js) = nat_eq k j || is_among k js
 
--- an initiator's identifiers are odd, a responder's even (X.226 8.4.2)
+-- an initiator's identifiers are odd, a responder's even (X.226 8.2)
 abbrev pub parity : Role → ℕ
 parity Initiator = 1
 parity Responder = 0

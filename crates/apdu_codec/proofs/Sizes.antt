@@ -20,6 +20,7 @@ use Rattle.asn1_types.specs.declared.table.TypeTable.{TypeTable}
 use Rattle.asn1_types.specs.declared.value.Val.{Val}
 use Rattle.asn1_types.specs.Value.{Value, boolean, integer, null, object_id, parts, chosen, any, MaybeValues, no_parts, absent, present}
 use Rattle.asn1_types.specs.Writing.{Writer, saturated, base_128, integer_octets, subidentifiers, length_octets, definite, parts_contents, write_by, writes, written}
+use Rattle.asn1_types.specs.FixedRows.{part}
 use Rattle.ber_spelling.proofs.WriteLaws.{writes_at}
 use Rattle.packed_codec.specs.Writing as packs
 use Rattle.packed_codec.specs.Writing.{packed, parts_written}
@@ -35,7 +36,7 @@ use Rattle.stub_tables.specs.declared.apdu.Apdu.TheVariants as apdus
 use Rattle.stub_tables.specs.declared.apdu.Returned.{Returned}
 use Rattle.stub_tables.specs.Apdus.{argument_of, result_of, parameter_of, operation_coded, error_coded}
 use Rattle.apdu_spelling.specs.Heads.{ReturnedOctets, invoke, result, error, reject, or_none, carried}
-use Rattle.apdu_spelling.specs.Rows.{part, optional_part, any_row, linked_row, code_row, mark_row, returned_row, head_rows, apdu_row, packed_apdu_row, reject_parts, invoke_parts, returned_parts, result_parts, error_parts}
+use Rattle.apdu_spelling.specs.Rows.{any_row, linked_row, code_row, mark_row, returned_row, head_rows, apdu_row, packed_apdu_row, reject_parts, invoke_parts, returned_parts, result_parts, error_parts}
 use Rattle.apdu_spelling.specs.Values.{code_value, linked_part, rejected_value, kind_place, problem_value, any_part, returned_part, ber_value, mark_part, packed_value}
 use Rattle.apdu_spelling.specs.Writing.{written_typed, written_carried, written_head, outcome_of, head_of, written_apdu}
 use Rattle.apdu_spelling.proofs.HeadsSound.{heads_sound}
@@ -118,43 +119,43 @@ code_at (Global arcs) =
 any_at : (os : List ℕ) → W 6 None (any os) ≡ os
 any_at os = row_is 6 _ None (any os) refl
 
-any_tail : (name : List ℕ) (o : Option (List ℕ)) → length (parts_contents W (optional_part name any_row ∷ []) (any_part o)) ≡ length (or_none o)
+any_tail : (name : List ℕ) (o : Option (List ℕ)) → length (parts_contents W (part name any_row true ∷ []) (any_part o)) ≡ length (or_none o)
 any_tail name None = refl
 any_tail name (Some os) = let e = length-append (W 6 None (any os)) [] in let f = ap length (any_at os) in omega arith
 
-linked_tail : (name : List ℕ) (l : Option ℤ) (ps : List Part) (more : MaybeValues) → length (parts_contents W (optional_part name linked_row ∷ ps) (linked_part l more)) ≡ linked_size syntax.Ber l + length (parts_contents W ps more)
+linked_tail : (name : List ℕ) (l : Option ℤ) (ps : List Part) (more : MaybeValues) → length (parts_contents W (part name linked_row true ∷ ps) (linked_part l more)) ≡ linked_size syntax.Ber l + length (parts_contents W ps more)
 linked_tail name None ps more = omega arith
 linked_tail name (Some id) ps more = let e = length-append (W 7 None (integer id)) (parts_contents W ps more) in let f = linked_at id in omega arith
 
 -- the code and what stands behind it
-code_tail : (name : List ℕ) (c : Code) (ps : List Part) (more : MaybeValues) → length (parts_contents W (part name code_row ∷ ps) (present (code_value c) more)) ≡ code_size syntax.Ber c + length (parts_contents W ps more)
+code_tail : (name : List ℕ) (c : Code) (ps : List Part) (more : MaybeValues) → length (parts_contents W (part name code_row false ∷ ps) (present (code_value c) more)) ≡ code_size syntax.Ber c + length (parts_contents W ps more)
 code_tail name c ps more = let e = length-append (W 3 None (code_value c)) (parts_contents W ps more) in let f = code_at c in omega arith
 
-id_tail : (name : List ℕ) (id : ℤ) (ps : List Part) (more : MaybeValues) → length (parts_contents W (part name 0 ∷ ps) (present (integer id) more)) ≡ integer_size syntax.Ber id + length (parts_contents W ps more)
+id_tail : (name : List ℕ) (id : ℤ) (ps : List Part) (more : MaybeValues) → length (parts_contents W (part name 0 false ∷ ps) (present (integer id) more)) ≡ integer_size syntax.Ber id + length (parts_contents W ps more)
 id_tail name id ps more = let e = length-append (W 0 None (integer id)) (parts_contents W ps more) in let f = identifier_at id in omega arith
 
 abbrev behind_code : List ℕ → List Part
-behind_code name = optional_part name any_row ∷ []
+behind_code name = part name any_row true ∷ []
 
 invoke_contents : (id : ℤ) (l : Option ℤ) (c : Code) (o : Option (List ℕ))
     → length (parts_contents W invoke_parts (present (integer id) (linked_part l (present (code_value c) (any_part o)))))
     ≡ (integer_size syntax.Ber id + linked_size syntax.Ber l) + (code_size syntax.Ber c + length (or_none o))
 invoke_contents id l c o =
-    let a = id_tail (codes "invokeId") id (optional_part (codes "linkedId") linked_row ∷ part (codes "opcode") code_row ∷ behind_code (codes "argument")) (linked_part l (present (code_value c) (any_part o))) in
-    let b = linked_tail (codes "linkedId") l (part (codes "opcode") code_row ∷ behind_code (codes "argument")) (present (code_value c) (any_part o)) in
+    let a = id_tail (codes "invokeId") id (part (codes "linkedId") linked_row true ∷ part (codes "opcode") code_row false ∷ behind_code (codes "argument")) (linked_part l (present (code_value c) (any_part o))) in
+    let b = linked_tail (codes "linkedId") l (part (codes "opcode") code_row false ∷ behind_code (codes "argument")) (present (code_value c) (any_part o)) in
     let d = code_tail (codes "opcode") c (behind_code (codes "argument")) (any_part o) in
     let e = any_tail (codes "argument") o in omega arith
 
 error_contents : (id : ℤ) (c : Code) (o : Option (List ℕ))
     → length (parts_contents W error_parts (present (integer id) (present (code_value c) (any_part o)))) ≡ integer_size syntax.Ber id + (code_size syntax.Ber c + length (or_none o))
 error_contents id c o =
-    let a = id_tail (codes "invokeId") id (part (codes "errcode") code_row ∷ behind_code (codes "parameter")) (present (code_value c) (any_part o)) in
+    let a = id_tail (codes "invokeId") id (part (codes "errcode") code_row false ∷ behind_code (codes "parameter")) (present (code_value c) (any_part o)) in
     let d = code_tail (codes "errcode") c (behind_code (codes "parameter")) (any_part o) in
     let e = any_tail (codes "parameter") o in omega arith
 
 outcome_contents : (c : Code) (os : List ℕ) → length (parts_contents W returned_parts (present (code_value c) (present (any os) no_parts))) ≡ code_size syntax.Ber c + length os
 outcome_contents c os =
-    let a = code_tail (codes "opcode") c (part (codes "result") any_row ∷ []) (present (any os) no_parts) in
+    let a = code_tail (codes "opcode") c (part (codes "result") any_row false ∷ []) (present (any os) no_parts) in
     let e = length-append (W 6 None (any os)) [] in let f = ap length (any_at os) in omega arith
 
 abbrev outcome_value : Code → List ℕ → Value
@@ -168,7 +169,7 @@ outcome_at c os =
 result_contents : (id : ℤ) (c : Code) (os : List ℕ)
     → length (parts_contents W result_parts (present (integer id) (present (outcome_value c os) no_parts))) ≡ integer_size syntax.Ber id + definite_size (code_size syntax.Ber c + length os)
 result_contents id c os =
-    let a = id_tail (codes "invokeId") id (optional_part (codes "result") returned_row ∷ []) (present (outcome_value c os) no_parts) in
+    let a = id_tail (codes "invokeId") id (part (codes "result") returned_row true ∷ []) (present (outcome_value c os) no_parts) in
     let e = length-append (W 18 None (outcome_value c os)) [] in let f = outcome_at c os in omega arith
 
 rejected_at : (id : Option ℤ) → length (W 13 None (rejected_value id)) ≡ rejected_size syntax.Ber id
@@ -203,7 +204,7 @@ ber_error id c o =
     ∙ after (parts_contents W error_parts vs) ∙ ap definite_size (error_contents id c o)
 
 none_contents : (id : ℤ) → length (parts_contents W result_parts (present (integer id) (absent no_parts))) ≡ integer_size syntax.Ber id + 0
-none_contents id = let a = id_tail (codes "invokeId") id (optional_part (codes "result") returned_row ∷ []) (absent no_parts) in omega arith
+none_contents id = let a = id_tail (codes "invokeId") id (part (codes "result") returned_row true ∷ []) (absent no_parts) in omega arith
 
 ber_none : (id : ℤ) → length (written head_rows apdu_row (ber_value (result id None))) ≡ none_size syntax.Ber id
 unfolding written
@@ -254,17 +255,17 @@ p_mark : (o : Option (List ℕ)) → length (P 5 (boolean (is_some o))) ≡ 1
 p_mark None = ap length (packed_is 5 _ (boolean false) refl)
 p_mark (Some os) = ap length (packed_is 5 _ (boolean true) refl)
 
-p_mark_tail : (name : List ℕ) (o : Option (List ℕ)) → length (parts_written P (part name mark_row ∷ []) (mark_part o)) ≡ 1
+p_mark_tail : (name : List ℕ) (o : Option (List ℕ)) → length (parts_written P (part name mark_row false ∷ []) (mark_part o)) ≡ 1
 p_mark_tail name o = let e = length-append (P 5 (boolean (is_some o))) [] in let f = p_mark o in omega arith
 
-p_linked_tail : (name : List ℕ) (l : Option ℤ) (ps : List Part) (more : MaybeValues) → length (parts_written P (optional_part name linked_row ∷ ps) (linked_part l more)) ≡ linked_size syntax.Packed l + length (parts_written P ps more)
+p_linked_tail : (name : List ℕ) (l : Option ℤ) (ps : List Part) (more : MaybeValues) → length (parts_written P (part name linked_row true ∷ ps) (linked_part l more)) ≡ linked_size syntax.Packed l + length (parts_written P ps more)
 p_linked_tail name None ps more = omega arith
 p_linked_tail name (Some id) ps more = let e = length-append (P 7 (integer id)) (parts_written P ps more) in let f = p_linked id in omega arith
 
-p_code_tail : (name : List ℕ) (c : Code) (ps : List Part) (more : MaybeValues) → length (parts_written P (part name code_row ∷ ps) (present (code_value c) more)) ≡ code_size syntax.Packed c + length (parts_written P ps more)
+p_code_tail : (name : List ℕ) (c : Code) (ps : List Part) (more : MaybeValues) → length (parts_written P (part name code_row false ∷ ps) (present (code_value c) more)) ≡ code_size syntax.Packed c + length (parts_written P ps more)
 p_code_tail name c ps more = let e = length-append (P 3 (code_value c)) (parts_written P ps more) in let f = p_code c in omega arith
 
-p_id_tail : (name : List ℕ) (id : ℤ) (ps : List Part) (more : MaybeValues) → length (parts_written P (part name 0 ∷ ps) (present (integer id) more)) ≡ integer_size syntax.Packed id + length (parts_written P ps more)
+p_id_tail : (name : List ℕ) (id : ℤ) (ps : List Part) (more : MaybeValues) → length (parts_written P (part name 0 false ∷ ps) (present (integer id) more)) ≡ integer_size syntax.Packed id + length (parts_written P ps more)
 p_id_tail name id ps more = let e = length-append (P 0 (integer id)) (parts_written P ps more) in let f = p_identifier id in omega arith
 
 packed_invoke : (id : ℤ) (l : Option ℤ) (c : Code) (o : Option (List ℕ)) → length (written_head syntax.Packed (invoke id l c o)) ≡ invoke_size syntax.Packed id l c (length (or_none o))
@@ -272,9 +273,9 @@ packed_invoke id l c o =
     let vs : MaybeValues = present (integer id) (linked_part l (present (code_value c) (mark_part o))) in
     let whole = length-append (packed head_rows packed_apdu_row (packed_value (invoke id l c o))) (or_none o) in
     let top = ap length (packed_is 30 _ (chosen 1 (parts vs)) refl) ∙ ap (λ (x : List ℕ). suc (length x)) (packed_is 25 _ (parts vs) refl ∙ packed_is 24 _ (parts vs) refl) in
-    let a = p_id_tail (codes "invokeId") id (optional_part (codes "linkedId") linked_row ∷ part (codes "opcode") code_row ∷ part (codes "argument") mark_row ∷ []) (linked_part l (present (code_value c) (mark_part o))) in
-    let b = p_linked_tail (codes "linkedId") l (part (codes "opcode") code_row ∷ part (codes "argument") mark_row ∷ []) (present (code_value c) (mark_part o)) in
-    let d = p_code_tail (codes "opcode") c (part (codes "argument") mark_row ∷ []) (mark_part o) in
+    let a = p_id_tail (codes "invokeId") id (part (codes "linkedId") linked_row true ∷ part (codes "opcode") code_row false ∷ part (codes "argument") mark_row false ∷ []) (linked_part l (present (code_value c) (mark_part o))) in
+    let b = p_linked_tail (codes "linkedId") l (part (codes "opcode") code_row false ∷ part (codes "argument") mark_row false ∷ []) (present (code_value c) (mark_part o)) in
+    let d = p_code_tail (codes "opcode") c (part (codes "argument") mark_row false ∷ []) (mark_part o) in
     let e = p_mark_tail (codes "argument") o in omega arith
 
 packed_error : (id : ℤ) (c : Code) (o : Option (List ℕ)) → length (written_head syntax.Packed (error id c o)) ≡ error_size syntax.Packed id c (length (or_none o))
@@ -282,8 +283,8 @@ packed_error id c o =
     let vs : MaybeValues = present (integer id) (present (code_value c) (mark_part o)) in
     let whole = length-append (packed head_rows packed_apdu_row (packed_value (error id c o))) (or_none o) in
     let top = ap length (packed_is 30 _ (chosen 3 (parts vs)) refl) ∙ ap (λ (x : List ℕ). suc (length x)) (packed_is 29 _ (parts vs) refl ∙ packed_is 28 _ (parts vs) refl) in
-    let a = p_id_tail (codes "invokeId") id (part (codes "errcode") code_row ∷ part (codes "parameter") mark_row ∷ []) (present (code_value c) (mark_part o)) in
-    let d = p_code_tail (codes "errcode") c (part (codes "parameter") mark_row ∷ []) (mark_part o) in
+    let a = p_id_tail (codes "invokeId") id (part (codes "errcode") code_row false ∷ part (codes "parameter") mark_row false ∷ []) (present (code_value c) (mark_part o)) in
+    let d = p_code_tail (codes "errcode") c (part (codes "parameter") mark_row false ∷ []) (mark_part o) in
     let e = p_mark_tail (codes "parameter") o in omega arith
 
 packed_none : (id : ℤ) → length (written_head syntax.Packed (result id None)) ≡ none_size syntax.Packed id
@@ -291,14 +292,14 @@ packed_none id =
     let vs : MaybeValues = present (integer id) (absent no_parts) in
     let whole = length-append (packed head_rows packed_apdu_row (packed_value (result id None))) [] in
     let top = ap length (packed_is 30 _ (chosen 2 (parts vs)) refl) ∙ ap (λ (x : List ℕ). suc (length x)) (packed_is 27 _ (parts vs) refl ∙ packed_is 26 _ (parts vs) refl) in
-    let a = p_id_tail (codes "invokeId") id (optional_part (codes "opcode") code_row ∷ []) (absent no_parts) in omega arith
+    let a = p_id_tail (codes "invokeId") id (part (codes "opcode") code_row true ∷ []) (absent no_parts) in omega arith
 
 packed_result : (id : ℤ) (c : Code) (os : List ℕ) → length (written_head syntax.Packed (result id (Some (record { code = c; octets = os })))) ≡ result_size syntax.Packed id c (length os)
 packed_result id c os =
     let vs : MaybeValues = present (integer id) (present (code_value c) no_parts) in
     let whole = length-append (packed head_rows packed_apdu_row (packed_value (result id (Some (record { code = c; octets = os }))))) os in
     let top = ap length (packed_is 30 _ (chosen 2 (parts vs)) refl) ∙ ap (λ (x : List ℕ). suc (length x)) (packed_is 27 _ (parts vs) refl ∙ packed_is 26 _ (parts vs) refl) in
-    let a = p_id_tail (codes "invokeId") id (optional_part (codes "opcode") code_row ∷ []) (present (code_value c) no_parts) in
+    let a = p_id_tail (codes "invokeId") id (part (codes "opcode") code_row true ∷ []) (present (code_value c) no_parts) in
     let b = length-append (P 3 (code_value c)) [] in
     let d = p_code c in omega arith
 

@@ -9,7 +9,7 @@ use Rattle.osi_base.specs.declared.layer_words.ProblemKind.{ProblemKind}
 use Rattle.osi_base.specs.declared.layer_words.ProblemKind.TheVariants as kinds
 use Rattle.asn1_types.specs.Value.{integer}
 use Rattle.asn1_types.specs.Fits.{integer_fits, has_form}
-use Rattle.ber_spelling.specs.Octets.{AreOctets}
+use Rattle.osi_base.specs.Octets.{AreOctets}
 use Rattle.ber_spelling.proofs.Fitting.{spelled_fits}
 use Rattle.packed_codec.specs.Laws.{packs}
 use Rattle.stub_tables.specs.declared.operation.Code.{Code}

@@ -19,6 +19,7 @@ use Rattle.asn1_types.specs.Value.{Value, integer, parts, any, MaybeValues, no_p
 use Rattle.asn1_types.specs.Whole.{is_whole}
 use Rattle.asn1_types.specs.declared.row.Tag as tags
 use Rattle.asn1_types.specs.Writing.{Writer, parts_contents, write_by, nothing_written, writes, written, definite}
+use Rattle.asn1_types.specs.FixedRows.{part}
 use Rattle.ber_spelling.proofs.WrittenFields.{contents_short}
 use Rattle.ber_spelling.proofs.Written.{written_spelled as value_spelled}
 use Rattle.ber_spelling.proofs.Wholes.{whole_is}
@@ -40,7 +41,7 @@ use Rattle.stub_tables.specs.Lookup.{operation_at, error_at, operation_with, err
 use Rattle.stub_tables.specs.Readable.{code_fits, IsReadable}
 use Rattle.stub_tables.specs.Apdus.{placed, argument_of, result_of, parameter_of, operation_coded, error_coded}
 use Rattle.apdu_spelling.specs.Heads.{ReturnedOctets, Head, invoke, result, error, reject, or_none, carried}
-use Rattle.apdu_spelling.specs.Rows.{part, optional_part, head_rows, apdu_row, packed_apdu_row, any_row, returned_row, invoke_parts, result_parts, returned_parts, error_parts}
+use Rattle.apdu_spelling.specs.Rows.{head_rows, apdu_row, packed_apdu_row, any_row, returned_row, invoke_parts, result_parts, returned_parts, error_parts}
 use Rattle.apdu_spelling.specs.Values.{code_value, ber_value, packed_value}
 use Rattle.apdu_spelling.specs.Spellings.{SpellsHead, SpelledAs, TypedAs, CarriedAs, room_behind, Spells}
 use Rattle.apdu_spelling.specs.Writing.{written_value, written_typed, written_carried, written_head, head_of, written_apdu, is_identifier, is_writable, is_typed, may_carry, has_numbers, has_values, IsWritable}
@@ -121,12 +122,12 @@ unfolding written writes
 invoke_short id None c os m le =
     let vs : MaybeValues = present (integer id) (absent (present (code_value c) (present (any os) no_parts))) in
     before (length os) (length (parts_contents (inner 28) invoke_parts vs)) m
-    (part_short (inner 28) invoke_parts vs (optional_part (codes "argument") any_row) (any os) (inr (inr (inl (refl, refl)))))
+    (part_short (inner 28) invoke_parts vs (part (codes "argument") any_row true) (any os) (inr (inr (inl (refl, refl)))))
     (within (context 1) (parts_contents (inner 28) invoke_parts vs) m le)
 invoke_short id (Some l) c os m le =
     let vs : MaybeValues = present (integer id) (present (integer l) (present (code_value c) (present (any os) no_parts))) in
     before (length os) (length (parts_contents (inner 28) invoke_parts vs)) m
-    (part_short (inner 28) invoke_parts vs (optional_part (codes "argument") any_row) (any os) (inr (inr (inr (inl (refl, refl))))))
+    (part_short (inner 28) invoke_parts vs (part (codes "argument") any_row true) (any os) (inr (inr (inr (inl (refl, refl))))))
     (within (context 1) (parts_contents (inner 28) invoke_parts vs) m le)
 
 error_short : (id : ℤ) (c : Code) (os : List ℕ) (m : ℕ) → length (written head_rows apdu_row (ber_value (error id c (Some os)))) ≤ m → length os ≤ m
@@ -134,7 +135,7 @@ unfolding written writes
 error_short id c os m le =
     let vs : MaybeValues = present (integer id) (present (code_value c) (present (any os) no_parts)) in
     before (length os) (length (parts_contents (inner 28) error_parts vs)) m
-    (part_short (inner 28) error_parts vs (optional_part (codes "parameter") any_row) (any os) (inr (inr (inl (refl, refl)))))
+    (part_short (inner 28) error_parts vs (part (codes "parameter") any_row true) (any os) (inr (inr (inl (refl, refl)))))
     (within (context 3) (parts_contents (inner 28) error_parts vs) m le)
 
 result_short : (id : ℤ) (o : ReturnedOctets) (m : ℕ) → length (written head_rows apdu_row (ber_value (result id (Some o)))) ≤ m → length o.octets ≤ m
@@ -144,10 +145,10 @@ result_short id o m le =
     let vs : MaybeValues = present (integer id) (present (parts ws) no_parts) in
     let whole : length (parts_contents (inner 28) result_parts vs) ≤ m = within (context 2) (parts_contents (inner 28) result_parts vs) m le in
     let returned : length (definite true sequence (parts_contents (inner 27) returned_parts ws)) ≤ length (parts_contents (inner 28) result_parts vs) =
-    part_short (inner 28) result_parts vs (optional_part (codes "result") returned_row) (parts ws) (inr (inl (refl, refl))) in
+    part_short (inner 28) result_parts vs (part (codes "result") returned_row true) (parts ws) (inr (inl (refl, refl))) in
     let contents : length (parts_contents (inner 27) returned_parts ws) ≤ m =
     within sequence (parts_contents (inner 27) returned_parts ws) m (before (length (definite true sequence (parts_contents (inner 27) returned_parts ws))) (length (parts_contents (inner 28) result_parts vs)) m returned whole) in
-    before (length o.octets) (length (parts_contents (inner 27) returned_parts ws)) m (part_short (inner 27) returned_parts ws (part (codes "result") any_row) (any o.octets) (inr (inl (refl, refl)))) contents
+    before (length o.octets) (length (parts_contents (inner 27) returned_parts ws)) m (part_short (inner 27) returned_parts ws (part (codes "result") any_row false) (any o.octets) (inr (inl (refl, refl)))) contents
 
 carried_short : (h : Head) (m : ℕ) → length (written head_rows apdu_row (ber_value h)) ≤ m → length (carried h) ≤ m
 carried_short (invoke id l c (Some os)) m le = invoke_short id l c os m le

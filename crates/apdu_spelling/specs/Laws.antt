@@ -4,7 +4,7 @@ use Rattle.osi_base.specs.declared.syntax.Syntax.{Syntax}
 use Rattle.stub_tables.specs.declared.tables.Tables.{Tables}
 use Rattle.stub_tables.specs.declared.apdu.Apdu.{Apdu}
 use Rattle.stub_tables.specs.Readable.{IsReadable}
-use Rattle.ber_spelling.specs.Octets.{AreOctets}
+use Rattle.osi_base.specs.Octets.{AreOctets}
 use Rattle.apdu_spelling.specs.Heads.{Head, invoke, result, error, reject}
 use Rattle.apdu_spelling.specs.Spellings.{SpellsHead, Spells}
 use Rattle.apdu_spelling.specs.Writing.{written_apdu, IsWritable, is_identifier, is_identifier_or_none}

@@ -1,22 +1,12 @@
 -- The fixed table of heads, as rows of types. In BER and DER what is carried stands in a head as one whole value of
 -- any type, the last of its SEQUENCE (X.882 9). In the packed syntax it stands behind the head, which ends with a mark
 -- where it may lack.
-use Rattle.std.specs.Prelude.{ℕ, ◌+◌, pos, negsuc, true, false, List, [], ◌∷◌, None, codes}
+use Rattle.std.specs.Prelude.{ℕ, ◌+◌, pos, negsuc, true, false, List, [], ◌∷◌, codes}
 use Rattle.osi_base.specs.Limits.{last_invocation, most_signed}
 use Rattle.asn1_types.specs.declared.row.Part.{Part}
-use Rattle.asn1_types.specs.declared.row.Class.TheVariants.{Context}
 use Rattle.asn1_types.specs.declared.row.TypeRow.{TypeRow}
-use Rattle.asn1_types.specs.declared.row.TypeRow.TheVariants.{Integer, ObjectId, Null, Boolean, Sequence, Choice, Tagged, Any}
-
-abbrev pub part : List ℕ → ℕ → Part
-part name row = record { name = name; inner = record { 0 = row }; optional = false; default = None }
-
-abbrev pub optional_part : List ℕ → ℕ → Part
-optional_part name row = record { name = name; inner = record { 0 = row }; optional = true; default = None }
-
--- a tag of the context class in the place of the row's own
-abbrev pub tagged : ℕ → ℕ → TypeRow
-tagged number row = Tagged Context number false (record { 0 = row })
+use Rattle.asn1_types.specs.declared.row.TypeRow.TheVariants.{Integer, ObjectId, Null, Boolean, Sequence, Choice, Any}
+use Rattle.asn1_types.specs.FixedRows.{part, implicit}
 
 -- ---- which row is which: each stands behind the one named before it
 
@@ -116,47 +106,49 @@ packed_apdu_row = packed_error_row + 1
 -- ---- their parts
 
 abbrev pub code_kinds : List Part
-code_kinds = part (codes "local") number_row ∷ part (codes "global") object_id_row ∷ []
+code_kinds = part (codes "local") number_row false ∷ part (codes "global") object_id_row false ∷ []
 
 -- what a problem speaks of
 abbrev pub problem_kinds : List Part
-problem_kinds = part (codes "general") general_row ∷ part (codes "invoke") of_invoke_row ∷ part (codes "returnResult") of_result_row ∷ part (codes "returnError") of_error_row ∷ []
+problem_kinds =
+    part (codes "general") general_row false ∷ part (codes "invoke") of_invoke_row false
+    ∷ part (codes "returnResult") of_result_row false ∷ part (codes "returnError") of_error_row false ∷ []
 
 abbrev pub rejected_kinds : List Part
-rejected_kinds = part (codes "invokeId") identifier_row ∷ part (codes "absent") nothing_row ∷ []
+rejected_kinds = part (codes "invokeId") identifier_row false ∷ part (codes "absent") nothing_row false ∷ []
 
 abbrev pub reject_parts : List Part
-reject_parts = part (codes "invokeId") rejected_row ∷ part (codes "problem") problem_row ∷ []
+reject_parts = part (codes "invokeId") rejected_row false ∷ part (codes "problem") problem_row false ∷ []
 
 abbrev pub invoke_parts : List Part
-invoke_parts = part (codes "invokeId") identifier_row ∷ optional_part (codes "linkedId") linked_row ∷ part (codes "opcode") code_row ∷ optional_part (codes "argument") any_row ∷ []
+invoke_parts = part (codes "invokeId") identifier_row false ∷ part (codes "linkedId") linked_row true ∷ part (codes "opcode") code_row false ∷ part (codes "argument") any_row true ∷ []
 
 abbrev pub returned_parts : List Part
-returned_parts = part (codes "opcode") code_row ∷ part (codes "result") any_row ∷ []
+returned_parts = part (codes "opcode") code_row false ∷ part (codes "result") any_row false ∷ []
 
 abbrev pub result_parts : List Part
-result_parts = part (codes "invokeId") identifier_row ∷ optional_part (codes "result") returned_row ∷ []
+result_parts = part (codes "invokeId") identifier_row false ∷ part (codes "result") returned_row true ∷ []
 
 abbrev pub error_parts : List Part
-error_parts = part (codes "invokeId") identifier_row ∷ part (codes "errcode") code_row ∷ optional_part (codes "parameter") any_row ∷ []
+error_parts = part (codes "invokeId") identifier_row false ∷ part (codes "errcode") code_row false ∷ part (codes "parameter") any_row true ∷ []
 
 abbrev pub apdu_kinds : List Part
-apdu_kinds = part (codes "invoke") invoke_row ∷ part (codes "returnResult") result_row ∷ part (codes "returnError") error_row ∷ part (codes "reject") reject_row ∷ []
+apdu_kinds = part (codes "invoke") invoke_row false ∷ part (codes "returnResult") result_row false ∷ part (codes "returnError") error_row false ∷ part (codes "reject") reject_row false ∷ []
 
 abbrev pub packed_invoke_parts : List Part
-packed_invoke_parts = part (codes "invokeId") identifier_row ∷ optional_part (codes "linkedId") linked_row ∷ part (codes "opcode") code_row ∷ part (codes "argument") mark_row ∷ []
+packed_invoke_parts = part (codes "invokeId") identifier_row false ∷ part (codes "linkedId") linked_row true ∷ part (codes "opcode") code_row false ∷ part (codes "argument") mark_row false ∷ []
 
 abbrev pub packed_result_parts : List Part
-packed_result_parts = part (codes "invokeId") identifier_row ∷ optional_part (codes "opcode") code_row ∷ []
+packed_result_parts = part (codes "invokeId") identifier_row false ∷ part (codes "opcode") code_row true ∷ []
 
 abbrev pub packed_error_parts : List Part
-packed_error_parts = part (codes "invokeId") identifier_row ∷ part (codes "errcode") code_row ∷ part (codes "parameter") mark_row ∷ []
+packed_error_parts = part (codes "invokeId") identifier_row false ∷ part (codes "errcode") code_row false ∷ part (codes "parameter") mark_row false ∷ []
 
 -- the kind octet is 1 to 4; the alternative 0 is no APDU
 abbrev pub packed_apdu_kinds : List Part
 packed_apdu_kinds =
-    part (codes "none") nothing_row ∷ part (codes "invoke") packed_invoke_row
-    ∷ part (codes "returnResult") packed_result_row ∷ part (codes "returnError") packed_error_row ∷ part (codes "reject") reject_row ∷ []
+    part (codes "none") nothing_row false ∷ part (codes "invoke") packed_invoke_row false
+    ∷ part (codes "returnResult") packed_result_row false ∷ part (codes "returnError") packed_error_row false ∷ part (codes "reject") reject_row false ∷ []
 
 -- ---- the table
 
@@ -170,31 +162,31 @@ head_rows =
     ∷ Null
     ∷ Boolean
     ∷ Any
-    ∷ tagged 0 identifier_row
+    ∷ implicit 0 identifier_row
     -- problems and rejects
-    ∷ tagged 0 number_row
-    ∷ tagged 1 number_row
-    ∷ tagged 2 number_row
-    ∷ tagged 3 number_row
+    ∷ implicit 0 number_row
+    ∷ implicit 1 number_row
+    ∷ implicit 2 number_row
+    ∷ implicit 3 number_row
     ∷ Choice problem_kinds
     ∷ Choice rejected_kinds
     ∷ Sequence reject_parts
-    ∷ tagged 4 reject_parts_row
+    ∷ implicit 4 reject_parts_row
     -- BER and DER
     ∷ Sequence invoke_parts
-    ∷ tagged 1 invoke_parts_row
+    ∷ implicit 1 invoke_parts_row
     ∷ Sequence returned_parts
     ∷ Sequence result_parts
-    ∷ tagged 2 result_parts_row
+    ∷ implicit 2 result_parts_row
     ∷ Sequence error_parts
-    ∷ tagged 3 error_parts_row
+    ∷ implicit 3 error_parts_row
     ∷ Choice apdu_kinds
     -- the packed syntax
     ∷ Sequence packed_invoke_parts
-    ∷ tagged 1 packed_invoke_parts_row
+    ∷ implicit 1 packed_invoke_parts_row
     ∷ Sequence packed_result_parts
-    ∷ tagged 2 packed_result_parts_row
+    ∷ implicit 2 packed_result_parts_row
     ∷ Sequence packed_error_parts
-    ∷ tagged 3 packed_error_parts_row
+    ∷ implicit 3 packed_error_parts_row
     ∷ Choice packed_apdu_kinds
     ∷ []

@@ -4,5 +4,6 @@ pub mod Sound
 pub mod Names
 pub mod Adding
 pub mod FitLaws
+pub mod OctetTests
 pub mod Behind
 pub mod Slots

@@ -13,4 +13,5 @@ pub mod Writing
 pub mod Rising
 pub mod PackedSize
 pub mod Fits
+pub mod FixedRows
 pub mod Numbered

@@ -2,6 +2,7 @@
 use Rattle.std.proofs.Common.{◌≡◌, ℕ, List, [], ◌∷◌, ◌++◌, length, Option, Some, None, refl, sym, ap, subst, ◌∙◌}
 use Rattle.osi_base.specs.declared.layer_words.Side.{Side}
 use Rattle.osi_base.specs.declared.layer_words.Side.TheVariants.{A, B}
+use Rattle.dialogue.specs.Sides.{other}
 use Rattle.dialogue.specs.Carries.{first_octets}
 use Rattle.dialogue.specs.declared.call.Call.{Call}
 use Rattle.dialogue.specs.declared.event.Event.{Event}
@@ -16,7 +17,7 @@ use Rattle.end_rules.specs.Base.{Base}
 use Rattle.end_rules.specs.Invoking.{Reply}
 use Rattle.end_rules.specs.Calling.{can_call}
 use Rattle.end_rules.specs.History.{Step, History, gave, broke}
-use Rattle.end_rules.specs.World.{World, Ends, base_at, other, history_of}
+use Rattle.end_rules.specs.World.{World, Ends, base_at, history_of}
 use Rattle.association_end.specs.association_line.Line.{End, end_of, going_on}
 use Rattle.association_end.specs.association_line.Feeding.{Feeds, Makes}
 use Rattle.association_runs.specs.Worlds.{end_at, stepping, Runs, rests, calls, carries, breaks}

@@ -1,7 +1,8 @@
 //! Names of syntaxes and of the application context, and numbers among others.
 
 ghost use Rattle.std.specs.Prelude.{◌≡◌, IfOk};
-ghost use Rattle.end_rules.specs.Base.{acse_name, rtse_name, ber_name, application_context};
+ghost use Rattle.osi_base.specs.Syntax.{acse_name, rtse_name};
+ghost use Rattle.end_rules.specs.Base.{ber_name, application_context};
 ghost use Rattle.end_rules.specs.Sets.{same_name, is_among};
 
 use dialogue::Mode;
@@ -22,7 +23,7 @@ pub fn is_among(k: u32, ks: &[u32]) -> bool
     ks.iter().any(|other| k == *other)
 }
 
-/// Whether this is the name of association control (X.227 11).
+/// Whether this is the name of association control (X.227 9).
 pub fn is_acse(name: &[u32]) -> bool
     ensures { result ≡ same_name name.now acse_name }
 {

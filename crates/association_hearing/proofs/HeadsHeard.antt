@@ -4,7 +4,7 @@ use Rattle.std.specs.Prelude.{IfSome}
 use Rattle.osi_base.specs.declared.syntax.Syntax.{Syntax}
 use Rattle.osi_base.specs.declared.syntax.Syntax.TheVariants.{Ber, Der, Packed}
 use Rattle.osi_base.specs.declared.fault.NoMemory.{NoMemory}
-use Rattle.ber_spelling.specs.Octets.{AreOctets}
+use Rattle.osi_base.specs.Octets.{AreOctets}
 use Rattle.stub_tables.specs.declared.tables.Tables.{Tables}
 use Rattle.stub_tables.specs.Readable.{IsReadable}
 use Rattle.stub_tables.specs.Apdus.{argument_of, result_of, parameter_of, operation_coded, error_coded}

@@ -1,6 +1,7 @@
 //! What an end of an association does with an APDU of remote operations that came on a context
 //! (X.880 9, X.882 9): what it tells its user, which invocations it opens and closes, and which
-//! reject it sends. Beside it what both takings and calls do with transfers (X.228 7).
+//! reject it sends. It also has what taking a message and answering a call share on transfers: the
+//! parts of one, its suspension, and the set of contexts at its resumption (X.228 7).
 #![tactic(auto)]
 
 mod apdus;

@@ -8,8 +8,7 @@ ghost use Rattle.association_answers.specs.association_state.Seen.{base_in};
 
 use association_answers::association_state_layer::Basis;
 use association_answers::open_invocations_layer::Invocations;
-use ber_spelling::{are_octets, hold_octets};
-use osi_base::{NoMemory, Octets, Syntax};
+use osi_base::{NoMemory, Octets, Syntax, hold_octets, hold_some_octets};
 use rose_roles::{RoseTaken, refused_head};
 
 /// What becomes of octets on a context in a syntax: of the head that they spell, or of octets that
@@ -25,10 +24,10 @@ fn hear_octets(
         context (head_at basis.now.tables.now syntax octets.now)) }
 {
     basis.tables.is_readable();
-    are_octets(octets);
+    hold_octets(octets);
     match basis.heads.read(basis.alloc, syntax, octets) {
         Ok(head) => {
-            hold_octets(&head.rest);
+            hold_some_octets(&head.rest);
             calls.take(basis.tables, syntax, context, head)
         }
         Err(fault) => refused_head(fault),

@@ -1,6 +1,5 @@
 -- What units mean, as the code reads them.
-use Rattle.std.proofs.Common.{◌≡◌, ℕ, ℤ, List, Option, Some, None, Result, Ok, Err, refl, ap, subst}
-use Rattle.std.specs.Prelude.{pos, negsuc, option_map}
+use Rattle.std.proofs.Common.{◌≡◌, ℕ, List, Option, Some, None, Result, Ok, Err, refl, subst}
 use Rattle.osi_base.specs.declared.layer_words.SetItem.{SetItem}
 use Rattle.osi_base.specs.declared.session_word.SessionConnect.{SessionConnect}
 use Rattle.osi_base.specs.declared.session_word.SessionWord.{SessionWord}
@@ -14,13 +13,12 @@ use Rattle.presentation_pdus.specs.declared.place.PpduFault.TheVariants as why
 use Rattle.presentation_pdus.specs.Units.{ppdu_at}
 use Rattle.end_rules.specs.Base.{Base, Fault}
 use Rattle.end_rules.specs.State.{Body}
-use Rattle.end_rules.specs.Messages.{DataValue, Accepting, ProviderReason, UserValues, Word, OfAssociation, Finish, Disconnect, Abort, OfData, Values, OfMarks, Please}
+use Rattle.end_rules.specs.Messages.{DataValue, Accepting, UserValues, Word, OfAssociation, Finish, Disconnect, Abort, OfData, Values, OfMarks, Please}
 use Rattle.association_intake.specs.association_reading.declared.layer_of_values.LayerOfValues.{LayerOfValues}
 use Rattle.association_intake.specs.association_reading.declared.layer_of_values.LayerOfValues.TheVariants as carriage
 use Rattle.association_intake.specs.association_reading.Places.{pdv_places}
 use Rattle.association_intake.specs.association_reading.Association.{abort_values}
 use Rattle.association_intake.specs.association_reading.Meaning as reading
-use Rattle.association_words.specs.Seen.{natural}
 use Rattle.association_meaning.specs.Steps.{read_unit}
 use Rattle.association_meaning.specs.Words.{connect_in, connected, accept_in, accepted, reject_in, refused, refused_with, as_values, abort_of, with_abort, aborted_with, data_in, under, pleaded_with, meant, restarted_with, restart_acked_with, unit_meant}
 
@@ -77,11 +75,6 @@ refused_is base transport reason start user (Err why.NoMemory) = refl
 
 -- ---- aborts
 
-natural_is : (reason : Option ℤ) → option_map natural reason ≡ option_map reading.natural reason
-natural_is None = refl
-natural_is (Some (pos n)) = refl
-natural_is (Some (negsuc n)) = refl
-
 values_abort : (transport : Option ℕ) (r : Result (List DataValue) Fault) → with_abort transport (as_values r) ≡ reading.with_values (λ values. OfAssociation (Abort transport (UserValues values))) r
 values_abort transport (Ok vs) = refl
 values_abort transport (Err f) = refl
@@ -96,8 +89,7 @@ aborted_is base body transport start user (Ok (pdus.AlterAck a)) = refl
 aborted_is base body transport start user (Ok (pdus.Resynchronize l)) = refl
 aborted_is base body transport start user (Ok (pdus.ResynchronizeAck l)) = refl
 aborted_is base body transport start user (Ok (pdus.UserAbort c u)) = values_abort transport (abort_values base body.link.accepted (pdv_places place.Ab start user) u)
-aborted_is base body transport start user (Ok (pdus.ProviderAbort x e)) =
-    ap (λ (n : Option ℕ). let w : Result Word Fault = Ok (OfAssociation (Abort transport (ProviderReason n))) in w) (natural_is x)
+aborted_is base body transport start user (Ok (pdus.ProviderAbort x e)) = refl
 aborted_is base body transport start user (Ok (pdus.Data u)) = refl
 aborted_is base body transport start user (Err (why.At at kind reason)) = refl
 aborted_is base body transport start user (Err why.NoMemory) = refl

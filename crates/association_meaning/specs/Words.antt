@@ -17,14 +17,13 @@ use Rattle.presentation_pdus.specs.Units.{ppdu_at}
 use Rattle.stub_tables.specs.declared.tables.Tables.{Tables}
 use Rattle.end_rules.specs.Base.{Base, Fault}
 use Rattle.end_rules.specs.Faults.{invalid_ppdu}
-use Rattle.end_rules.specs.Messages.{DataValue, Accepting, AbortData, NoData, ProviderReason, UserValues, Word, OfAssociation, Connect, Accept, Refuse, Finish, Disconnect, Abort, AbortAccept, OfData, Values, OfMarks, Mark, MarkAck, Restart, RestartAck, Give, Please, GiveConfirm, GiveAck, OfActivities, Start, Resume, End, EndAck, Interrupt, InterruptAck, Discard, DiscardAck}
+use Rattle.end_rules.specs.Messages.{DataValue, Accepting, AbortData, NoData, ProviderReason, UserValues, Word, OfAssociation, Connect, Accept, Refuse, Finish, Disconnect, Abort, AbortAccept, OfData, Values, OfMarks, Mark, MarkAck, Restart, RestartAck, Give, Please, GiveConfirm, GiveAck, OfActivities, Start, Resume, End, EndAck, Interrupt, InterruptAck, Discard, DiscardAck, natural}
 use Rattle.association_intake.specs.association_reading.declared.layer_of_values.LayerOfValues.{LayerOfValues}
 use Rattle.association_intake.specs.association_reading.declared.layer_of_values.LayerOfValues.TheVariants as carriage
 use Rattle.association_intake.specs.association_reading.Places.{PdvPlaces, pdv_places}
 use Rattle.association_intake.specs.association_reading.Values.{values_under}
 use Rattle.association_intake.specs.association_reading.Association.{connect_values, accept_values, refuse_values, abort_values}
 use Rattle.association_intake.specs.association_reading.Meaning.{with_values, typed_meaning, restart_meaning, restart_ack_meaning, carried_by_data, accepting}
-use Rattle.association_words.specs.Seen.{natural}
 use Rattle.association_meaning.specs.Steps.{read_unit}
 
 -- ---- units of the presentation of one kind

@@ -2,9 +2,9 @@
 
 ghost use Rattle.std.specs.Prelude.{◌≡◌, IfOk, if◌then◌else◌};
 ghost use Rattle.osi_base.specs.declared.syntax.Syntax.TheVariants as syntaxes;
+ghost use Rattle.osi_base.specs.Syntax as syntax_names;
 ghost use Rattle.osi_base.specs.OctetPlaces.{HasPlaces};
 ghost use Rattle.acse.specs.Fields.{acse_at};
-ghost use Rattle.end_rules.specs.Base as rules;
 ghost use Rattle.end_rules.specs.Connecting as connecting;
 ghost use Rattle.association_intake.specs.association_reading.Places.{pdv_places};
 ghost use Rattle.association_intake.specs.association_reading.Values as values_read;
@@ -47,7 +47,7 @@ fn is_left(definitions: &[Proposal], pdv: &Pdv) -> bool
 /// The first wrong value, apart from those of association control, which isn't accepted.
 fn first_wrong_unless_left(definitions: &[Proposal], set: &[SetItem], pdvs: &[Pdv]) -> Option<Wrong>
     ensures { result ≡ steps.first_wrong 0 (steps.unless_left definitions.now (steps.under_set
-        rules.acse_name set.now)) pdvs.now }
+        syntax_names.acse_name set.now)) pdvs.now }
 {
     for (which, pdv) in pdvs.iter().enumerate() {
         if !is_left(definitions, pdv) {

@@ -24,11 +24,12 @@ use Rattle.presentation_pdus.specs.declared.place.PpduFault.{PpduFault}
 use Rattle.presentation_pdus.specs.Words.{written_ppdu}
 use Rattle.presentation_pdus.specs.Units.{ppdu_at}
 use Rattle.stub_tables.specs.declared.tables.Tables.{Tables}
-use Rattle.association_wire.specs.end_rules.Base.{Base, Fault, acse_name, is_reliable}
+use Rattle.association_wire.specs.end_rules.Base.{Base, Fault, is_reliable}
 use Rattle.osi_base.specs.SetPlaces.{pair_of}
+use Rattle.osi_base.specs.Syntax.{acse_name}
 use Rattle.association_wire.specs.end_rules.State.{Body}
 use Rattle.association_wire.specs.end_rules.Faults.{or_fault}
-use Rattle.association_wire.specs.end_rules.Messages.{Information, Transferring, Other, ValueContent, Association, DataValue, Accepting, UserValues, ProviderReason, Word, OfAssociation, Connect, Accept, Refuse, Abort}
+use Rattle.association_wire.specs.end_rules.Messages.{Information, Transferring, Other, ValueContent, Association, DataValue, Accepting, UserValues, ProviderReason, Word, OfAssociation, Connect, Accept, Refuse, Abort, natural}
 use Rattle.association_wire.specs.end_rules.Writing.{acse_pair}
 use Rattle.association_wire.specs.end_rules.Connecting.{set_for, set_accepted, has_acse}
 use Rattle.association_wire.specs.end_rules.Policy.{is_faulty_proposal}
@@ -38,7 +39,7 @@ use Rattle.association_reading.specs.Places.{PdvPlaces, pdv_places}
 use Rattle.association_reading.specs.Contexts.{pdv_fault, first_place}
 use Rattle.association_reading.specs.Values.{without_user, externals_of, other, acse_content, with_content, value_by, before_values, unless_fault, values_under, informed, first_informed, with_user, informed_value, and_informed}
 use Rattle.association_reading.specs.Association.{is_aarq, is_acceptance, is_response, is_abort, stands, set_refused, unasked_values, left_values}
-use Rattle.association_reading.specs.Meaning.{on_ppdu, with_values, connect_meaning, accept_meaning, refuse_meaning, abort_meaning, natural}
+use Rattle.association_reading.specs.Meaning.{on_ppdu, with_values, connect_meaning, accept_meaning, refuse_meaning, abort_meaning}
 use Rattle.association_reading.specs.Laws.{IsWrittenIn}
 use Rattle.association_reading.proofs.Meant.{read_in}
 use Rattle.association_reading.specs.Associating.{AreOthers, IsInformed, CarriesOne, CarriesOneOn, AssociationsAreReadBack}

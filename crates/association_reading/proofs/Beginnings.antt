@@ -1,14 +1,15 @@
 -- A proper beginning of what is written is less than a message: of a TSDU, or of another unit, it hands up nothing, and is
 -- right so far.
 use Rattle.std.proofs.Common.{◌≡◌, refl, sym, ap, subst, ◌∙◌, ℕ, zero, suc, ◌+◌, ◌-◌, ◌<◌, ◌≤◌, true, false, List, [], ◌∷◌, ◌++◌, length, take, drop, None, arith, inl, inr, length-append}
-use Rattle.std.specs.Prelude.{Bool}
+use Rattle.std.specs.Prelude.{slice_index, Bool}
 use Rattle.std.specs.List.{flat_map}
 use Rattle.std.proofs.lemmas.Bool.{cases_lt}
 use Rattle.std.proofs.lemmas.List.{append-nil, length-take, length-drop}
 use Rattle.osi_base.specs.Limits.{tsdu_limit}
+use Rattle.osi_base.proofs.OctetLaws.{octets_right, octets_left}
+use Rattle.osi_base.specs.Octets.{AreOctets}
 use Rattle.tpkt.specs.declared.packet.Packet.{Packet}
 use Rattle.tpkt.specs.Wire.{two, header, mark, packet, Tpdu, Whole, Part, IsUnit, Splits, begun_by, handed}
-use Rattle.tpkt.specs.Stream.{IsOctets}
 use Rattle.tpkt.specs.Reader.{nothing, reading}
 use Rattle.tpkt.specs.Written.{parts_of, part_packet, written_tsdu}
 use Rattle.tpkt.proofs.StreamLaws.{less_than_a_packet, split_read}
@@ -33,16 +34,6 @@ cut (x ∷ a) b (y ∷ c) d e l =
     let k = cut a b c d tail (omega arith) in
     record { more = k.more; front = (λ i. head i ∷ k.front i); back = k.back }
 
--- octets behind others are octets
-pub octets-behind : (xs ys : List ℕ) → IsOctets (xs ++ ys) → IsOctets ys
-octets-behind [] ys h = h
-octets-behind (x ∷ xs) ys h = octets-behind xs ys (λ i. h (suc i))
-
-pub octets-front : (xs ys : List ℕ) → IsOctets (xs ++ ys) → IsOctets xs
-octets-front [] ys h i = omega arith
-octets-front (x ∷ xs) ys h zero = h 0
-octets-front (x ∷ xs) ys h (suc i) = octets-front xs ys (λ j. h (suc j)) i
-
 -- whole units that hand up nothing, and a proper beginning of a unit
 pub record Begun (begun front : List ℕ) : Type 0 where
   pub us : List Tpdu
@@ -55,22 +46,22 @@ pub record Begun (begun front : List ℕ) : Type 0 where
   pub is : IsUnit (begun_by begun us) next unit
   pub whole : packet unit ≡ rest ++ left
   pub some : 0 < length left
-  pub are : IsOctets rest
+  pub are : AreOctets rest
 
 pub one_part : (begun xs : List ℕ) (last : Bool) → length xs ≤ 65528 → length begun + length xs ≤ tsdu_limit → IsUnit begun (Part last xs) (header (240 ∷ mark last ∷ []) ++ xs)
 one_part begun xs last few within = record { spells = refl; at_least = omega arith; at_most = omega arith; within = within }
 
-first_begins : (begun front left : List ℕ) (next : Tpdu) (unit : List ℕ) → IsUnit begun next unit → packet unit ≡ front ++ left → 0 < length left → IsOctets front → Begun begun front
+first_begins : (begun front left : List ℕ) (next : Tpdu) (unit : List ℕ) → IsUnit begun next unit → packet unit ≡ front ++ left → 0 < length left → AreOctets front → Begun begun front
 first_begins begun front left next unit is whole some are =
     record { us = []; rest = front; splits = refl; none = refl; next = next; unit = unit; left = left; is = is; whole = whole; some = some; are = are }
 
-last_begins : (most : ℕ) (xs begun front back : List ℕ) → most ≤ 65528 → length xs ≤ most → length begun + length xs ≤ tsdu_limit → IsOctets front
+last_begins : (most : ℕ) (xs begun front back : List ℕ) → most ≤ 65528 → length xs ≤ most → length begun + length xs ≤ tsdu_limit → AreOctets front
     → flat_map part_packet (parts_of most xs) ≡ front ++ back → 0 < length back → Begun begun front
 last_begins most xs begun front back small few within are e some =
     let whole : part_packet (true, xs) ≡ front ++ back = sym (append-nil (part_packet (true, xs))) ∙ ap (flat_map part_packet) (sym (parts_last most xs few)) ∙ e in
     first_begins begun front back (Part true xs) (header (240 ∷ 128 ∷ []) ++ xs) (one_part begun xs true (omega arith) within) whole some are
 
-begins : (fuel most : ℕ) (xs begun front back : List ℕ) → most ≤ 65528 → 0 < most → length xs ≤ fuel → length begun + length xs ≤ tsdu_limit → IsOctets front
+begins : (fuel most : ℕ) (xs begun front back : List ℕ) → most ≤ 65528 → 0 < most → length xs ≤ fuel → length begun + length xs ≤ tsdu_limit → AreOctets front
     → flat_map part_packet (parts_of most xs) ≡ front ++ back → 0 < length back → Begun begun front
 begins zero most xs begun front back small some few within are e more = last_begins most xs begun front back small (omega arith) within are e more
 begins (suc fuel) most xs begun front back small some few within are e more =
@@ -89,7 +80,7 @@ begins (suc fuel) most xs begun front back small some few within are e more =
             | inr longer ↦ (
                 let c = cut front back (packet (header (240 ∷ 0 ∷ []) ++ take most xs)) (flat_map part_packet (parts_of most (drop most xs))) (sym both) longer in
                 let next = begins fuel most (drop most xs) (begun ++ take most xs) c.more back small some (omega (arith, left)) (omega (arith, left, taken, length-append begun (take most xs)))
-                (octets-behind (packet (header (240 ∷ 0 ∷ []) ++ take most xs)) c.more (subst IsOctets c.front are)) c.back more in
+                (octets_right (packet (header (240 ∷ 0 ∷ []) ++ take most xs)) c.more (subst AreOctets c.front are)) c.back more in
                 record {
                   us = Part false (take most xs) ∷ next.us;
                   rest = next.rest;
@@ -111,16 +102,16 @@ pub record Nothing (front : List ℕ) : Type 0 where
   pub packets : (reading nothing front).packets ≡ []
   pub fault : (reading nothing front).held.fault ≡ None
 
-of_begun : (front : List ℕ) → IsOctets front → Begun [] front → Nothing front
+of_begun : (front : List ℕ) → AreOctets front → Begun [] front → Nothing front
 of_begun front are b =
     let r = split_read front b.us b.rest are b.splits (less_than_a_packet (begun_by [] b.us) b.next b.unit b.rest b.left b.are b.is b.whole b.some) in
     record { packets = r.0 ∙ b.none; fault = r.1 }
 
-pub tsdu_begins : (size : ℕ) (tsdu front back : List ℕ) → 128 ≤ size → size ≤ 65531 → length tsdu ≤ tsdu_limit → IsOctets front → written_tsdu size tsdu ≡ front ++ back → 0 < length back → Nothing front
+pub tsdu_begins : (size : ℕ) (tsdu front back : List ℕ) → 128 ≤ size → size ≤ 65531 → length tsdu ≤ tsdu_limit → AreOctets front → written_tsdu size tsdu ≡ front ++ back → 0 < length back → Nothing front
 tsdu_begins size tsdu front back least most within are e some =
     of_begun front are (begins (length tsdu) (size - 3) tsdu [] front back (omega arith) (omega arith) (omega arith) (omega arith) are e some)
 
-pub unit_begins : (p : Packet) (unit front back : List ℕ) → IsUnit [] (Whole p) unit → IsOctets front → packet unit ≡ front ++ back → 0 < length back → Nothing front
+pub unit_begins : (p : Packet) (unit front back : List ℕ) → IsUnit [] (Whole p) unit → AreOctets front → packet unit ≡ front ++ back → 0 < length back → Nothing front
 unit_begins p unit front back is are e some =
     of_begun front are (first_begins [] front back (Whole p) unit is e some are)
 
@@ -130,28 +121,31 @@ short_so : (front : List ℕ) → Nothing front → first_in (with_octets front 
 short_so front n =
     ap (λ (ps : List Packet). first_front (reading nothing front).held (all_fronts ps)) n.packets ∙ ap front_held n.fault
 
-unit_short : (p : Packet) (unit : List ℕ) → IsUnit [] (Whole p) unit → IsOctets (packet unit) → BeginningsOf (packet unit)
-unit_short p unit is fits front back e some = short_so front (unit_begins p unit front back is (octets-front front back (subst IsOctets e fits)) e some)
+unit_short : (p : Packet) (unit : List ℕ) → IsUnit [] (Whole p) unit → AreOctets (packet unit) → BeginningsOf (packet unit)
+unit_short p unit is fits front back e some = short_so front (unit_begins p unit front back is (octets_left front back (subst AreOctets e fits)) e some)
 
-few-octets : IsOctets (packet (header (128 ∷ two 1 ++ two 0 ++ 0 ∷ [])))
-few-octets zero = omega arith
-few-octets (suc zero) = omega arith
-few-octets (suc (suc zero)) = omega arith
-few-octets (suc (suc (suc zero))) = omega arith
-few-octets (suc (suc (suc (suc zero)))) = omega arith
-few-octets (suc (suc (suc (suc (suc zero))))) = omega arith
-few-octets (suc (suc (suc (suc (suc (suc zero)))))) = omega arith
-few-octets (suc (suc (suc (suc (suc (suc (suc zero))))))) = omega arith
-few-octets (suc (suc (suc (suc (suc (suc (suc (suc zero)))))))) = omega arith
-few-octets (suc (suc (suc (suc (suc (suc (suc (suc (suc zero))))))))) = omega arith
-few-octets (suc (suc (suc (suc (suc (suc (suc (suc (suc (suc zero)))))))))) = omega arith
-few-octets (suc (suc (suc (suc (suc (suc (suc (suc (suc (suc (suc i))))))))))) = omega arith
+few-octets : AreOctets (packet (header (128 ∷ two 1 ++ two 0 ++ 0 ∷ [])))
+few-octets = record { each = at }
+  where
+    at : (i : ℕ) → slice_index (packet (header (128 ∷ two 1 ++ two 0 ++ 0 ∷ []))) i < 256
+    at zero = omega arith
+    at (suc zero) = omega arith
+    at (suc (suc zero)) = omega arith
+    at (suc (suc (suc zero))) = omega arith
+    at (suc (suc (suc (suc zero)))) = omega arith
+    at (suc (suc (suc (suc (suc zero))))) = omega arith
+    at (suc (suc (suc (suc (suc (suc zero)))))) = omega arith
+    at (suc (suc (suc (suc (suc (suc (suc zero))))))) = omega arith
+    at (suc (suc (suc (suc (suc (suc (suc (suc zero)))))))) = omega arith
+    at (suc (suc (suc (suc (suc (suc (suc (suc (suc zero))))))))) = omega arith
+    at (suc (suc (suc (suc (suc (suc (suc (suc (suc (suc zero)))))))))) = omega arith
+    at (suc (suc (suc (suc (suc (suc (suc (suc (suc (suc (suc i))))))))))) = omega arith
 
 pub beginnings_short : BeginningsAreShort
 beginnings_short = record {
   words = λ tables size word least most sendable front back e some.
       short_so front (tsdu_begins size (tsdu_of tables word) front back least most sendable.within
-      (octets-front front back (subst IsOctets e (written_octets size (tsdu_of tables word) least most sendable.octets))) e some);
+      (octets_left front back (subst AreOctets e (written_octets size (tsdu_of tables word) least most sendable.octets))) e some);
   request = λ source size calling called two_of room fits.
       unit_short (Connect (request_ends source size calling called)) _ (connect_is [] (request_ends source size calling called) (omega arith) two_of room) fits;
   confirm = λ destination size two_of room fits. unit_short (Confirm (confirm_ends destination size)) _ (confirm_is [] (confirm_ends destination size) two_of (omega arith) room) fits;

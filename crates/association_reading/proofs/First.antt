@@ -11,9 +11,9 @@ use Rattle.std.proofs.lemmas.List.{append-nil}
 use Rattle.osi_base.specs.declared.session_word.SessionWord.{SessionWord}
 use Rattle.osi_base.specs.declared.session_word.SessionWord.TheVariants as units
 use Rattle.osi_base.specs.Limits.{tsdu_limit}
+use Rattle.osi_base.specs.Octets.{AreOctets}
 use Rattle.tpkt.specs.declared.packet.Packet.{Packet}
 use Rattle.tpkt.specs.declared.reader_state.ReaderState.{ReaderState}
-use Rattle.tpkt.specs.Stream.{IsOctets}
 use Rattle.tpkt.specs.Reader.{ReaderProgress, nothing, reading}
 use Rattle.tpkt.specs.Written.{written_tsdu}
 use Rattle.tpkt.proofs.UnitLaws.{short_yet}
@@ -29,7 +29,7 @@ use Rattle.association_wire.specs.end_rules.Messages.{unit_of}
 use Rattle.association_wire.specs.Units.{user_octets}
 
 -- a TSDU that was written is handed up whole
-handed_up : (size : ℕ) (tsdu : List ℕ) → 128 ≤ size → size ≤ 65531 → length tsdu ≤ tsdu_limit → IsOctets tsdu → (reading nothing (written_tsdu size tsdu)).packets ≡ Tsdu tsdu ∷ []
+handed_up : (size : ℕ) (tsdu : List ℕ) → 128 ≤ size → size ≤ 65531 → length tsdu ≤ tsdu_limit → AreOctets tsdu → (reading nothing (written_tsdu size tsdu)).packets ≡ Tsdu tsdu ∷ []
 handed_up size tsdu least most within fits =
     let s = tsdu_split size tsdu [] [] [] least most within refl in
     let whole : Splits [] (written_tsdu size tsdu) (s.0 ++ []) [] = subst (λ (t : List ℕ). Splits [] t (s.0 ++ []) []) (append-nil (written_tsdu size tsdu)) s.1 in
@@ -67,10 +67,10 @@ stands_first tables size word more least most sendable =
 
 -- ---- transport units
 
-one_is_read : (p : Packet) (unit : List ℕ) → IsUnit [] (Whole p) unit → IsOctets (packet unit) → (reading nothing (packet unit)).packets ≡ p ∷ []
+one_is_read : (p : Packet) (unit : List ℕ) → IsUnit [] (Whole p) unit → AreOctets (packet unit) → (reading nothing (packet unit)).packets ≡ p ∷ []
 one_is_read p unit is fits = (split_read (packet unit) (Whole p ∷ []) [] fits (unit, [], is, sym (append-nil (packet unit)), refl) (short_yet [] [] (short_empty 0))).0
 
-whole_first : (p : Packet) (unit : List ℕ) (front : Front) (more : List ℕ) → IsUnit [] (Whole p) unit → IsOctets (packet unit) → fronts_of p ≡ front ∷ [] → first_in (with_octets (packet unit ++ more) nothing_came) ≡ front
+whole_first : (p : Packet) (unit : List ℕ) (front : Front) (more : List ℕ) → IsUnit [] (Whole p) unit → AreOctets (packet unit) → fronts_of p ≡ front ∷ [] → first_in (with_octets (packet unit ++ more) nothing_came) ≡ front
 whole_first p unit front more is fits brings =
     let a : ReaderProgress = reading nothing (packet unit) in
     let b : ReaderProgress = reading a.held more in

@@ -13,9 +13,10 @@ use Rattle.osi_base.specs.declared.presentation_word.PresentationAccept.{Present
 use Rattle.osi_base.specs.declared.presentation_word.PresentationReject.{PresentationReject}
 use Rattle.fixed_tables.specs.declared.pdu.PduFault.{PduFault}
 use Rattle.acse.specs.Fields.{acse_at}
-use Rattle.association_wire.specs.end_rules.Base.{Base, Fault, acse_name, is_reliable}
+use Rattle.association_wire.specs.end_rules.Base.{Base, Fault, is_reliable}
 use Rattle.association_wire.specs.end_rules.Sets.{same_name, accepted_set, fit_proposals}
 use Rattle.osi_base.specs.SetPlaces.{pair_of}
+use Rattle.osi_base.specs.Syntax.{acse_name}
 use Rattle.association_wire.specs.end_rules.Messages.{ValueContent, Unread, DataValue}
 use Rattle.association_wire.specs.end_rules.Policy.{is_faulty_proposal}
 use Rattle.association_wire.specs.end_rules.Writing.{proposals, acse_pair}

@@ -7,13 +7,14 @@ use Rattle.asn1_types.specs.Value.{integer}
 use Rattle.stub_tables.specs.declared.tables.Tables.{Tables}
 use Rattle.stub_tables.specs.declared.apdu.Apdu.TheVariants as apdus
 use Rattle.stub_tables.specs.declared.operation.Code.TheVariants.{Local}
-use Rattle.association_wire.specs.end_rules.Base.{Base, Fault, base_of, acse_name}
+use Rattle.association_wire.specs.end_rules.Base.{Base, Fault, base_of}
 use Rattle.association_wire.specs.end_rules.Messages.{Remote, OfData, Values, Word, Message, Transport, Session}
 use Rattle.association_wire.specs.end_rules.Writing.{acse_pair}
 use Rattle.association_wire.specs.end_rules.Cases.{config_of, module_name}
 use Rattle.association_wire.specs.end_rules.State.{Body, Carrying, new_body}
 use Rattle.association_wire.specs.Cases.{calc, in_ber, accepted}
 use Rattle.osi_base.specs.declared.syntax.Syntax.TheVariants.{Packed}
+use Rattle.osi_base.specs.Syntax.{acse_name}
 use Rattle.association_reading.specs.Front.{Front, Short, OfTransport, OfSession, Faulty, first_in, with_octets, nothing_came}
 use Rattle.association_reading.specs.Meaning.{meaning}
 use Rattle.association_reading.specs.Transfers.{association_spellings}

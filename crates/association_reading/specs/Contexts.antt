@@ -1,7 +1,7 @@
 -- Whether presentation data values may stand where they came: their contexts, transfer syntax names, abstract syntaxes
 -- and forms (X.226 8.4.2).
 use Rattle.std.specs.Prelude.{ℕ, List, [], ◌∷◌, Bool, true, false, not, ◌||◌, Option, Some, None}
-use Rattle.osi_base.specs.Syntax.{name_of}
+use Rattle.osi_base.specs.Syntax.{name_of, acse_name, rtse_name}
 use Rattle.osi_base.specs.declared.syntax.Pair.{Pair}
 use Rattle.osi_base.specs.declared.syntax.Syntax.{Syntax}
 use Rattle.osi_base.specs.declared.syntax.Syntax.TheVariants.{Ber, Der, Packed}
@@ -10,7 +10,7 @@ use Rattle.osi_base.specs.declared.presentation_word.Pdv.{Pdv}
 use Rattle.osi_base.specs.declared.presentation_word.PdvContent.{PdvContent}
 use Rattle.osi_base.specs.declared.presentation_word.PdvContent.TheVariants as forms
 use Rattle.stub_tables.specs.declared.tables.Tables.{Tables}
-use Rattle.association_wire.specs.end_rules.Base.{Fault, acse_name, rtse_name}
+use Rattle.association_wire.specs.end_rules.Base.{Fault}
 use Rattle.association_wire.specs.end_rules.Sets.{same_name}
 use Rattle.association_wire.specs.end_rules.Faults.{fault_at, fault_if, or_fault}
 use Rattle.association_reading.specs.declared.layer_of_values.LayerOfValues.{LayerOfValues}

@@ -23,14 +23,15 @@ use Rattle.stub_tables.specs.declared.tables.Tables.{Tables}
 use Rattle.stub_tables.specs.declared.apdu.Apdu.{Apdu}
 use Rattle.stub_tables.specs.Readable.{IsReadable}
 use Rattle.apdu_spelling.specs.Writing.{IsWritable}
-use Rattle.tpkt.specs.Stream.{IsOctets}
 use Rattle.spdu_codec.specs.Written.{AreWritable}
 use Rattle.presentation_pdus.specs.declared.place.PpduPlace.{PpduPlace}
 use Rattle.presentation_pdus.specs.declared.place.PpduPlace.TheVariants as place
 use Rattle.ppdu_laws.specs.Written.{IsWritable as IsWritablePpdu}
-use Rattle.association_wire.specs.end_rules.Base.{Base, rtse_name}
+use Rattle.association_wire.specs.end_rules.Base.{Base}
 use Rattle.association_wire.specs.end_rules.Sets.{same_name}
 use Rattle.osi_base.specs.SetPlaces.{pair_of}
+use Rattle.osi_base.specs.Octets.{AreOctets}
+use Rattle.osi_base.specs.Syntax.{rtse_name}
 use Rattle.association_wire.specs.end_rules.State.{Body}
 use Rattle.association_wire.specs.Values.{content_octets, pdvs_of}
 use Rattle.association_wire.specs.Units.{user_octets}
@@ -44,7 +45,7 @@ use Rattle.association_reading.specs.Meaning.{meaning, carried_by_data}
 -- the units of the session may be written, and their octets are those of one TSDU
 pub record IsSendable (tables : Tables) (word : Word) : Type 0 where
   pub units : AreWritable (session_units tables word)
-  pub octets : IsOctets (tsdu_of tables word)
+  pub octets : AreOctets (tsdu_of tables word)
   pub within : length (tsdu_of tables word) ≤ tsdu_limit
 
 -- What is written of a word stands first on a line, whatever follows.
@@ -147,7 +148,7 @@ pub record TransferWordsAreReadBack : Type 0 where
 -- ---- transport units: a CR, a CC and a DR to an initiator stand first, whatever follows
 
 abbrev pub StandsFirst : TransportUnit → Type 0
-StandsFirst unit = (more : List ℕ) → IsOctets (written_unit unit) → first_in (with_octets (written_unit unit ++ more) nothing_came) ≡ OfTransport unit
+StandsFirst unit = (more : List ℕ) → AreOctets (written_unit unit) → first_in (with_octets (written_unit unit ++ more) nothing_came) ≡ OfTransport unit
 
 pub record TransportUnitsStandFirst : Type 0 where
   pub request : (source : ℕ) (size : Option ℕ) (calling called : List ℕ) → IsTwo source → HasRoom (request_ends source size calling called) →
@@ -163,7 +164,7 @@ BeginningsOf octets = (front back : List ℕ) → octets ≡ front ++ back → 0
 pub record BeginningsAreShort : Type 0 where
   pub words : (tables : Tables) (size : ℕ) (word : Word) → unit_least ≤ size → size ≤ unit_most → IsSendable tables word → BeginningsOf (written tables size (Session word))
   pub request : (source : ℕ) (size : Option ℕ) (calling called : List ℕ) → IsTwo source → HasRoom (request_ends source size calling called) →
-      IsOctets (written_unit (ConnectionRequest source size calling called)) → BeginningsOf (written_unit (ConnectionRequest source size calling called))
+      AreOctets (written_unit (ConnectionRequest source size calling called)) → BeginningsOf (written_unit (ConnectionRequest source size calling called))
   pub confirm : (destination : ℕ) (size : Option ℕ) → IsTwo destination → HasRoom (confirm_ends destination size) →
-      IsOctets (written_unit (ConnectionConfirm destination size)) → BeginningsOf (written_unit (ConnectionConfirm destination size))
+      AreOctets (written_unit (ConnectionConfirm destination size)) → BeginningsOf (written_unit (ConnectionConfirm destination size))
   pub refuse : BeginningsOf (written_unit (DisconnectRequest 1))

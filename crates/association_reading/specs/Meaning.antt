@@ -1,6 +1,6 @@
 -- What a unit of the session means to an end, or the fault that ends the association: its unit of the presentation
 -- protocol, then contexts and forms of values, then their APDUs (X.225 8.3, X.226 8.2 to 8.4).
-use Rattle.std.specs.Prelude.{ℕ, ℤ, pos, negsuc, ◌+◌, List, [], if◌then◌else◌, Option, Some, None, option_map, Result, Ok, Err}
+use Rattle.std.specs.Prelude.{ℕ, ◌+◌, List, [], if◌then◌else◌, Option, Some, None, option_map, Result, Ok, Err}
 use Rattle.osi_base.specs.declared.layer_words.Layer.TheVariants as layers
 use Rattle.osi_base.specs.declared.session_word.SessionConnect.{SessionConnect}
 use Rattle.osi_base.specs.declared.session_word.SessionWord.{SessionWord}
@@ -13,7 +13,7 @@ use Rattle.presentation_pdus.specs.declared.place.PpduFault.{PpduFault}
 use Rattle.presentation_pdus.specs.declared.place.PpduFault.TheVariants as why
 use Rattle.presentation_pdus.specs.Units.{ppdu_at}
 use Rattle.association_wire.specs.end_rules.Base.{Base, Fault, is_reliable}
-use Rattle.association_wire.specs.end_rules.Messages.{DataValue, Accepting, NoData, ProviderReason, UserValues, Word, OfAssociation, Connect, Accept, Refuse, Finish, Disconnect, Abort, AbortAccept, OfData, Values, AlterContext, AlterContextAck, OfMarks, Mark, MarkAck, Restart, RestartAck, Give, Please, GiveConfirm, GiveAck, OfActivities, Start, Resume, End, EndAck, Interrupt, InterruptAck, Discard, DiscardAck}
+use Rattle.association_wire.specs.end_rules.Messages.{DataValue, Accepting, NoData, ProviderReason, UserValues, Word, OfAssociation, Connect, Accept, Refuse, Finish, Disconnect, Abort, AbortAccept, OfData, Values, AlterContext, AlterContextAck, OfMarks, Mark, MarkAck, Restart, RestartAck, Give, Please, GiveConfirm, GiveAck, OfActivities, Start, Resume, End, EndAck, Interrupt, InterruptAck, Discard, DiscardAck, natural}
 use Rattle.association_wire.specs.end_rules.State.{Body}
 use Rattle.association_wire.specs.end_rules.Faults.{fault_at, invalid_ppdu}
 use Rattle.association_reading.specs.declared.layer_of_values.LayerOfValues.{LayerOfValues}
@@ -59,11 +59,6 @@ refuse_meaning base transport reason start user _ = not_carried
 abbrev pub refused_with : Base → Option ℕ → Option ℕ → ℕ → Option (List ℕ) → Result Word Fault
 refused_with base transport reason start None = Ok (OfAssociation (Refuse transport reason None []))
 refused_with base transport reason start (Some user) = on_ppdu start (ppdu_at place.Rf user) (refuse_meaning base transport reason start user)
-
--- a provider's reason is a natural number
-abbrev pub natural : ℤ → ℕ
-natural (pos n) = n
-natural (negsuc n) = 0
 
 abbrev pub abort_meaning : Base → Body → Option ℕ → ℕ → List ℕ → PresentationWord → Result Word Fault
 abort_meaning base body transport start user (ppdus.UserAbort contexts pdvs) =

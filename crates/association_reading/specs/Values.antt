@@ -15,9 +15,10 @@ use Rattle.fixed_tables.specs.declared.pdu.PduFault.TheVariants as why
 use Rattle.acse.specs.Fields.{acse_at}
 use Rattle.rtse_apdus.specs.Reading.{rtse_at}
 use Rattle.stub_tables.specs.declared.tables.Tables.{Tables}
-use Rattle.association_wire.specs.end_rules.Base.{Base, Fault, rtse_name, is_reliable}
+use Rattle.association_wire.specs.end_rules.Base.{Base, Fault, is_reliable}
 use Rattle.association_wire.specs.end_rules.Sets.{same_name}
 use Rattle.osi_base.specs.SetPlaces.{pair_of}
+use Rattle.osi_base.specs.Syntax.{rtse_name}
 use Rattle.association_wire.specs.end_rules.Messages.{Information, Transferring, Other, ValueContent, Unread, Association, Plea, Part, DataValue}
 use Rattle.association_wire.specs.end_rules.Connecting.{is_on_rtse}
 use Rattle.association_wire.specs.end_rules.Faults.{fault_at, acse_fault, rtse_fault}

@@ -3,6 +3,7 @@ use Rattle.std.proofs.Common.{◌≡◌, refl, ◌∙◌, sym, ap, subst, List, 
 use Rattle.std.specs.Prelude.{Bool, Some}
 use Rattle.osi_base.specs.declared.layer_words.Side.{Side}
 use Rattle.osi_base.specs.declared.layer_words.Side.TheVariants.{A, B}
+use Rattle.end_model.specs.end_rules.Encodings.{item_of, IsOf, IsNewest}
 use Rattle.dialogue.specs.declared.indication.Indication.{Indication}
 use Rattle.end_model.specs.end_rules.Messages.{Message, Session, OfActivities, End}
 use Rattle.end_model.specs.end_rules.State.{Body}
@@ -18,7 +19,7 @@ use Rattle.end_model.specs.Sharing.{side_of}
 use Rattle.end_model.specs.BothEnds as both_ends
 use Rattle.end_model.specs.BothEnds.{Common, Two, coming_to}
 use Rattle.outcome_laws.specs.reliable_model.Ledgers.{Ledger, TransferLog}
-use Rattle.outcome_laws.specs.reliable_model.Transfers.{ArrivesWhole, IsNewest, IsOf, item_of}
+use Rattle.outcome_laws.specs.reliable_model.Transfers.{ArrivesWhole}
 use Rattle.outcome_laws.specs.Exchanges.{Exchanges}
 use Rattle.association_runs.specs.Worlds.{stepping}
 use Rattle.association_runs.specs.Sides.{ends_for}

@@ -6,7 +6,7 @@ use Rattle.end_model.specs.end_rules.Base.{Base}
 use Rattle.end_model.specs.end_rules.State.{Body}
 use Rattle.end_model.specs.end_rules.History.{Step, History, body_of, after_step}
 use Rattle.end_model.specs.end_rules.World.{World, Ends, base_at, body_at, history_of, Shared, shared_after, shared_at}
-use Rattle.end_model.specs.end_rules.World as sides
+use Rattle.dialogue.specs.Sides.{other as other_side}
 use Rattle.agreement.specs.Sets.{Role, other}
 use Rattle.agreement.specs.Sets.Role.{Initiator, Responder}
 use Rattle.end_model.specs.BothEnds as both_ends
@@ -50,7 +50,7 @@ pub base-for : (common : Common) (role : Role) → base_at (ends_for common) (si
 base-for common Initiator = refl
 base-for common Responder = refl
 
-pub other-side : (role : Role) → side_of (other role) ≡ sides.other (side_of role)
+pub other-side : (role : Role) → side_of (other role) ≡ other_side (side_of role)
 other-side Initiator = refl
 other-side Responder = refl
 

@@ -5,6 +5,7 @@ use Rattle.asn1_types.specs.declared.value.Val.{Val}
 use Rattle.osi_base.specs.declared.layer_words.Answers.{Answers}
 use Rattle.osi_base.specs.declared.layer_words.Problem.{Problem}
 use Rattle.osi_base.specs.declared.layer_words.ProblemKind.TheVariants as problems
+use Rattle.end_model.specs.end_rules.Members.{IsIn}
 use Rattle.stub_tables.specs.declared.tables.Tables.{Tables}
 use Rattle.stub_tables.specs.declared.operation.Code.{Code}
 use Rattle.stub_tables.specs.declared.operation.Use.{Use}
@@ -37,11 +38,11 @@ use Rattle.end_model.specs.end_rules.TakesData.{with_parts, values_taken, shown_
 use Rattle.end_model.specs.end_rules.TakesMarks.{mark_shown, shown_turn, priority_in, shown_plea, shown_please, shown_of_mark}
 use Rattle.end_model.specs.end_rules.TakesActivities.{invocation_in, shown_cut, received, handed_up, shown_of_activity}
 use Rattle.outcome_laws.specs.Exchanges.{Asked}
-use Rattle.outcome_laws.specs.Outcomes.{IsIn as IsAmong, value_of}
+use Rattle.outcome_laws.specs.Outcomes.{value_of}
 use Rattle.outcome_laws.proofs.Open.{asked_in, Once, Found, found}
 use Rattle.outcome_laws.proofs.Hearing.{no-first, rest-none, head-once}
 use Rattle.outcome_laws.proofs.Transferred.{shown_of}
-use Rattle.run_laws.specs.Outcomes.{Invocation, ToldOutcome, returned, failed, rejected as was_rejected, id_of, has_result, takes_parameter, has_error, has_outcome, IsIn, IsAllowed}
+use Rattle.run_laws.specs.Outcomes.{Invocation, ToldOutcome, returned, failed, rejected as was_rejected, id_of, has_result, takes_parameter, has_error, has_outcome, IsAllowed}
 
 -- ---- members
 
@@ -111,7 +112,7 @@ made-on tables own more [] h = tt
 made-on tables own more (x ∷ xs) h =
     (record { invocation = h.0.invocation; is_made = in-front own more h.0.invocation h.0.is_made; same_id = h.0.same_id; same_operation = h.0.same_operation; row = h.0.row; is_there = h.0.is_there }, made-on tables own more xs h.1)
 
-pub made-of : (tables : Tables) (own : List Invocation) (xs : List Asked) (x : Asked) → AreMade tables own xs → IsAmong x xs → IsMade tables own x
+pub made-of : (tables : Tables) (own : List Invocation) (xs : List Asked) (x : Asked) → AreMade tables own xs → IsIn x xs → IsMade tables own x
 made-of tables own [] x h k = absurd k
 made-of tables own (y ∷ ys) x h (inl e) = subst (IsMade tables own) e h.0
 made-of tables own (y ∷ ys) x h (inr k) = made-of tables own ys x h.1 k

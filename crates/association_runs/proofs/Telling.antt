@@ -7,6 +7,8 @@ use Rattle.std.proofs.lemmas.Bool.Decides.{Decides-int_eq}
 use Rattle.std.proofs.lemmas.List.{append-nil}
 use Rattle.asn1_types.specs.declared.value.Val.{Val}
 use Rattle.osi_base.specs.declared.layer_words.Side.{Side}
+use Rattle.end_model.specs.end_rules.Members.{IsIn}
+use Rattle.dialogue.specs.Sides.{other}
 use Rattle.stub_tables.specs.declared.tables.Tables.{Tables}
 use Rattle.stub_tables.specs.Lookup.{operation_at}
 use Rattle.dialogue.specs.declared.indication.Indication.{Indication}
@@ -14,12 +16,12 @@ use Rattle.dialogue.specs.declared.indication.Indication.TheVariants as indicati
 use Rattle.dialogue.specs.declared.event.Event.{Event}
 use Rattle.dialogue.specs.declared.event.Entry.{Entry}
 use Rattle.end_model.specs.end_rules.Invoking.{is_linked_to}
-use Rattle.end_model.specs.end_rules.World.{World, Ends, other}
+use Rattle.end_model.specs.end_rules.World.{World, Ends}
 use Rattle.end_model.proofs.Numbered.{or-first, or-second}
 use Rattle.outcome_laws.specs.Exchanges.{Asked, outcomes_in, AreDistinct}
 use Rattle.outcome_laws.specs.Links.{IsAllowedLink, AreAllowedLinks, links_in}
 use Rattle.run_laws.specs.Showing.{indications_at, EachCarryShows}
-use Rattle.run_laws.specs.Outcomes.{Invocation, ToldOutcome, id_of, invoked_by, answered_by, invocations, answers, invocation_in, outcome_in, told_invocations, outcomes, IsIn, IsAllowed, IsAnswer, Differ, AreOnce, IsLinkAllowed, OneOutcome}
+use Rattle.run_laws.specs.Outcomes.{Invocation, ToldOutcome, id_of, invoked_by, answered_by, invocations, answers, invocation_in, outcome_in, told_invocations, outcomes, IsAllowed, IsAnswer, Differ, AreOnce, IsLinkAllowed, OneOutcome}
 use Rattle.association_runs.specs.Worlds.{Runs}
 use Rattle.association_runs.proofs.Transcribed.{calls_at, calls-told, seen_at, seen-told}
 use Rattle.association_runs.proofs.Noted.{IsMade, AreMade, made-of, AreNoted, IsPlain, ArePlain}

@@ -4,6 +4,7 @@ use Rattle.std.specs.Prelude.{Bool, Option, if◌then◌else◌}
 use Rattle.std.proofs.lemmas.List.{append-nil}
 use Rattle.osi_base.specs.declared.layer_words.Side.{Side}
 use Rattle.osi_base.specs.declared.layer_words.Side.TheVariants.{A, B}
+use Rattle.dialogue.specs.Sides.{other}
 use Rattle.dialogue.specs.Carries.{first_octets}
 use Rattle.dialogue.specs.declared.call.Call.{Call}
 use Rattle.dialogue.specs.declared.event.Event.{Event}
@@ -18,7 +19,7 @@ use Rattle.end_model.specs.end_rules.Calling.{can_call}
 use Rattle.end_model.specs.end_rules.Requesting.{due_of}
 use Rattle.end_model.specs.end_rules.ByItself.{OwnAct, SendsNow, EncodesOn}
 use Rattle.end_model.specs.end_rules.History.{Step, called, sent, fed, took, answered, passed, aborted, feed_end, gave, broke, step_of, ByItself, rests, goes, call_steps}
-use Rattle.end_model.specs.end_rules.World.{World, Ends, base_at, body_at, is_side, other}
+use Rattle.end_model.specs.end_rules.World.{World, Ends, base_at, body_at, is_side}
 use Rattle.run_laws.specs.Showing.{shown_at, behind_newest, showing_on, showings, shown_to, carries_to, EachCarryShows, indications_in, indications_at}
 use Rattle.run_laws.specs.Outcomes.{called_at, all_called}
 use Rattle.association_line.specs.Line.{End, after, after_all}

@@ -1,13 +1,14 @@
 -- Events have one run.
 use Rattle.std.proofs.Common.{◌≡◌, refl, sym, ap, subst, List, [], ◌∷◌, length}
 use Rattle.osi_base.specs.declared.layer_words.Side.TheVariants.{A, B}
+use Rattle.dialogue.specs.Sides.{other}
 use Rattle.dialogue.specs.Carries.{first_octets}
 use Rattle.dialogue.specs.declared.event.Event.{Event}
 use Rattle.dialogue.specs.declared.event.Entry.{Entry}
 use Rattle.dialogue.specs.declared.event.Entry.TheVariants as entries
 use Rattle.end_model.specs.end_rules.Calling.{can_call}
 use Rattle.end_model.specs.end_rules.History.{Step, gave, broke}
-use Rattle.end_model.specs.end_rules.World.{World, Ends, base_at, other}
+use Rattle.end_model.specs.end_rules.World.{World, Ends, base_at}
 use Rattle.association_line.specs.OneFeed.{OneFeed, OneCall}
 use Rattle.association_runs.specs.Worlds.{end_at, stepping, Runs, rests, calls, carries, breaks}
 use Rattle.association_runs.specs.Laws.{OneRun}

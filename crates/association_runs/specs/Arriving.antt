@@ -2,16 +2,18 @@
 -- number, as it was encoded last (X.228 7.3; the numbers are this project's own rule).
 use Rattle.std.specs.Prelude.{◌≡◌, [], ◌∷◌, Bool, true, false, Some, Ok}
 use Rattle.osi_base.specs.declared.layer_words.Side.{Side}
+use Rattle.end_model.specs.end_rules.Encodings.{item_of, IsOf, Encoding, IsNewest}
+use Rattle.dialogue.specs.Sides.{other}
 use Rattle.end_model.specs.end_rules.Base.{Item, Whole}
 use Rattle.end_model.specs.end_rules.Messages.{Session, OfActivities, End}
 use Rattle.end_model.specs.end_rules.TakesActivities.{arrived_now}
 use Rattle.end_model.specs.end_rules.History.{Step, took}
-use Rattle.end_model.specs.end_rules.World.{World, Ends, base_at, body_at, other}
+use Rattle.end_model.specs.end_rules.World.{World, Ends, base_at, body_at}
 use Rattle.agreement.specs.Sets.{Role}
 use Rattle.end_model.specs.BothEnds.{Common, Two}
-use Rattle.outcome_laws.specs.reliable_model.Ledgers.{Encoding, Ledger, ReachedWithLedger, transfer_log_of}
+use Rattle.outcome_laws.specs.reliable_model.Ledgers.{Ledger, ReachedWithLedger, transfer_log_of}
 use Rattle.outcome_laws.specs.reliable_model.Transfers as transfers
-use Rattle.outcome_laws.specs.reliable_model.Transfers.{ArrivesWhole, IsNewest, IsOf, item_of}
+use Rattle.outcome_laws.specs.reliable_model.Transfers.{ArrivesWhole}
 use Rattle.association_runs.specs.TransferLogsAt.{transfer_log_at}
 
 pub record IsWhole (ends : Ends) (side : Side) (w : World) : Type 0 where

@@ -1,9 +1,10 @@
 -- Nothing whole waits: an end that isn't over took each message whose last octet was given to it, and no other.
 use Rattle.std.specs.Prelude.{◌≡◌, ℕ, suc, ◌+◌, ◌-◌, nat_le, List, [], ◌∷◌, ◌++◌, map, length, false, if◌then◌else◌, Some}
 use Rattle.osi_base.specs.declared.layer_words.Side.{Side}
+use Rattle.dialogue.specs.Sides.{other}
 use Rattle.end_model.specs.end_rules.State.{passes_over}
 use Rattle.end_model.specs.end_rules.History.{Step, gave, broke}
-use Rattle.end_model.specs.end_rules.World.{World, Ends, base_at, is_side, other}
+use Rattle.end_model.specs.end_rules.World.{World, Ends, base_at, is_side}
 use Rattle.association_line.specs.association_wire.Written.{written}
 use Rattle.association_line.specs.association_reading.Front.{Intake, Short, first_in}
 use Rattle.run_laws.specs.Passing.{sent_in, on_connection, readings}

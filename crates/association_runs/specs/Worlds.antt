@@ -3,6 +3,7 @@
 use Rattle.std.specs.Prelude.{ℕ, List, [], ◌∷◌, length, Option}
 use Rattle.osi_base.specs.declared.layer_words.Side.{Side}
 use Rattle.osi_base.specs.declared.layer_words.Side.TheVariants.{A, B}
+use Rattle.dialogue.specs.Sides.{other}
 use Rattle.dialogue.specs.Carries.{first_octets}
 use Rattle.stub_tables.specs.declared.tables.Tables.{Tables}
 use Rattle.dialogue.specs.declared.config.Config.{Config}
@@ -14,7 +15,7 @@ use Rattle.dialogue.specs.declared.indication.Indication.{Indication}
 use Rattle.end_model.specs.end_rules.Base.{base_of}
 use Rattle.end_model.specs.end_rules.Calling.{can_call}
 use Rattle.end_model.specs.end_rules.History.{Step, gave, broke}
-use Rattle.end_model.specs.end_rules.World.{World, Ends, base_at, other, history_of}
+use Rattle.end_model.specs.end_rules.World.{World, Ends, base_at, history_of}
 use Rattle.association_line.specs.association_reading.Transfers.{association_spellings}
 use Rattle.association_line.specs.Line.{End, end_of}
 use Rattle.association_line.specs.Feeding.{Feeds, Makes}

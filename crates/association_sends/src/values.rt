@@ -1,7 +1,7 @@
 //! Values of the association in the messages that an end writes.
 
 ghost use Rattle.std.specs.Prelude.{◌≡◌, IfOk, map};
-ghost use Rattle.end_rules.specs.Base.{acse_name, rtse_name};
+ghost use Rattle.osi_base.specs.Syntax.{acse_name, rtse_name};
 ghost use Rattle.end_rules.specs.Writing.{acse_context, rtse_context, acse_pair, acse_value, information};
 ghost use Rattle.association_words.specs.Seen.{seen_information, seen_value};
 

@@ -12,7 +12,7 @@ use association_ground::is_among;
 use osi_base::{NoMemory, Proposal, is_badly_offered};
 use std::alloc::Global;
 
-/// Whether the identifier is one of an initiator's, or else one of a responder's (X.226 8.4.2).
+/// Whether the identifier is one of an initiator's, or else one of a responder's (X.226 8.2).
 pub fn has_parity(initiator: bool, id: u32) -> bool
     ensures { result ≡ has_parity initiator id }
 {

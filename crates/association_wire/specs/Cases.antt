@@ -9,12 +9,13 @@ use Rattle.osi_base.specs.declared.layer_words.AddAnswer.{AddAnswer}
 use Rattle.osi_base.specs.declared.layer_words.RestoredItem.{RestoredItem}
 use Rattle.asn1_types.specs.Value.{integer}
 use Rattle.asn1_types.specs.declared.row.TypeRow.TheVariants.{Integer}
+use Rattle.osi_base.specs.Syntax.{acse_name}
 use Rattle.stub_tables.specs.declared.tables.Tables.{Tables}
 use Rattle.stub_tables.specs.declared.operation.Operation.{Operation}
 use Rattle.stub_tables.specs.declared.operation.Code.TheVariants.{Local}
 use Rattle.stub_tables.specs.declared.apdu.Apdu.TheVariants as apdus
 use Rattle.dialogue.specs.declared.config.Mode.TheVariants.{Direct}
-use Rattle.end_rules.specs.Base.{Base, base_of, acse_name, ber_name}
+use Rattle.end_rules.specs.Base.{Base, base_of, ber_name}
 use Rattle.end_rules.specs.Messages.{Remote, Values, AlterContext, AlterContextAck, OfData, Message, Session}
 use Rattle.end_rules.specs.Cases.{module_name, packed_name, proposal_of, config_of, plain_spellings}
 use Rattle.end_rules.specs.State.{Body, new_body}

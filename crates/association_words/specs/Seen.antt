@@ -1,5 +1,5 @@
 -- The values of this crate as the rules of one end speak of them: word for word the same. They say nothing of the places in tables at which codes were found.
-use Rattle.std.specs.Prelude.{ℕ, ℤ, pos, negsuc, List, map, option_map}
+use Rattle.std.specs.Prelude.{List, map, option_map}
 use Rattle.end_rules.specs.Base as rules
 use Rattle.end_rules.specs.Messages as meant
 use Rattle.association_words.specs.declared.faults.Fault.{Fault}
@@ -71,14 +71,9 @@ seen_transport TransportError = meant.TransportError
 abbrev pub seen_accepting : Accepting → meant.Accepting
 seen_accepting a = record { options = a.options; version = a.version; initial = a.initial; requirements = a.requirements }
 
--- a reason below 0 counts as 0
-abbrev pub natural : ℤ → ℕ
-natural (pos n) = n
-natural (negsuc n) = 0
-
 abbrev pub seen_abort : AbortData → meant.AbortData
 seen_abort NoData = meant.NoData
-seen_abort (ProviderReason reason) = meant.ProviderReason (option_map natural reason)
+seen_abort (ProviderReason reason) = meant.ProviderReason (option_map meant.natural reason)
 seen_abort (UserValues values) = meant.UserValues (seen_values values)
 
 abbrev pub seen_association : AssociationWord → meant.AssociationWord

@@ -1,5 +1,5 @@
 -- What a reader makes of the octets of messages: the front of each, and no fault.
-use Rattle.std.proofs.Common.{◌≡◌, refl, sym, ap, subst, ◌∙◌, ℕ, zero, suc, ◌<◌, true, false, List, [], ◌∷◌, ◌++◌, arith, None, Ok}
+use Rattle.std.proofs.Common.{◌≡◌, refl, sym, ap, subst, ◌∙◌, ℕ, true, false, List, [], ◌∷◌, ◌++◌, arith, None, Ok}
 use Rattle.std.specs.Prelude.{Bool, if◌then◌else◌}
 use Rattle.osi_base.specs.declared.session_word.SessionWord.{SessionWord}
 use Rattle.osi_base.specs.declared.session_word.SessionWord.TheVariants as units
@@ -12,11 +12,10 @@ use Rattle.spdu_codec.proofs.RoundLaws.{written_are}
 use Rattle.tpkt.specs.declared.packet.Packet.{Packet}
 use Rattle.tpkt.specs.declared.packet.Packet.TheVariants.{Connect, Confirm, Disconnect, Tsdu}
 use Rattle.tpkt.specs.Reader.{reading, nothing}
-use Rattle.tpkt.specs.Stream.{IsOctets}
 use Rattle.tpkt.specs.Wire.{packet, Tpdu, Whole, IsUnit, Splits, begun_by, handed}
 use Rattle.tpkt.proofs.UnitLaws.{short_yet}
 use Rattle.tpkt.proofs.ReaderLaws.{short_empty}
-use Rattle.tpkt.proofs.StreamLaws.{split_read, octets_join}
+use Rattle.tpkt.proofs.StreamLaws.{split_read}
 use Rattle.tpkt.proofs.WrittenLaws.{connect_is, confirm_is, disconnect_is, tsdu_split, written_octets}
 use Rattle.association_reading.specs.end_rules.Messages.{TransportUnit, ConnectionRequest, ConnectionConfirm, DisconnectRequest, TransportError, Word, unit_of, Message, Transport, Session}
 use Rattle.association_reading.specs.association_wire.Units.{user_octets}
@@ -24,6 +23,8 @@ use Rattle.association_reading.specs.association_wire.Written.{with_user, in_its
 use Rattle.association_reading.specs.Front.{Front, OfSession, OfTransport, fronts_of, fronts_of_units, all_fronts}
 use Rattle.association_reading.specs.Laws.{IsSendable}
 use Rattle.osi_base.specs.Limits.{IsUnitSize}
+use Rattle.osi_base.proofs.OctetLaws.{octets_join, no_octets, octets_more}
+use Rattle.osi_base.specs.Octets.{AreOctets}
 use Rattle.association_worlds.specs.InTransit.{IsOfTransport, IsCarried, start_in, session_front, front_of, SentMessage, text_of, texts, fronts_of_sent, AreWritten}
 
 -- what a message adds in front of other units
@@ -72,34 +73,28 @@ adds tables s more us h z sp = by s.message h
 
 -- ---- octets
 
-none : IsOctets []
-none i = omega arith
-
-o : (x : ℕ) (xs : List ℕ) → x < 256 → IsOctets xs → IsOctets (x ∷ xs)
-o x xs p q zero = p
-o x xs p q (suc i) = q i
-
-pub small-octets : (tables : Tables) (s : SentMessage) → IsCarried tables s.message → IsUnitSize s.size → IsOctets (text_of tables s)
+pub small-octets : (tables : Tables) (s : SentMessage) → IsCarried tables s.message → IsUnitSize s.size → AreOctets (text_of tables s)
 small-octets tables s h z = by s.message h
   where
-    dr : (destination : ℕ) → destination ≡ 1 → IsOctets (written_unit (DisconnectRequest destination))
-    dr destination e = subst (λ (d : ℕ). IsOctets (written_unit (DisconnectRequest d))) (sym e) eleven
+    dr : (destination : ℕ) → destination ≡ 1 → AreOctets (written_unit (DisconnectRequest destination))
+    dr destination e = subst (λ (d : ℕ). AreOctets (written_unit (DisconnectRequest d))) (sym e) eleven
       where
-        eleven : IsOctets (written_unit (DisconnectRequest 1))
-        eleven = o 3 (0 ∷ 0 ∷ 11 ∷ 6 ∷ 128 ∷ 0 ∷ 1 ∷ 0 ∷ 0 ∷ 0 ∷ []) (omega arith) (o 0 (0 ∷ 11 ∷ 6 ∷ 128 ∷ 0 ∷ 1 ∷ 0 ∷ 0 ∷ 0 ∷ []) (omega arith) (o 0 (11 ∷ 6 ∷ 128 ∷ 0 ∷ 1 ∷ 0 ∷ 0 ∷ 0 ∷ []) (omega arith) (o 11 (6 ∷ 128 ∷ 0 ∷ 1 ∷ 0 ∷ 0 ∷ 0 ∷ []) (omega arith) (o 6 (128 ∷ 0 ∷ 1 ∷ 0 ∷ 0 ∷ 0 ∷ []) (omega arith) (o 128 (0 ∷ 1 ∷ 0 ∷ 0 ∷ 0 ∷ []) (omega arith) (o 0 (1 ∷ 0 ∷ 0 ∷ 0 ∷ []) (omega arith) (o 1 (0 ∷ 0 ∷ 0 ∷ []) (omega arith) (o 0 (0 ∷ 0 ∷ []) (omega arith) (o 0 (0 ∷ []) (omega arith) (o 0 [] (omega arith) none))))))))))
+        eleven : AreOctets (written_unit (DisconnectRequest 1))
+        eleven =
+            octets_more 3 (0 ∷ 0 ∷ 11 ∷ 6 ∷ 128 ∷ 0 ∷ 1 ∷ 0 ∷ 0 ∷ 0 ∷ []) (omega arith) (octets_more 0 (0 ∷ 11 ∷ 6 ∷ 128 ∷ 0 ∷ 1 ∷ 0 ∷ 0 ∷ 0 ∷ []) (omega arith) (octets_more 0 (11 ∷ 6 ∷ 128 ∷ 0 ∷ 1 ∷ 0 ∷ 0 ∷ 0 ∷ []) (omega arith) (octets_more 11 (6 ∷ 128 ∷ 0 ∷ 1 ∷ 0 ∷ 0 ∷ 0 ∷ []) (omega arith) (octets_more 6 (128 ∷ 0 ∷ 1 ∷ 0 ∷ 0 ∷ 0 ∷ []) (omega arith) (octets_more 128 (0 ∷ 1 ∷ 0 ∷ 0 ∷ 0 ∷ []) (omega arith) (octets_more 0 (1 ∷ 0 ∷ 0 ∷ 0 ∷ []) (omega arith) (octets_more 1 (0 ∷ 0 ∷ 0 ∷ []) (omega arith) (octets_more 0 (0 ∷ 0 ∷ []) (omega arith) (octets_more 0 (0 ∷ []) (omega arith) (octets_more 0 [] (omega arith) no_octets))))))))))
 
-    of-unit : (unit : TransportUnit) → IsOfTransport unit → IsOctets (written_unit unit)
+    of-unit : (unit : TransportUnit) → IsOfTransport unit → AreOctets (written_unit unit)
     of-unit (ConnectionRequest source size calling called) h = h.2
     of-unit (ConnectionConfirm destination size) h = h.2
     of-unit (DisconnectRequest destination) h = dr destination h
     of-unit TransportError h = absurd h
 
-    by : (m : Message) → IsCarried tables m → IsOctets (written tables s.size m)
+    by : (m : Message) → IsCarried tables m → AreOctets (written tables s.size m)
     by (Transport unit) h = of-unit unit h
     by (Session word) h = written_octets s.size (tsdu_of tables word) z.least z.most h.octets
 
-pub texts-octets : (tables : Tables) (sents : List SentMessage) → AreWritten tables sents → IsOctets (texts tables sents)
-texts-octets tables [] h = none
+pub texts-octets : (tables : Tables) (sents : List SentMessage) → AreWritten tables sents → AreOctets (texts tables sents)
+texts-octets tables [] h = no_octets
 texts-octets tables (s ∷ sents) h = octets_join (text_of tables s) (texts tables sents) (small-octets tables s h.0 h.1) (texts-octets tables sents h.2)
 
 -- ---- all of them

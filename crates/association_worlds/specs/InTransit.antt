@@ -6,7 +6,6 @@ use Rattle.spdu_codec.specs.declared.places.UserPlaces.{UserPlaces}
 use Rattle.spdu_codec.specs.Places.{user_places}
 use Rattle.spdu_codec.specs.Written.{stands_alone}
 use Rattle.tpkt.specs.Reader.{reading, nothing}
-use Rattle.tpkt.specs.Stream.{IsOctets}
 use Rattle.tpkt.specs.Wire.{IsTwo}
 use Rattle.tpkt.specs.Written.{HasRoom}
 use Rattle.association_reading.specs.end_rules.Messages.{TransportUnit, ConnectionRequest, ConnectionConfirm, DisconnectRequest, TransportError, unit_of, Message, Transport, Session}
@@ -15,12 +14,14 @@ use Rattle.association_reading.specs.association_wire.Written.{with_user, tsdu_o
 use Rattle.association_reading.specs.Front.{Front, OfTransport, OfSession, Intake, start_of, all_fronts}
 use Rattle.association_reading.specs.Laws.{IsSendable}
 use Rattle.osi_base.specs.Limits.{IsUnitSize}
+use Rattle.osi_base.specs.Octets.{AreOctets}
 
 -- ---- messages that may be written
 
 abbrev pub IsOfTransport : TransportUnit → Type 0
-IsOfTransport (ConnectionRequest source size calling called) = IsTwo source × HasRoom (request_ends source size calling called) × IsOctets (written_unit (ConnectionRequest source size calling called))
-IsOfTransport (ConnectionConfirm destination size) = IsTwo destination × HasRoom (confirm_ends destination size) × IsOctets (written_unit (ConnectionConfirm destination size))
+IsOfTransport (ConnectionRequest source size calling called) =
+    IsTwo source × HasRoom (request_ends source size calling called) × AreOctets (written_unit (ConnectionRequest source size calling called))
+IsOfTransport (ConnectionConfirm destination size) = IsTwo destination × HasRoom (confirm_ends destination size) × AreOctets (written_unit (ConnectionConfirm destination size))
 IsOfTransport (DisconnectRequest destination) = destination ≡ 1
 IsOfTransport TransportError = ⊥
 

@@ -2,7 +2,8 @@
 
 ghost use Rattle.std.specs.Prelude.{◌≡◌, IfOk, Some, pos, option_map};
 ghost use Rattle.osi_base.specs.declared.presentation_word.PresentationWord.TheVariants as pdus;
-ghost use Rattle.association_words.specs.Seen.{natural, seen_values, seen_abort, seen_association, seen_data, seen_marks, seen_word};
+ghost use Rattle.end_rules.specs.Messages.{natural};
+ghost use Rattle.association_words.specs.Seen.{seen_values, seen_abort, seen_association, seen_data, seen_marks, seen_word};
 ghost use Rattle.association_wire.specs.Values.{pdvs_of};
 ghost use Rattle.association_wire.specs.Units.{data_unit, reject_unit, abort_unit, unit_of_association, unit_of_data, unit_of_marks, presentation_unit, user_octets};
 

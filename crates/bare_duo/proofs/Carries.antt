@@ -4,6 +4,7 @@ use Rattle.std.proofs.lemmas.List.{append-nil}
 use Rattle.std.specs.Prelude.{Bool}
 use Rattle.osi_base.specs.declared.layer_words.Side.{Side}
 use Rattle.osi_base.specs.declared.layer_words.Side.TheVariants.{A, B}
+use Rattle.dialogue.specs.Sides.{other}
 use Rattle.dialogue.specs.Carries.{first_octets}
 use Rattle.stub_tables.specs.declared.tables.Tables.{Tables}
 use Rattle.stub_tables.specs.Readable.{IsReadable}
@@ -18,7 +19,7 @@ use Rattle.end_rules.specs.Messages.{Message}
 use Rattle.end_rules.specs.State.{passes_over}
 use Rattle.end_rules.specs.Calling.{can_call}
 use Rattle.end_rules.specs.History.{Step, fed, gave, call_steps}
-use Rattle.end_rules.specs.World.{World, Ends, other}
+use Rattle.end_rules.specs.World.{World, Ends}
 use Rattle.bare_end.specs.end_wire.Bare.{Short, first_at}
 use Rattle.bare_end.specs.end_wire.Line.{End, after}
 use Rattle.bare_end.specs.end_wire.Feeding.{Reads, passes, waits, takes, fails}

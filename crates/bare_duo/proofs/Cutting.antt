@@ -11,7 +11,7 @@ use Rattle.ber_spelling.proofs.Inside.{Inside, Inside-bind, second, Begun, ident
 use Rattle.ber_spelling.proofs.InsideRules.{along_inside}
 use Rattle.ber_spelling.proofs.WholeValues.{read_stays}
 use Rattle.stub_tables.specs.declared.tables.Tables.{Tables}
-use Rattle.stub_tables.specs.Heads.{head_rows, any_row}
+use Rattle.stub_tables.specs.AnyValue.{any_value_rows, any_value_row}
 use Rattle.stub_tables.specs.Readable.{IsReadable}
 use Rattle.dialogue.specs.declared.config.Config.{Config}
 use Rattle.dialogue.specs.declared.indication.Indication.{Indication}
@@ -37,14 +37,14 @@ use Rattle.bare_duo.proofs.Unique.{same_reads}
 abbrev done : Value × ℕ → Reading (Value × ℕ)
 done x = Ok x
 
-read-within : (bytes : List ℕ) → Inside (λ (x : Value × ℕ). x.1 ≤ length bytes) (length bytes) (read_at head_rows any_row false 262144 bytes)
+read-within : (bytes : List ℕ) → Inside (λ (x : Value × ℕ). x.1 ≤ length bytes) (length bytes) (read_at any_value_rows any_value_row false 262144 bytes)
 unfolding read_at value_at reads
 read-within bytes =
     let scope = outermost 262144 false in
     let end : ℕ = length bytes in
-    Inside-bind (second end) (λ (x : Value × ℕ). x.1 ≤ end) end (value_at head_rows any_row scope 0 bytes) _
+    Inside-bind (second end) (λ (x : Value × ℕ). x.1 ≤ end) end (value_at any_value_rows any_value_row scope 0 bytes) _
     (Inside-bind (Begun end) (second end) end (identifier_at scope 0 bytes) _ (identifier_inside scope 0 bytes end (omega arith)) (λ x k.
-    (along_inside head_rows (length head_rows) any_row plain).each end scope x.0 x.1 k.0 k.1)) (λ x k. omega arith)
+    (along_inside any_value_rows (length any_value_rows) any_value_row plain).each end scope x.0 x.1 k.0 k.1)) (λ x k. omega arith)
 
 pub whole_within_text : (text : List ℕ) (used : ℕ) → first_at text ≡ Whole used → used ≤ length text
 whole_within_text text used e =
@@ -54,7 +54,7 @@ whole_within_text text used e =
 pub whole_stays : (text more : List ℕ) (used : ℕ) → first_at text ≡ Whole used → first_at (text ++ more) ≡ Whole used
 unfolding first_at
 whole_stays text more used e =
-    let r = read_of text used e in ap first_of (read_stays head_rows any_row false 262144 text more r.value used r.read)
+    let r = read_of text used e in ap first_of (read_stays any_value_rows any_value_row false 262144 text more r.value used r.read)
 
 -- ---- one end
 

@@ -10,13 +10,13 @@ use Rattle.ber_spelling.specs.Fields.{identifier_at, high_at, digits_at, is_lax,
 use Rattle.ber_spelling.specs.Rules.{read_at, value_at, reads, any_at, whole_at, outermost}
 use Rattle.ber_spelling.proofs.Identifiers.{bind_ok, chosen_ok, unless_ok, ok_is}
 use Rattle.ber_spelling.proofs.WholeValues.{read_stays, fault_stays}
-use Rattle.stub_tables.specs.Heads.{head_rows, any_row}
+use Rattle.stub_tables.specs.AnyValue.{any_value_rows, any_value_row}
 use Rattle.stub_tables.specs.Apdus.{IsWhole, IsShort}
 use Rattle.stub_tables.proofs.Readings.{whole_read, nothing_short}
 use Rattle.bare_end.specs.end_wire.Bare.{Short, Whole, Faulty, first_of, first_at}
 
 abbrev read_any : List ℕ → Result (Value × ℕ) ReadFault
-read_any text = read_at head_rows any_row false 262144 text
+read_any text = read_at any_value_rows any_value_row false 262144 text
 
 abbrev done : Value × ℕ → Result (Value × ℕ) ReadFault
 done x = Ok x
@@ -48,9 +48,9 @@ faulty_stays text more place e = go (read_any text) refl e
     go : (r : Result (Value × ℕ) ReadFault) → read_any text ≡ r → first_of r ≡ Faulty place → first_of (read_any (text ++ more)) ≡ Faulty place
     go (Ok x) is e = absurd cc
     go (Err faults.Short) is e = absurd cc
-    go (Err (faults.NotSpelled at kind)) is e = ap first_of (fault_stays head_rows any_row false 262144 text more (faults.NotSpelled at kind) (λ s. cc) is) ∙ e
-    go (Err (faults.TooDeep at)) is e = ap first_of (fault_stays head_rows any_row false 262144 text more (faults.TooDeep at) (λ s. cc) is) ∙ e
-    go (Err (faults.TooLong at)) is e = ap first_of (fault_stays head_rows any_row false 262144 text more (faults.TooLong at) (λ s. cc) is) ∙ e
+    go (Err (faults.NotSpelled at kind)) is e = ap first_of (fault_stays any_value_rows any_value_row false 262144 text more (faults.NotSpelled at kind) (λ s. cc) is) ∙ e
+    go (Err (faults.TooDeep at)) is e = ap first_of (fault_stays any_value_rows any_value_row false 262144 text more (faults.TooDeep at) (λ s. cc) is) ∙ e
+    go (Err (faults.TooLong at)) is e = ap first_of (fault_stays any_value_rows any_value_row false 262144 text more (faults.TooLong at) (λ s. cc) is) ∙ e
     go (Err faults.NoMemory) is e = absurd cc
 
 pub nothing_first : first_at [] ≡ Short
@@ -81,7 +81,7 @@ taken_of : (text : List ℕ) (v : Value) (used : ℕ) → read_any text ≡ done
 unfolding read_at value_at reads any_at
 taken_of text v used e =
     let scope : Scope = outermost 262144 false in
-    let a = bind_ok (value_at head_rows any_row scope 0 text) (λ x. Ok (x.0, x.1.place)) (v, used) e in
+    let a = bind_ok (value_at any_value_rows any_value_row scope 0 text) (λ x. Ok (x.0, x.1.place)) (v, used) e in
     let b = bind_ok (identifier_at scope 0 text) (λ x. any_at scope x.0 x.1) a.0 a.1 in
     let o : Opened = b.0.0 in
     let c = bind_ok (whole_at 32 tt scope o b.0.1) (λ w. Ok (any (take (length o.start.rest - length w.1.rest) o.start.rest), w.1)) a.0 b.2 in
@@ -114,7 +114,7 @@ pub record IsAll (text whole : List ℕ) (used : ℕ) : Type 0 where
 pub whole_came : (text more whole rest : List ℕ) (used : ℕ) → text ++ more ≡ whole ++ rest → IsWhole whole → first_at text ≡ Whole used → IsAll text whole used
 whole_came text more whole rest used e w first =
     let r = read_of text used first in
-    let stays : read_any (text ++ more) ≡ done (r.value, used) = read_stays head_rows any_row false 262144 text more r.value used r.read in
+    let stays : read_any (text ++ more) ≡ done (r.value, used) = read_stays any_value_rows any_value_row false 262144 text more r.value used r.read in
     let both = same_done r.value (any whole) used (length whole) (sym stays ∙ ap read_any e ∙ whole_read whole rest w) in
     let t = taken_of text r.value used r.read in
     let same : take t.count text ≡ whole = same_any (take t.count text) whole (sym t.is_its ∙ both.0) in

@@ -21,10 +21,11 @@ use Rattle.dialogue.specs.declared.event.Event.{Event}
 use Rattle.dialogue.specs.declared.event.Entry.{Entry}
 use Rattle.end_rules.specs.Base.{Base}
 use Rattle.osi_base.specs.SetPlaces.{pair_of}
+use Rattle.dialogue.specs.Sides.{other}
 use Rattle.end_rules.specs.Messages.{Message, DataValue, Remote}
 use Rattle.end_rules.specs.State.{bare_set}
 use Rattle.end_rules.specs.History.{Step, called, sent, encoded, fed, took, answered, passed, fault, aborted, feed_end, gave, broke}
-use Rattle.end_rules.specs.World.{World, Ends, Shared, base_at as base_of, other, shared_at, shared_after}
+use Rattle.end_rules.specs.World.{World, Ends, Shared, base_at as base_of, shared_at, shared_after}
 use Rattle.bare_end.specs.end_wire.Bare.{bare_message}
 use Rattle.bare_end.specs.end_wire.Values.{bare_spellings}
 use Rattle.bare_end.specs.end_wire.Laws.{WrittenIsFirst, OneContent, ContentSays}

@@ -2,6 +2,7 @@
 use Rattle.std.proofs.Common.{◌≡◌, ℕ, List, [], ◌∷◌, ◌++◌, length, map, Option, Some, None, refl, sym, ap, subst, ◌∙◌}
 use Rattle.osi_base.specs.declared.layer_words.Side.{Side}
 use Rattle.osi_base.specs.declared.layer_words.Side.TheVariants.{A, B}
+use Rattle.dialogue.specs.Sides.{other}
 use Rattle.dialogue.specs.Carries.{first_octets}
 use Rattle.stub_tables.specs.declared.tables.Tables.{Tables}
 use Rattle.stub_tables.specs.Readable.{IsReadable}
@@ -21,7 +22,7 @@ use Rattle.end_rules.specs.Invoking.{Reply}
 use Rattle.end_rules.specs.Calling.{can_call}
 use Rattle.end_rules.specs.Requesting.{due_of}
 use Rattle.end_rules.specs.History.{Step, History, called, sent, gave, broke, call_steps}
-use Rattle.end_rules.specs.World.{World, Ends, base_at, other, history_of}
+use Rattle.end_rules.specs.World.{World, Ends, base_at, history_of}
 use Rattle.bare_end.specs.end_wire.Bare.{bare_base}
 use Rattle.bare_end.specs.end_wire.Line.{End, end_of, going_on}
 use Rattle.bare_end.specs.end_wire.Feeding.{Feeds}

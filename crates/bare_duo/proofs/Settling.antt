@@ -5,6 +5,7 @@ use Rattle.std.specs.Prelude.{◌≢◌, ℤ, pos, Bool, ◌&&◌, ◌||◌, Som
 use Rattle.std.specs.Ordering.{int_eq}
 use Rattle.std.specs.List.{AllByRecursion}
 use Rattle.std.proofs.lemmas.Bool.Decides.{nat_tests, Decides-int_eq}
+use Rattle.end_rules.specs.Members.{IsIn}
 use Rattle.stub_tables.specs.declared.tables.Tables.{Tables}
 use Rattle.stub_tables.specs.declared.operation.Operation.{Operation}
 use Rattle.stub_tables.specs.Lookup.{operation_at}
@@ -12,7 +13,7 @@ use Rattle.end_rules.specs.Base.{Base}
 use Rattle.end_rules.specs.State.{OpenCall, Calls, is_key, opened_with, closed, close, orphaned}
 use Rattle.end_rules.specs.Hearing.{is_silent_at, with_opened}
 use Rattle.end_model.proofs.Numbered.{opened-snoc, opened-closed, same-own, same-id, same-key}
-use Rattle.run_laws.specs.Outcomes.{Invocation, ToldOutcome, id_of, has_outcome, IsIn, IsAllowed, Differ}
+use Rattle.run_laws.specs.Outcomes.{Invocation, ToldOutcome, id_of, has_outcome, IsAllowed, Differ}
 use Rattle.bare_duo.specs.Outcomes.{AreNumbered}
 
 -- ---- lists

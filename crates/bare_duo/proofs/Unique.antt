@@ -10,6 +10,7 @@ use Rattle.dialogue.specs.declared.event.Entry.TheVariants as entries
 use Rattle.dialogue.specs.declared.indication.Indication.{Indication}
 use Rattle.end_rules.specs.Base.{Base}
 use Rattle.osi_base.specs.SetPlaces.{pair_of}
+use Rattle.dialogue.specs.Sides.{other}
 use Rattle.dialogue.specs.Carries.{first_octets}
 use Rattle.end_rules.specs.Messages.{Message}
 use Rattle.end_rules.specs.State.{Body, passes_over}
@@ -18,7 +19,7 @@ use Rattle.end_rules.specs.Hearing.{syntax_of}
 use Rattle.end_rules.specs.Reacting.{Takes, react}
 use Rattle.end_rules.specs.Calling.{can_call}
 use Rattle.end_rules.specs.History.{Step, fed, fault, feed_end, gave, broke, call_steps}
-use Rattle.end_rules.specs.World.{World, Ends, base_at, other}
+use Rattle.end_rules.specs.World.{World, Ends, base_at}
 use Rattle.bare_end.specs.end_wire.Bare.{Short, Whole, Faulty, first_at, front, bare_message}
 use Rattle.bare_end.specs.end_wire.Values.{IsContent}
 use Rattle.bare_end.specs.end_wire.Line.{End, after, after_all}

@@ -1,6 +1,7 @@
 -- Messages whose last octet came: what an end takes, and what each carry shows.
 use Rattle.std.specs.Prelude.{◌≡◌, ℕ, ◌+◌, ◌-◌, nat_le, List, [], ◌∷◌, ◌++◌, length, Bool, true, false, if◌then◌else◌}
 use Rattle.osi_base.specs.declared.layer_words.Side.{Side}
+use Rattle.dialogue.specs.Sides.{other}
 use Rattle.stub_tables.specs.declared.tables.Tables.{Tables}
 use Rattle.dialogue.specs.declared.event.Carried.{Carried}
 use Rattle.dialogue.specs.declared.event.Entry.{Entry}
@@ -8,7 +9,7 @@ use Rattle.dialogue.specs.declared.event.Entry.TheVariants as entries
 use Rattle.end_rules.specs.Messages.{Message}
 use Rattle.end_rules.specs.State.{passes_over}
 use Rattle.end_rules.specs.History.{Step, called, sent, encoded, fed, took, answered, passed, fault, aborted, feed_end, gave, broke}
-use Rattle.end_rules.specs.World.{World, Ends, is_side, other}
+use Rattle.end_rules.specs.World.{World, Ends, is_side}
 use Rattle.bare_end.specs.end_wire.Bare.{written}
 use Rattle.bare_duo.specs.Shows.{shown_all}
 use Rattle.bare_duo.specs.Worlds.{end_at}

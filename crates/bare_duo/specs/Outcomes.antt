@@ -3,10 +3,10 @@
 use Rattle.std.specs.Prelude.{◌≡◌, ℕ, ◌+◌, pos, List, [], ◌∷◌, flat_map}
 use Rattle.std.specs.List.{AllByRecursion}
 use Rattle.osi_base.specs.declared.layer_words.Side.{Side}
+use Rattle.dialogue.specs.Sides.{other}
 use Rattle.stub_tables.specs.declared.tables.Tables.{Tables}
 use Rattle.dialogue.specs.declared.event.Entry.{Entry}
 use Rattle.dialogue.specs.declared.indication.Indication.{Indication}
-use Rattle.end_rules.specs.World.{other}
 use Rattle.run_laws.specs.Outcomes.{Invocation, ToldOutcome, invocations, answers, invocation_in, outcome_in, told_invocations, outcomes, IsAllowed, Differ}
 use Rattle.bare_duo.specs.Passing.{BeginsWith}
 

@@ -1,12 +1,13 @@
 -- What two ends of a run send, take and are shown.
 use Rattle.std.specs.Prelude.{◌≡◌, List, [], ◌∷◌, ◌++◌, map, if◌then◌else◌}
 use Rattle.osi_base.specs.declared.layer_words.Side.{Side}
+use Rattle.dialogue.specs.Sides.{other}
 use Rattle.run_laws.specs.Passing.{PairedMessage}
 use Rattle.stub_tables.specs.declared.tables.Tables.{Tables}
 use Rattle.dialogue.specs.declared.event.Entry.{Entry}
 use Rattle.end_rules.specs.Messages.{Message, Session, Word, OfData, DataWord, Values, DataValue}
 use Rattle.end_rules.specs.History.{Step, called, sent, encoded, fed, took, answered, passed, fault, aborted, feed_end, gave, broke}
-use Rattle.end_rules.specs.World.{World, Ends, is_side, other, pair_at_sending}
+use Rattle.end_rules.specs.World.{World, Ends, is_side, pair_at_sending}
 use Rattle.run_laws.specs.Showing.{indications_at}
 use Rattle.bare_duo.specs.Shows.{shown_all}
 

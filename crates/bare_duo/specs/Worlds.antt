@@ -3,6 +3,7 @@
 use Rattle.std.specs.Prelude.{ℕ, List, [], ◌∷◌, length, Option}
 use Rattle.osi_base.specs.declared.layer_words.Side.{Side}
 use Rattle.osi_base.specs.declared.layer_words.Side.TheVariants.{A, B}
+use Rattle.dialogue.specs.Sides.{other}
 use Rattle.dialogue.specs.Carries.{first_octets}
 use Rattle.stub_tables.specs.declared.tables.Tables.{Tables}
 use Rattle.dialogue.specs.declared.config.Config.{Config}
@@ -14,7 +15,7 @@ use Rattle.dialogue.specs.declared.event.Entry.TheVariants as entries
 use Rattle.dialogue.specs.declared.indication.Indication.{Indication}
 use Rattle.end_rules.specs.Calling.{can_call}
 use Rattle.end_rules.specs.History.{Step, gave, broke, call_steps}
-use Rattle.end_rules.specs.World.{World, Ends, base_at, other, history_of}
+use Rattle.end_rules.specs.World.{World, Ends, base_at, history_of}
 use Rattle.bare_end.specs.end_wire.Bare.{bare_base}
 use Rattle.bare_end.specs.end_wire.Line.{End, end_of}
 use Rattle.bare_end.specs.end_wire.Feeding.{Feeds}

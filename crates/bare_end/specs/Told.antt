@@ -1,7 +1,7 @@
 -- How what became of an APDU is told and answered.
 use Rattle.std.specs.Prelude.{◌≡◌, ℕ, List, [], ◌∷◌, Option, Some, IfSome}
 use Rattle.osi_base.specs.declared.syntax.Syntax.TheVariants.{Ber}
-use Rattle.ber_spelling.specs.Octets.{AreOctets}
+use Rattle.osi_base.specs.Octets.{AreOctets}
 use Rattle.apdu_spelling.specs.declared.head.ApduHead.{ApduHead}
 use Rattle.apdu_spelling.specs.Writing.{written_apdu}
 use Rattle.dialogue.specs.declared.indication.Indication.{Indication}

@@ -2,7 +2,7 @@
 
 ghost use Rattle.std.specs.Prelude.{◌≡◌, ◌≤◌, ◌++◌, IfOk, OnOk, OnErr, length, take, Some, None, ℕ};
 ghost use Rattle.osi_base.specs.declared.syntax.Syntax.TheVariants as syntaxes;
-ghost use Rattle.ber_spelling.specs.Octets.{AreOctets};
+ghost use Rattle.osi_base.specs.Octets.{AreOctets};
 ghost use Rattle.apdu_spelling.specs.Writing.{written_apdu};
 ghost use Rattle.end_wire.specs.apdu_codec.HeadsRead.{IsHeadRead};
 ghost use Rattle.rose_roles.specs.Hearing.{heard_with, Hears};
@@ -16,10 +16,9 @@ ghost use Rattle.bare_end.specs.View.{base, with_calls, with_waiting};
 
 use crate::end::End;
 use apdu_spelling::ApduHead;
-use ber_spelling::{are_octets, hold_octets};
 use dialogue::{Indication, Indications};
 use end_wire::apdu_codec_layer::HeadFault;
-use osi_base::{NoMemory, Problem, Syntax};
+use osi_base::{NoMemory, Problem, Syntax, hold_octets, hold_some_octets};
 use rose_roles::{RoseTaken, refused_head};
 use stub_tables::Apdu;
 
@@ -80,7 +79,7 @@ impl<'t> End<'t> {
         ensures octets { AreOctets (take used self.now.rest) }
     {
         let text = &self.rest.as_slice()[..used];
-        are_octets(text);
+        hold_octets(text);
         self.heads.read(self.alloc, Syntax::Ber, text)
     }
 
@@ -107,7 +106,7 @@ impl<'t> End<'t> {
         self.tables.is_readable();
         match self.first_head(used) {
             Ok(head) => {
-                hold_octets(&head.rest);
+                hold_some_octets(&head.rest);
                 let taken = self.hear_head(head)?;
                 Ok(taken)
             }

@@ -3,8 +3,7 @@
 ghost use Rattle.std.specs.Prelude.{◌≡◌, ◌≤◌, ◌++◌, List, [], length, drop, OnOk, OnErr};
 ghost use Rattle.bare_end.specs.First.{IsFirst};
 
-use ber_spelling::are_octets;
-use osi_base::{NoMemory, OctetQueue};
+use osi_base::{NoMemory, OctetQueue, hold_octets};
 use std::alloc::Global;
 use std::marker::Model;
 use stream_front::{FirstValue, Scanner};
@@ -60,7 +59,7 @@ impl Intake {
         ensures same { self.new ≡ self.old }
     {
         let octets = self.octets.as_slice();
-        are_octets(octets);
+        hold_octets(octets);
         self.scanner.front(octets)
     }
 

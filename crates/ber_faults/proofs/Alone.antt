@@ -7,7 +7,7 @@ use Rattle.asn1_types.specs.declared.row.Tag as tags
 use Rattle.asn1_types.specs.Value.{Value, chosen}
 use Rattle.ber_spelling.specs.declared.fault.ReadFault.TheVariants.{NotSpelled, TooLong}
 use Rattle.ber_spelling.specs.declared.spot.Scope.{Scope}
-use Rattle.ber_spelling.specs.Octets.{AreOctets}
+use Rattle.osi_base.specs.Octets.{AreOctets}
 use Rattle.ber_spelling.specs.Reading.{Spot, Opened, ◌>>=◌}
 use Rattle.ber_spelling.specs.Fields.{extent_at}
 use Rattle.ber_spelling.specs.Rules.{Reader, constructed_at, explicit_at, choice_at, or_explicit, plain}

@@ -4,13 +4,13 @@ use Rattle.asn1_types.specs.declared.row.TypeRow.{TypeRow}
 use Rattle.asn1_types.specs.Value.{Value}
 use Rattle.ber_spelling.specs.declared.fault.ReadFault.{ReadFault}
 use Rattle.ber_spelling.specs.declared.fault.ReadFault.TheVariants.{NotSpelled, Short, TooDeep, TooLong, NoMemory}
-use Rattle.ber_spelling.specs.Octets.{AreOctets}
+use Rattle.osi_base.specs.Octets.{AreOctets}
+use Rattle.osi_base.proofs.OctetLaws.{octets_right}
 use Rattle.ber_spelling.specs.Reading.{Spot, Opened, Reading, ◌>>=◌}
 use Rattle.ber_spelling.specs.Fields.{identifier_at}
 use Rattle.ber_spelling.specs.Rules.{plain, outermost, reads, value_at, read_at}
 use Rattle.ber_spelling.specs.Laws.{IsAt}
 use Rattle.ber_spelling.proofs.Identifiers.{done}
-use Rattle.ber_spelling.proofs.Steady.{octets_right}
 use Rattle.ber_spelling.proofs.FirstFaults.{fault_is_first}
 use Rattle.ber_spelling.proofs.WholeValues.{one_of_three}
 use Rattle.ber_faults.specs.Fields.{Opens}

@@ -7,11 +7,11 @@ use Rattle.asn1_types.specs.Tags.{capped}
 use Rattle.ber_spelling.specs.declared.fault.ReadFault.{ReadFault}
 use Rattle.ber_spelling.specs.declared.fault.ReadFault.TheVariants.{NotSpelled, Short, TooDeep}
 use Rattle.ber_spelling.specs.declared.spot.Scope.{Scope}
-use Rattle.ber_spelling.specs.Octets.{AreOctets}
+use Rattle.osi_base.specs.Octets.{AreOctets}
+use Rattle.osi_base.proofs.OctetLaws.{octets_tail}
 use Rattle.ber_spelling.specs.Reading.{Spot, Opened, Reading, refuse, within}
 use Rattle.ber_spelling.specs.Fields.{digits_at, opened_at, is_lax, high_at, identifier_at}
 use Rattle.ber_spelling.specs.Spelling.{AreDigits, number_128}
-use Rattle.ber_spelling.proofs.Numbers.{octets_tail}
 use Rattle.ber_spelling.proofs.Identifiers.{digits_found, digits_again, identifier_found, identifier_again}
 use Rattle.ber_faults.specs.Fields.{IsWithin, DigitsFault, IdentifierFault, IsLax, Opens}
 use Rattle.ber_faults.proofs.Steps.{bind_err, bind_fails, bind_goes, cond_err, cond_yes, cond_no, failed, err_is, not_err, within_err, crosses_err, within_ok, within_goes, in_within, within_in}

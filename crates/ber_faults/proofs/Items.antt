@@ -5,12 +5,13 @@ use Rattle.asn1_types.specs.declared.row.Class.{Class}
 use Rattle.ber_spelling.specs.declared.fault.ReadFault.{ReadFault}
 use Rattle.ber_spelling.specs.declared.fault.ReadFault.TheVariants.{Short}
 use Rattle.ber_spelling.specs.declared.spot.Scope.{Scope}
-use Rattle.ber_spelling.specs.Octets.{AreOctets}
+use Rattle.osi_base.specs.Octets.{AreOctets}
+use Rattle.osi_base.proofs.OctetLaws.{octets_right}
 use Rattle.ber_spelling.specs.Reading.{Spot, Opened, Ahead, ended, begun, Reading, ◌>>=◌}
 use Rattle.ber_spelling.specs.Fields.{identifier_at, look_at}
 use Rattle.ber_spelling.specs.Rules.{finish, item_at, items_at, all_items_at}
 use Rattle.ber_spelling.proofs.Identifiers.{IsIn, done}
-use Rattle.ber_spelling.proofs.Steady.{RelationOf, ReadAs, Found, Only, taken_octets, octets_right}
+use Rattle.ber_spelling.proofs.Steady.{RelationOf, ReadAs, Found, Only, taken_octets}
 use Rattle.ber_spelling.proofs.Constructed.{begun_again}
 use Rattle.ber_faults.specs.Fields.{IsWithin, Stands}
 use Rattle.ber_faults.specs.Values.{Wrong, IsAt, ItemsFault, item_ahead, item_lacks, item_inside, item_behind}

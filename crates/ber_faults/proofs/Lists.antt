@@ -9,7 +9,7 @@ use Rattle.asn1_types.specs.Value.{Value}
 use Rattle.ber_spelling.specs.declared.fault.ReadFault.{ReadFault}
 use Rattle.ber_spelling.specs.declared.fault.ReadFault.TheVariants.{Short}
 use Rattle.ber_spelling.specs.declared.spot.Scope.{Scope}
-use Rattle.ber_spelling.specs.Octets.{AreOctets}
+use Rattle.osi_base.specs.Octets.{AreOctets}
 use Rattle.ber_spelling.specs.Reading.{Spot, Opened, Ahead, ended, begun, Reading, ◌>>=◌, refuse}
 use Rattle.ber_spelling.specs.Fields.{identifier_at, look_at}
 use Rattle.ber_spelling.specs.Rules.{Reader, form_at, plain, all_items_at, list_item_at, list_done, set_item_at, set_of_done, first_of, last_of, close_at, explicit_at}

@@ -7,12 +7,13 @@ use Rattle.asn1_types.specs.declared.row.Tag as tags
 use Rattle.ber_spelling.specs.declared.fault.ReadFault.{ReadFault}
 use Rattle.ber_spelling.specs.declared.fault.ReadFault.TheVariants.{NotSpelled, Short}
 use Rattle.ber_spelling.specs.declared.spot.Scope.{Scope}
-use Rattle.ber_spelling.specs.Octets.{AreOctets}
+use Rattle.osi_base.specs.Octets.{AreOctets}
+use Rattle.osi_base.proofs.OctetLaws.{octets_left, octets_right}
 use Rattle.ber_spelling.specs.Reading.{Spot, Opened, Reading, ◌>>=◌, refuse}
 use Rattle.ber_spelling.specs.Fields.{extent_at, contents_at}
 use Rattle.ber_spelling.specs.Rules.{is_opened, expect_at, some_or_refuse, form_at, primitive_at, constructed_at}
 use Rattle.ber_spelling.proofs.Identifiers.{IsIn, done}
-use Rattle.ber_spelling.proofs.Steady.{RunOf, opened_as, expected, octets_left, octets_right}
+use Rattle.ber_spelling.proofs.Steady.{RunOf, opened_as, expected}
 use Rattle.ber_spelling.proofs.Constructed.{BodyOf}
 use Rattle.ber_faults.specs.Fields.{Begins, Extends, Holds}
 use Rattle.ber_faults.specs.Values.{Wrong, WrongIn, IsAt, IsOf, RuleFault, PrimitiveFault, BodyFault, ConstructedFault}

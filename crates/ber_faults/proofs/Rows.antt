@@ -17,7 +17,7 @@ use Rattle.asn1_types.specs.Value.{Value}
 use Rattle.asn1_types.specs.Writing.{written}
 use Rattle.asn1_types.proofs.Sound.{IsSoundRow, sound_row}
 use Rattle.ber_spelling.specs.declared.spot.StringKind.TheVariants.{OfOctets, OfBits}
-use Rattle.ber_spelling.specs.Octets.{AreOctets}
+use Rattle.osi_base.specs.Octets.{AreOctets}
 use Rattle.ber_spelling.specs.Reading.{Spot}
 use Rattle.ber_spelling.specs.Rules.{Reader, Guise, bare, plain, under, always, boolean_rule, is_strict_boolean, integer_rule, enumerated_rule, null_rule, object_id_rule, is_other, whole_octets, whole_text, whole_bits, has_zero_bits, list_item_at, list_done, set_item_at, set_of_done, slot_at, set_done, nothing_filled, all_items_at, choice_at, any_at, or_explicit, dead, read_by, sequence_at}
 use Rattle.ber_spelling.specs.Spelling.{Spelled, SpelledBy, IsOther, ChoiceIs, AnyIs}

@@ -5,7 +5,7 @@ use Rattle.osi_base.specs.declared.layer_words.Kind.TheVariants.{Tag, Length, Fo
 use Rattle.asn1_types.specs.Rows.{openings}
 use Rattle.asn1_types.specs.Writing.{integer_octets, writes, written}
 use Rattle.ber_spelling.specs.declared.fault.ReadFault.TheVariants.{NotSpelled, TooDeep, TooLong}
-use Rattle.ber_spelling.specs.Octets.{AreOctets}
+use Rattle.osi_base.specs.Octets.{AreOctets}
 use Rattle.ber_spelling.specs.Reading.{within}
 use Rattle.ber_spelling.specs.Fields.{identifier_at, announced_at, definite_at, extent_at, contents_at, look_at}
 use Rattle.ber_spelling.specs.Primitives.{integer_of}

@@ -4,7 +4,7 @@ use Rattle.asn1_types.specs.declared.row.TypeRow.{TypeRow}
 use Rattle.asn1_types.specs.Table.{AreSoundRows}
 use Rattle.ber_spelling.specs.declared.fault.ReadFault.{ReadFault}
 use Rattle.ber_spelling.specs.declared.fault.ReadFault.TheVariants.{Short, TooDeep}
-use Rattle.ber_spelling.specs.Octets.{AreOctets}
+use Rattle.osi_base.specs.Octets.{AreOctets}
 use Rattle.ber_spelling.specs.Rules.{read_at}
 use Rattle.ber_spelling.specs.Laws.{BeginsSpelled}
 use Rattle.ber_faults.specs.FirstFault.{FirstFault}

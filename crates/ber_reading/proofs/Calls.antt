@@ -8,7 +8,7 @@ use Rattle.ber_spelling.specs.declared.fault.ReadFault.{ReadFault}
 use Rattle.ber_spelling.specs.declared.fault.ReadFault.TheVariants as faults
 use Rattle.ber_reading.specs.declared.whole_values.Read.{Read}
 use Rattle.ber_reading.specs.Calls.{IsRead}
-use Rattle.ber_spelling.specs.Octets.{AreOctets}
+use Rattle.osi_base.specs.Octets.{AreOctets}
 use Rattle.ber_spelling.specs.Reading.{Reading, Gives}
 use Rattle.ber_spelling.specs.Rules.{read_at}
 use Rattle.ber_spelling.specs.Spelling.{Spells}

@@ -2,9 +2,9 @@
 use Rattle.std.proofs.Common.{◌≡◌, ℕ, Bool, true, false, List, [], ◌∷◌, ◌++◌, length, refl, sym, ap, ◌∙◌, subst, append_assoc, length-append, ◌⊎◌, inl, inr}
 use Rattle.std.proofs.lemmas.List.{append-nil}
 use Rattle.asn1_types.specs.declared.row.Tag as tags
-use Rattle.ber_spelling.specs.Octets.{AreOctets}
+use Rattle.osi_base.specs.Octets.{AreOctets}
+use Rattle.osi_base.proofs.OctetLaws.{octets_left, octets_right}
 use Rattle.ber_spelling.specs.Spelling.{IsLength, IsDefinite, IsIndefinite, IsPrimitive, IsConstructed}
-use Rattle.ber_spelling.proofs.Steady.{octets_left, octets_right}
 
 -- ---- primitive values
 

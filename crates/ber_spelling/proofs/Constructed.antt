@@ -7,7 +7,7 @@ use Rattle.asn1_types.specs.Rows.{is_no_tag}
 use Rattle.asn1_types.specs.Value.{Value}
 use Rattle.ber_spelling.specs.declared.spot.Scope.{Scope}
 use Rattle.asn1_types.specs.declared.row.Tag as tags
-use Rattle.ber_spelling.specs.Octets.{AreOctets}
+use Rattle.osi_base.specs.Octets.{AreOctets}
 use Rattle.ber_spelling.specs.Reading.{Spot, Opened, Ahead, ended, begun, Reading, ◌>>=◌}
 use Rattle.ber_spelling.specs.Fields.{identifier_at, inside, inside_until, extent_at, look_at}
 use Rattle.ber_spelling.specs.Rules.{expect_at, constructed_at, first_of, last_of, open_at, close_at, explicit_at}

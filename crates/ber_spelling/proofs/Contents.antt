@@ -6,7 +6,7 @@ use Rattle.std.proofs.lemmas.Int.{ints}
 use Rattle.asn1_types.specs.Value.{Value, boolean, integer, null, octets, bits, object_id, text, parts, list, chosen, any}
 use Rattle.asn1_types.specs.declared.row.Item.{Item}
 use Rattle.asn1_types.specs.Defaults.{is_item}
-use Rattle.ber_spelling.specs.Octets.{AreOctets}
+use Rattle.osi_base.specs.Octets.{AreOctets}
 use Rattle.ber_spelling.specs.Primitives.{is_padded, signed_of, is_integer, integer_of}
 use Rattle.ber_spelling.specs.Rules.{boolean_rule, is_strict_boolean, in_range, ranged, integer_rule, listed, enumerated_rule, null_rule}
 use Rattle.ber_spelling.specs.Spelling.{IsInteger, BooleanIs, IntegerIs, EnumeratedIs, NullIs}

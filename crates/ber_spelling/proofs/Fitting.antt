@@ -14,14 +14,14 @@ use Rattle.asn1_types.specs.Rows.{of_row, along, text_number}
 use Rattle.asn1_types.specs.Value.{Value, boolean, integer, null, octets, bits, object_id, text, parts, list, chosen, any, MaybeValues, no_parts, absent, present}
 use Rattle.asn1_types.specs.ValueView.{parts_of, values_of, empty_slots}
 use Rattle.asn1_types.specs.Fits.{any_fits, part_fits, parts_fit, sequence_fits, values_fit, list_fits, alternative_fits, choice_fits, form_by, nothing_fits, has_form}
-use Rattle.ber_spelling.specs.Octets.{AreOctets}
+use Rattle.osi_base.specs.Octets.{AreOctets}
+use Rattle.osi_base.proofs.OctetLaws.{octets_left, octets_right}
 use Rattle.ber_spelling.specs.Order.{Filled}
 use Rattle.asn1_types.specs.declared.row.Tag as tags
 use Rattle.asn1_types.specs.Tags.{tag_or}
 use Rattle.ber_spelling.specs.Rules.{always, has_zero_bits, nothing_filled, is_filled, Guise, bare, plain, under, settled}
 use Rattle.ber_spelling.specs.Spelling.{BooleanIs, IntegerIs, EnumeratedIs, NullIs, ObjectIdIs, AnyIs, Spelled, Steps, PartsAre, SequenceIs, ListStep, ListIs, SetStep, SetIs, ChoiceIs, OrExplicit, RowIs, RowOr, SpelledBy, Spells, IsOther, PartIs, SetItemStep, SetOfIs}
 use Rattle.ber_spelling.specs.Laws.{SpelledFits}
-use Rattle.ber_spelling.proofs.Steady.{octets_left, octets_right}
 use Rattle.ber_spelling.proofs.Around.{in_primitive, in_constructed}
 use Rattle.ber_spelling.proofs.FittingContents.{boolean_fitting, null_fitting, integer_fitting, enumerated_fitting, object_id_fitting, any_fitting, octets_fitting, text_fitting, bits_fitting}
 use Rattle.ber_spelling.proofs.Lax.{der_is_ber}

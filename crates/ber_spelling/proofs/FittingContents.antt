@@ -9,15 +9,15 @@ use Rattle.asn1_types.specs.declared.row.TextKind.{TextKind}
 use Rattle.asn1_types.specs.Value.{Value, boolean, integer, null, octets, bits, object_id, text, parts, list, chosen, any}
 use Rattle.asn1_types.specs.Fits.{is_number, is_octet, is_text, boolean_fits, integer_fits, enumerated_fits, null_fits, object_id_fits, octets_fit, bits_fit, text_fits, any_fits}
 use Rattle.asn1_types.specs.Whole.{number_256}
-use Rattle.ber_spelling.specs.Octets.{AreOctets}
+use Rattle.osi_base.specs.Octets.{AreOctets}
+use Rattle.osi_base.proofs.OctetLaws.{octets_left, octets_right, octets_tail}
 use Rattle.asn1_types.specs.declared.row.Tag as tags
 use Rattle.ber_spelling.specs.declared.spot.StringKind.{StringKind}
 use Rattle.ber_spelling.specs.declared.spot.StringKind.TheVariants.{OfOctets, OfBits}
 use Rattle.ber_spelling.specs.declared.spot.Gathered.{Gathered}
 use Rattle.ber_spelling.specs.Rules.{segment_tag, is_segment, nothing, gathered, segment_rule, string_rule, and_whole, cleared, whole_octets, whole_text, whole_bits}
 use Rattle.ber_spelling.specs.Spelling.{IsInteger, BooleanIs, IntegerIs, EnumeratedIs, NullIs, ObjectIdIs, AnyIs, Steps, ItemsAre, SegmentIs, StringIs}
-use Rattle.ber_spelling.proofs.Numbers.{octets_tail, few_256, number_small, number_large}
-use Rattle.ber_spelling.proofs.Steady.{octets_left, octets_right}
+use Rattle.ber_spelling.proofs.Numbers.{few_256, number_small, number_large}
 use Rattle.ber_spelling.proofs.Contents.{int_not_lt}
 use Rattle.ber_spelling.proofs.Oids.{small_arcs, well_begun}
 use Rattle.ber_spelling.proofs.WholeSpelled.{is_whole_of}

@@ -10,11 +10,11 @@ use Rattle.asn1_types.specs.Tags.{class_of, capped, leading}
 use Rattle.ber_spelling.specs.declared.fault.ReadFault.{ReadFault}
 use Rattle.ber_spelling.specs.declared.fault.ReadFault.TheVariants as faults
 use Rattle.ber_spelling.specs.declared.spot.Scope.{Scope}
-use Rattle.ber_spelling.specs.Octets.{AreOctets}
+use Rattle.osi_base.specs.Octets.{AreOctets}
+use Rattle.osi_base.proofs.OctetLaws.{octets_tail}
 use Rattle.ber_spelling.specs.Reading.{Spot, Opened, Reading, ◌>>=◌, refuse, is_past, within}
 use Rattle.ber_spelling.specs.Fields.{is_constructed, digits_at, opened_at, is_lax, high_at, identifier_at}
 use Rattle.ber_spelling.specs.Spelling.{AreDigits, low_bits, number_128, IsBase128, IsIdentifier}
-use Rattle.ber_spelling.proofs.Numbers.{octets_tail}
 use Rattle.ber_spelling.proofs.Growing.{within_ok, within_is, lacking_not_ok}
 
 -- a place lies within the limit and the enclosing contents

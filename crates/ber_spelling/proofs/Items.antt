@@ -3,7 +3,7 @@ use Rattle.std.proofs.Common.{◌≡◌, ℕ, zero, suc, ◌+◌, ◌≤◌, ◌
 use Rattle.asn1_types.specs.declared.row.Class.{Class}
 use Rattle.ber_spelling.specs.declared.spot.Scope.{Scope}
 use Rattle.asn1_types.specs.declared.row.Tag as tags
-use Rattle.ber_spelling.specs.Octets.{AreOctets}
+use Rattle.osi_base.specs.Octets.{AreOctets}
 use Rattle.ber_spelling.specs.Reading.{Spot, Opened, Ahead, ended, begun, Reading}
 use Rattle.ber_spelling.specs.Fields.{extent_at, look_at}
 use Rattle.ber_spelling.specs.Rules.{expect_at, constructed_at, finish, item_at, items_at, all_items_at}

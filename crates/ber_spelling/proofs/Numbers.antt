@@ -7,11 +7,9 @@ use Rattle.std.proofs.Math.Nat.{pow-le-pow_right, pow-suc, add-mul, mul_assoc, m
 use Rattle.std.proofs.lemmas.Bool.{le-ltb, lt-ltb}
 use Rattle.std.proofs.lemmas.Int.{to_z_pos, of_z-to_z}
 use Rattle.asn1_types.specs.Whole.{number_256}
-use Rattle.ber_spelling.specs.Octets.{AreOctets}
+use Rattle.osi_base.specs.Octets.{AreOctets}
+use Rattle.osi_base.proofs.OctetLaws.{octets_tail}
 use Rattle.ber_spelling.specs.Primitives.{signed_of}
-
-pub octets_tail : (o : ℕ) (os : List ℕ) → AreOctets (o ∷ os) → AreOctets os
-octets_tail o os h = record { each = λ i. h.each (suc i) }
 
 pub regroup : (n o p : ℕ) → (256 * n + o) * p ≡ 256 * (n * p) + o * p
 regroup n o p = add-mul (256 * n) o p ∙ ap (λ (k : ℕ). k + o * p) (mul_assoc 256 n p)

@@ -7,11 +7,11 @@ use Rattle.osi_base.specs.Oid.{is_oid, IsOid}
 use Rattle.asn1_types.specs.Value.{Value, boolean, integer, null, octets, bits, object_id, text, parts, list, chosen, any}
 use Rattle.asn1_types.specs.Writing.{subidentifiers}
 use Rattle.asn1_types.specs.Fits.{has_32_bits}
-use Rattle.ber_spelling.specs.Octets.{AreOctets}
+use Rattle.osi_base.specs.Octets.{AreOctets}
+use Rattle.osi_base.proofs.OctetLaws.{octets_tail}
 use Rattle.ber_spelling.specs.Primitives.{sized, push_front, subidentifiers_of, arcs_from, judged_arcs, arcs_of}
 use Rattle.ber_spelling.specs.Rules.{object_id_rule}
 use Rattle.ber_spelling.specs.Spelling.{AreDigits, number_128, IsBase128, AreSubidentifiers, IsObjectId, ObjectIdIs}
-use Rattle.ber_spelling.proofs.Numbers.{octets_tail}
 use Rattle.ber_spelling.proofs.Identifiers.{low_small, low_large, digits_more}
 
 sized_digit : (a d : ℕ) → sized (128 * sized a + d) ≡ sized (128 * a + d)

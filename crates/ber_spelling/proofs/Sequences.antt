@@ -9,7 +9,7 @@ use Rattle.asn1_types.specs.Value.{Value, parts, chosen}
 use Rattle.asn1_types.specs.ValueView.{parts_of}
 use Rattle.ber_spelling.specs.declared.fault.ReadFault.TheVariants as faults
 use Rattle.ber_spelling.specs.declared.spot.Scope.{Scope}
-use Rattle.ber_spelling.specs.Octets.{AreOctets}
+use Rattle.osi_base.specs.Octets.{AreOctets}
 use Rattle.ber_spelling.specs.Reading.{Spot, Opened, Ahead, ended, begun, Reading, ◌>>=◌}
 use Rattle.ber_spelling.specs.Fields.{look_at}
 use Rattle.ber_spelling.specs.Rules.{Reader, last_of, is_part, place_of, present_at, part_at, parts_at, choice_at, Guise, bare, plain}

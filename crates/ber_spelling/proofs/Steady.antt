@@ -1,6 +1,6 @@
 -- What it means that a reader reads what a relation spells, and the laws of primitive and constructed values.
-use Rattle.std.proofs.Common.{◌≡◌, ◌≢◌, ℕ, zero, suc, ◌+◌, ◌^◌, ◌<◌, Bool, true, false, not, ◌&&◌, cond, List, [], ◌∷◌, ◌++◌, length, Option, Some, None, Ok, Err, refl, sym, ap, ◌∙◌, subst, arith, append_assoc, length-append, inl, inr}
-use Rattle.std.specs.Prelude.{nat_lt, nat_eq, slice_index}
+use Rattle.std.proofs.Common.{◌≡◌, ◌≢◌, ℕ, ◌+◌, ◌^◌, ◌<◌, Bool, true, false, not, ◌&&◌, cond, List, [], ◌∷◌, ◌++◌, length, Option, Some, None, Ok, Err, refl, sym, ap, ◌∙◌, subst, arith, append_assoc, length-append, inl, inr}
+use Rattle.std.specs.Prelude.{nat_lt, nat_eq}
 use Rattle.std.proofs.lemmas.Bool.{lt-ltb, ltb-true, eqb-true, eqb-false, and_parts}
 use Rattle.osi_base.specs.declared.layer_words.Kind.TheVariants.{Tag, Form}
 use Rattle.asn1_types.specs.declared.row.Class.{Class}
@@ -12,7 +12,8 @@ use Rattle.ber_spelling.specs.declared.fault.ReadFault.TheVariants as faults
 use Rattle.ber_spelling.specs.declared.spot.Scope.{Scope}
 use Rattle.asn1_types.specs.declared.row.Tag as tags
 use Rattle.asn1_types.specs.Tags.{capped, leading}
-use Rattle.ber_spelling.specs.Octets.{AreOctets}
+use Rattle.osi_base.specs.Octets.{AreOctets}
+use Rattle.osi_base.proofs.OctetLaws.{octets_left, octets_right}
 use Rattle.ber_spelling.specs.Reading.{Spot, Opened, Reading, refuse}
 use Rattle.ber_spelling.specs.Fields.{identifier_at, contents_at}
 use Rattle.ber_spelling.specs.Rules.{is_opened, expect_at, some_or_refuse, form_at, primitive_at}
@@ -68,19 +69,6 @@ only_wider B D r P w h = record {
 }
 
 -- ---- octets in parts
-
-pub octets_left : (a b : List ℕ) → AreOctets (a ++ b) → AreOctets a
-octets_left [] b h = record { each = λ i. omega arith }
-octets_left (o ∷ a) b h = record { each = at o a b h }
-  where
-    at : (o : ℕ) (a b : List ℕ) → AreOctets ((o ∷ a) ++ b) → (i : ℕ) → slice_index (o ∷ a) i < 256
-    at o a b h zero = h.each 0
-    at o [] b h (suc i) = omega arith
-    at o (p ∷ a) b h (suc i) = at p a b (record { each = λ j. h.each (suc j) }) i
-
-pub octets_right : (a b : List ℕ) → AreOctets (a ++ b) → AreOctets b
-octets_right [] b h = h
-octets_right (o ∷ a) b h = octets_right a b (record { each = λ i. h.each (suc i) })
 
 pub taken_octets : (place : ℕ) (rest text : List ℕ) (to : Spot) → Taken place rest text to → AreOctets rest → AreOctets to.rest
 taken_octets place rest text to t h = octets_right text to.rest (subst AreOctets t.parts h)

@@ -7,11 +7,11 @@ use Rattle.std.proofs.lemmas.Bool.Decides.{nat_tests}
 use Rattle.asn1_types.specs.declared.row.Class.{Class}
 use Rattle.asn1_types.specs.Writing.{high_digits, base_128, digits_256, base_256, natural_octets, integer_octets, identifier, length_octets}
 use Rattle.asn1_types.specs.Whole.{number_256}
-use Rattle.ber_spelling.specs.Octets.{AreOctets}
+use Rattle.osi_base.specs.Octets.{AreOctets}
+use Rattle.osi_base.proofs.OctetLaws.{octets_tail}
 use Rattle.ber_spelling.specs.Primitives.{is_padded}
 use Rattle.ber_spelling.specs.Spelling.{AreDigits, low_bits, number_128, IsBase128, IsIdentifier, IsLength, IsInteger, AreSubidentifiers}
 use Rattle.ber_spelling.proofs.Digits.{high_step, high_append, low_step, low_append, nat_step, nat_append, nat_last}
-use Rattle.ber_spelling.proofs.Numbers.{octets_tail}
 use Rattle.ber_spelling.proofs.WrittenFields.{turned, turned_number, turned_length}
 
 abbrev pub Small : List ℕ → Type 0

@@ -19,13 +19,13 @@ use Rattle.asn1_types.specs.ValueView.{values_of, parts_of, empty_slots}
 use Rattle.asn1_types.specs.Rising.{behind_last, sorted, follows, rise_behind, rise}
 use Rattle.asn1_types.specs.Writing.{Writer, subidentifiers, definite, boolean_octet, boolean_contents, integer_contents, octets_contents, text_contents, bits_contents, object_id_contents, part_contents, parts_contents, sequence_contents, risen_parts, set_parts, values_contents, list_contents, alternative_written, choice_written, any_written, under, write_by, nothing_written, writes, written}
 use Rattle.ber_spelling.specs.declared.spot.StringKind.TheVariants.{OfOctets, OfBits}
-use Rattle.ber_spelling.specs.Octets.{AreOctets}
+use Rattle.osi_base.specs.Octets.{AreOctets}
+use Rattle.osi_base.proofs.OctetLaws.{octets_left, octets_right}
 use Rattle.ber_spelling.specs.declared.spot.StringKind.{StringKind}
 use Rattle.ber_spelling.specs.declared.spot.Gathered.{Gathered}
 use Rattle.ber_spelling.specs.Order.{Filled}
 use Rattle.ber_spelling.specs.Rules.{Guise, bare, plain, under as guised, always, string_rule, whole_octets, whole_text, whole_bits, has_zero_bits, nothing_filled, is_filled, settled}
 use Rattle.ber_spelling.specs.Spelling.{Spelled, IsDefinite, IsPrimitive, IsIndefinite, IsConstructed, BooleanIs, IntegerIs, EnumeratedIs, NullIs, ObjectIdIs, AnyIs, Steps, ListStep, ListIs, SetItemStep, SetOfIs, SetStep, SetIs, StringIs, PartIs, PartsAre, SequenceIs, ChoiceIs, OrExplicit, IsOther, RowIs, RowOr, SpelledBy, Spells}
-use Rattle.ber_spelling.proofs.Steady.{octets_left, octets_right}
 use Rattle.ber_spelling.proofs.Written.{bits_ruled}
 use Rattle.ber_spelling.proofs.Orders.{front_below}
 use Rattle.ber_spelling.proofs.RisingLaws.{items_in, rising_sorted}

@@ -10,7 +10,7 @@ use Rattle.asn1_types.specs.Whole.{is_marked}
 use Rattle.asn1_types.specs.Tags.{capped}
 use Rattle.ber_spelling.specs.declared.fault.ReadFault.TheVariants as faults
 use Rattle.ber_spelling.specs.declared.spot.Scope.{Scope}
-use Rattle.ber_spelling.specs.Octets.{AreOctets}
+use Rattle.osi_base.specs.Octets.{AreOctets}
 use Rattle.ber_spelling.specs.Reading.{Spot, Opened, Reading, ◌>>=◌}
 use Rattle.ber_spelling.specs.Fields.{identifier_at, inside, is_end, cut_off, lacking, definite_at, extent_at, contents_at}
 use Rattle.ber_spelling.specs.Rules.{all_items_at, anew, sized_at, marked_at, whole_at}

@@ -1,6 +1,7 @@
 -- The laws of reading whole values.
 use Rattle.std.proofs.Common.{◌≡◌, ◌≢◌, ℕ, ◌+◌, ◌≤◌, Bool, List, [], ◌++◌, length, take, drop, Ok, Err, refl, sym, ap, ◌∙◌, subst, arith, length-append, inl, inr}
 use Rattle.std.proofs.lemmas.List.{append-nil, take_at, take-append-drop}
+use Rattle.osi_base.proofs.OctetLaws.{octets_left}
 use Rattle.asn1_types.specs.declared.row.TypeRow.{TypeRow}
 use Rattle.asn1_types.specs.Value.{Value}
 use Rattle.ber_spelling.specs.declared.fault.ReadFault.{ReadFault}
@@ -13,7 +14,6 @@ use Rattle.ber_spelling.specs.Laws.{ReadIsSpelled, SpelledIsRead, NoneBegins, Re
 use Rattle.ber_spelling.proofs.Identifiers.{IsIn, bind_ok, ok_is}
 use Rattle.ber_spelling.proofs.Growing.{Grows, Grows-bind, with_spot, with_opened, identifier_grows}
 use Rattle.ber_spelling.proofs.GrowingRules.{along_grows}
-use Rattle.ber_spelling.proofs.Steady.{octets_left}
 use Rattle.ber_spelling.proofs.RowLaws.{along_found, along_only}
 
 pub read_is_spelled : ReadIsSpelled

@@ -10,7 +10,7 @@ use Rattle.asn1_types.specs.Whole.{is_whole}
 use Rattle.ber_spelling.specs.declared.fault.ReadFault.{ReadFault}
 use Rattle.ber_spelling.specs.declared.fault.ReadFault.TheVariants.{NotSpelled, Short, TooDeep, TooLong, NoMemory}
 use Rattle.ber_spelling.specs.declared.spot.StringKind.TheVariants.{OfBits}
-use Rattle.ber_spelling.specs.Octets.{AreOctets}
+use Rattle.osi_base.specs.Octets.{AreOctets}
 use Rattle.ber_spelling.specs.Rules.{read_at, segment_tag, cleared}
 use Rattle.ber_spelling.specs.Spelling.{IsDefinite, Spells}
 use Rattle.asn1_types.specs.Writing.{written}

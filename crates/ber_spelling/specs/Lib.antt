@@ -1,4 +1,3 @@
-pub mod Octets
 pub mod Printed
 pub mod Reading
 pub mod Fields

@@ -5,7 +5,6 @@
 mod fault;
 mod fields;
 mod laws;
-mod octets;
 mod order;
 mod plain_values;
 mod primitives;
@@ -24,7 +23,6 @@ pub use laws::{
     short_is_within, spelled_fits, spelled_is_read, unused_bits_are_cleared, unused_bits_are_zeros,
     wider_is_long, wider_stays, written_is_read, written_is_spelled,
 };
-pub use octets::{are_octets, hold_octets};
 pub use order::{RANKS, rank_of, tag_rank};
 pub use plain_values::{boolean, enumerated, integer, is_other_number, null, object_id};
 pub use primitives::{integer_of, is_padded};

@@ -4,13 +4,14 @@ use Rattle.dialogue.specs.declared.config.Config.{Config}
 use Rattle.dialogue.specs.declared.event.Event.{Event}
 use Rattle.dialogue.specs.declared.event.Entry.{Entry}
 use Rattle.stub_tables.specs.declared.tables.Tables.{Tables}
-use Rattle.end_rules.specs.World.{World, Ends, other}
+use Rattle.end_rules.specs.World.{World, Ends}
 use Rattle.association_runs.specs.OwnExchanges.{own_at}
 use Rattle.outcome_laws.specs.Exchanges.{AreDistinct, outcomes_in}
 use Rattle.outcome_laws.specs.Outcomes.{AreAllowed, AreAnswers}
 use Rattle.agreement.specs.Sets.Role.{Initiator, Responder}
 use Rattle.osi_base.specs.declared.layer_words.Side.{Side}
 use Rattle.osi_base.specs.declared.layer_words.Side.TheVariants.{A, B}
+use Rattle.dialogue.specs.Sides.{other}
 use Rattle.end_model.specs.BothEnds.{HasCodec}
 use Rattle.end_rules.specs.Base.{Spellings}
 use Rattle.end_laws.specs.end_wire.Values.{spellings_with}

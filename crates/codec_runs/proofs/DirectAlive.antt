@@ -17,6 +17,7 @@ use Rattle.end_rules.specs.Calling.{is_dead}
 use Rattle.end_rules.specs.Requesting.{due_of}
 use Rattle.end_rules.specs.ByItself.{OwnAct, SendsNow, EncodesOn}
 use Rattle.end_rules.specs.History.{Step, called, sent, took, answered, step_of}
+use Rattle.dialogue.specs.Sides.{other as other_side}
 use Rattle.end_rules.specs.World as sides
 use Rattle.end_rules.specs.World.{World, Ends, is_side}
 use Rattle.agreement.specs.Sets.Role.{Initiator, Responder}
@@ -90,7 +91,7 @@ module _ (ends : Ends) where
   none-whole : (w : World) → NoEnds w → ArriveWhole ends w
   none-whole [] n = tt
   none-whole (m ∷ w) n =
-      (subst (AreWhole (started ends (sides.other m.side) w) (encodings ends (sides.other m.side) w)) (sym (arrived-none (sides.base_at ends m.side) (sides.body_at ends m.side w) m.step n.0)) tt, none-whole w n.1)
+      (subst (AreWhole (started ends (other_side m.side) w) (encodings ends (other_side m.side) w)) (sym (arrived-none (sides.base_at ends m.side) (sides.body_at ends m.side w) m.step n.0)) tt, none-whole w n.1)
 
   no-arrivals : (side : Side) (w : World) → NoEnds w → arrivals ends side w ≡ []
   no-arrivals side [] n = refl

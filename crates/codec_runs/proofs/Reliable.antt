@@ -4,7 +4,7 @@ use Rattle.dialogue.specs.declared.config.Config.{Config}
 use Rattle.dialogue.specs.declared.event.Event.{Event}
 use Rattle.dialogue.specs.declared.event.Entry.{Entry}
 use Rattle.stub_tables.specs.declared.tables.Tables.{Tables}
-use Rattle.end_rules.specs.World.{World, Ends, other}
+use Rattle.end_rules.specs.World.{World, Ends}
 use Rattle.association_worlds.specs.association_reading.Transfers.{association_spellings}
 use Rattle.association_worlds.specs.Laws.{IsMeant, SaidIsMeant}
 use Rattle.transfer_laws.specs.Laws.{reliable_ends}
@@ -26,9 +26,11 @@ use Rattle.agreement.specs.Sets.{Role}
 use Rattle.agreement.specs.Sets.Role.{Initiator, Responder}
 use Rattle.osi_base.specs.declared.layer_words.Side.{Side}
 use Rattle.osi_base.specs.declared.layer_words.Side.TheVariants.{A, B}
+use Rattle.end_rules.specs.Encodings.{item_of, IsOf, Encoding, IsNewest}
+use Rattle.dialogue.specs.Sides.{other}
 use Rattle.end_model.specs.BothEnds.{Two}
-use Rattle.reliable_model.specs.Ledgers.{TransferLog, Encoding, Ledger, ReachedWithLedger, transfer_log_of}
-use Rattle.reliable_model.specs.Transfers.{TakesTransferEnd as Ends_of, ArrivesWhole, IsNewest, item_of, IsOf}
+use Rattle.reliable_model.specs.Ledgers.{TransferLog, Ledger, ReachedWithLedger, transfer_log_of}
+use Rattle.reliable_model.specs.Transfers.{TakesTransferEnd as Ends_of, ArrivesWhole}
 use Rattle.run_laws.specs.Transfers.{OneTransfer}
 use Rattle.association_runs.proofs.TransferLogsAt.{AreDone}
 use Rattle.association_runs.specs.Laws.{AreEvents, AreOneHolder, ReachesMessages, RunsReachMessages, RunsTakeInPlace, RunsShowWhatIsTaken, RunsNeverFail, RunsHaveOneHolder, RunsTransferWhole, RunsTellOneOutcome, RunsLeaveNothingWhole, RunKeepsLaws}

@@ -7,6 +7,7 @@ use Rattle.osi_base.specs.declared.layer_words.Side.{Side}
 use Rattle.osi_base.specs.declared.layer_words.Side.TheVariants.{A, B}
 use Rattle.osi_base.specs.declared.session_word.SessionConnect.{SessionConnect}
 use Rattle.osi_base.specs.declared.presentation_word.PresentationConnect.{PresentationConnect}
+use Rattle.end_rules.specs.Encodings.{first_of, item_of, IsOf, Encoding, IsNewest}
 use Rattle.stub_tables.specs.declared.tables.Tables.{Tables}
 use Rattle.stub_tables.specs.declared.apdu.Apdu.{Apdu}
 use Rattle.dialogue.specs.declared.config.Config.{Config}
@@ -39,9 +40,9 @@ use Rattle.end_model.specs.BothEnds.{Common, base_at, Two, coming_to, stepped, t
 use Rattle.end_model.specs.Sharing.{side_of}
 use Rattle.end_model.proofs.OwnActs.{leading}
 use Rattle.reliable_model.specs.Ledgers as ledgers
-use Rattle.reliable_model.specs.Ledgers.{Ledger, TransferLog, TransferLogs, Encoding, ReachedWithLedger, transfer_log_of, on_transfer_log, first_of, started_by, items_by, arrived_by, own_messages, after_own, after_sending, after_taking, first_ledger}
+use Rattle.reliable_model.specs.Ledgers.{Ledger, TransferLog, TransferLogs, ReachedWithLedger, transfer_log_of, on_transfer_log, started_by, items_by, arrived_by, own_messages, after_own, after_sending, after_taking, first_ledger}
 use Rattle.reliable_model.specs.Transfers as transfers
-use Rattle.reliable_model.specs.Transfers.{ArrivesWhole, IsNewest, item_of, IsOf}
+use Rattle.reliable_model.specs.Transfers.{ArrivesWhole}
 use Rattle.reliable_model.specs.ReliableEnds.{reliable_common}
 use Rattle.reliable_model.proofs.Machine as machine
 use Rattle.reliable_model.proofs.OwnRows.{Kind, StartsNext, EncodesIt, MarksIt, EndsIt, GivesPart, kind}

@@ -20,7 +20,7 @@ use Rattle.end_rules.specs.Requesting.{due_of}
 use Rattle.end_rules.specs.ByItself.{OwnAct, SendsNow, EncodesOn, next_own}
 use Rattle.end_rules.specs.Reacting.{Takes, react}
 use Rattle.end_rules.specs.History.{Step, called, sent, fed, took, answered, passed, feed_end, gave, broke, after_step, step_of}
-use Rattle.end_rules.specs.World as sides
+use Rattle.dialogue.specs.Sides.{other as other_side}
 use Rattle.end_rules.specs.World.{World, Ends, Shared, is_side, shared_at}
 use Rattle.agreement.specs.Sets.{Role, other}
 use Rattle.agreement.specs.Sets.Role.{Initiator, Responder}
@@ -125,7 +125,7 @@ as-sent (Some r ∷ rs) (p ∷ ps) h t s = (t.0 ∙ ap as_read h.0 ∙ sym s.0, 
 pub right-as_sent : (ends : Ends) (w : World) → AtEachMoment (TakenInPlace ends) w → SendRight ends w → AtEachMoment (TakenAsSent ends) w
 right-as_sent ends [] h s = λ side. tt
 right-as_sent ends (m ∷ w) h s = (
-  λ side. as-sent (readings (sides.other side) (m ∷ w)) (sendings ends side (m ∷ w)) (h.0 side) (readings-right (sides.other side) (m ∷ w)) (sendings-right ends side (m ∷ w) s),
+  λ side. as-sent (readings (other_side side) (m ∷ w)) (sendings ends side (m ∷ w)) (h.0 side) (readings-right (other_side side) (m ∷ w)) (sendings-right ends side (m ∷ w) s),
   right-as_sent ends w h.1 s.1,
 )
 

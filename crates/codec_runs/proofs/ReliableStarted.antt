@@ -4,13 +4,12 @@ use Rattle.std.proofs.Common.{◌≡◌, refl, true, false, ◌∙◌, sym, ap, 
 use Rattle.std.specs.Prelude.{ℤ, Bool, Option, Some, None, nat_eq, if◌then◌else◌}
 use Rattle.std.proofs.lemmas.Bool.Decides.{nat_tests}
 use Rattle.std.proofs.lemmas.List.{append_assoc}
+use Rattle.end_rules.specs.Encodings.{first_of, item_of, IsOf}
 use Rattle.stub_tables.specs.declared.tables.Tables.{Tables}
 use Rattle.stub_tables.specs.declared.apdu.Apdu.{Apdu}
 use Rattle.stub_tables.specs.declared.apdu.Apdu.TheVariants as apdus
 use Rattle.end_rules.specs.State.{Queued, Sending}
 use Rattle.end_rules.specs.Requesting.{begun}
-use Rattle.reliable_model.specs.Ledgers.{first_of}
-use Rattle.reliable_model.specs.Transfers.{item_of, IsOf}
 use Rattle.run_laws.specs.Outcomes.{Invocation, ToldOutcome}
 use Rattle.association_runs.proofs.Noted.{IsOurs}
 use Rattle.association_runs.proofs.Telling.{IsFresh, AreFresh}

@@ -1,23 +1,24 @@
 -- In reliable mode each transfer of a run arrives whole, and at most once.
 use Rattle.std.proofs.Common.{◌≡◌, refl, true, false, ◌∙◌, sym, ap, subst, ℕ, List, [], ◌∷◌, ◌++◌, map, inl, inr, ◌⊎◌, None, Ok}
-use Rattle.std.specs.Prelude.{Bool, ◌||◌, Option, Some, if◌then◌else◌, Result, nat_eq, suc, length}
+use Rattle.std.specs.Prelude.{Bool, ◌||◌, Option, Some, if◌then◌else◌, Result}
 use Rattle.osi_base.specs.declared.layer_words.Side.{Side}
 use Rattle.osi_base.specs.declared.layer_words.Side.TheVariants.{A, B}
 use Rattle.osi_base.specs.declared.layer_words.SetItem.{SetItem}
 use Rattle.stub_tables.specs.declared.tables.Tables.{Tables}
-use Rattle.stub_tables.specs.declared.apdu.Apdu.{Apdu}
 use Rattle.dialogue.specs.declared.config.Config.{Config}
 use Rattle.dialogue.specs.declared.indication.Indication.{Indication}
 use Rattle.end_rules.specs.Base.{Base, Spellings, Item, Arrived, Whole as WholeItem, Fault}
 use Rattle.end_rules.specs.Messages.{Message, Session, OfAssociation, OfActivities, Connect, Start, End}
 use Rattle.end_rules.specs.State.{Body, Queued, Transfer}
 use Rattle.osi_base.specs.SetPlaces.{pair_of}
+use Rattle.end_rules.specs.Encodings.{first_of, item_of, IsOf, Encoding, IsNewest}
 use Rattle.end_rules.specs.Connecting.{is_refused, recovers_in}
 use Rattle.end_rules.specs.Requesting.{due_of}
 use Rattle.end_rules.specs.ByItself.{OwnAct, SendsNow, EncodesOn}
 use Rattle.end_rules.specs.TakesActivities.{arrived_now, values_arrived, handed_up}
 use Rattle.end_rules.specs.Reacting.{Takes, react}
 use Rattle.end_rules.specs.History.{Step, called, sent, encoded, took, answered, step_of}
+use Rattle.dialogue.specs.Sides.{other as other_side}
 use Rattle.end_rules.specs.World as sides
 use Rattle.end_rules.specs.World.{World, Moment, Ends, is_side, shared_at}
 use Rattle.agreement.specs.Sets.{Role}
@@ -29,11 +30,10 @@ use Rattle.end_model.specs.BothEnds.{Common, Two, coming_to}
 use Rattle.end_model.specs.Sharing.{side_of}
 use Rattle.reliable_model.specs.Ledgers as ledgers
 use Rattle.reliable_model.specs.Ledgers.{Ledger, TransferLog, ReachedWithLedger, transfer_log_of, items_by, arrived_by}
-use Rattle.reliable_model.specs.Transfers as transfers
 use Rattle.reliable_model.specs.ReliableEnds.{reliable_common}
 use Rattle.reliable_model.proofs.Machine as machine
 use Rattle.outcome_laws.specs.Exchanges.{Exchanges}
-use Rattle.run_laws.specs.Transfers.{first_of, started_in, started, Encoding, encoding_of, encoded_in, encodings, Arrival, arrivals_of, arrived_in, arrivals, item_of, IsOf, IsNewest, AreWhole, ArriveWhole, AreFalling, OneTransfer}
+use Rattle.run_laws.specs.Transfers.{started_in, started, encoding_of, encoded_in, encodings, Arrival, arrivals_of, arrived_in, arrivals, AreWhole, ArriveWhole, AreFalling, OneTransfer}
 use Rattle.association_runs.specs.Worlds.{stepping}
 use Rattle.association_runs.specs.Sides.{ends_for}
 use Rattle.association_runs.specs.TransferLogsAt.{transfer_log_after, transfer_log_at}
@@ -105,43 +105,20 @@ second-half (inl p) = inl p
 second-half (inr h) = inr h.1
 
 step-started : (base : Base) (body : Body) (set : List SetItem) (transfer_log : TransferLog) (x : Step) (before : List Queued) → KeepsAll base body transfer_log x → transfer_log.started ≡ before → (transfer_log_after base body set x transfer_log).started ≡ started_in body x ++ before
-step-started base body set transfer_log (sent (Session (OfActivities (Start activity)))) before k e = first-so body.sending.queue
-  where
-    first-so : (queue : List Queued) → ledgers.first_of queue ++ transfer_log.started ≡ first_of queue ++ before
-    first-so [] = e
-    first-so (item ∷ items) = ap (λ (l : List Queued). item ∷ l) e
+step-started base body set transfer_log (sent (Session (OfActivities (Start activity)))) before k e = ap (λ (l : List Queued). first_of body.sending.queue ++ l) e
 step-started base body set transfer_log (sent _) before k e = e
 step-started base body set transfer_log (took (Session (OfAssociation (Connect session presentation values)))) before k e =
     anew-same (is_refused base body session presentation values || recovers_in base values) transfer_log.started (first-half k) ∙ e
 step-started base body set transfer_log (took _) before k e = e
 step-started base body set transfer_log _ before k e = e
 
--- the same, with its own name for what is encoded
-abbrev as_model : Encoding → ledgers.Encoding
-as_model x = record { activity = x.activity; id = x.id; pair = x.pair; apdu = x.apdu }
-
-abbrev as_ours : ledgers.Encoding → Encoding
-as_ours x = record { activity = x.activity; id = x.id; pair = x.pair; apdu = x.apdu }
-
-encoding-so : (activity : ℕ) (set : List SetItem) (context : ℕ) (current : Option Transfer) → ledgers.encoding_of current activity set context ≡ map as_model (encoding_of activity context (pair_of set context) current)
+encoding-so : (activity : ℕ) (set : List SetItem) (context : ℕ) (current : Option Transfer) → ledgers.encoding_of current activity set context ≡ encoding_of activity context (pair_of set context) current
 encoding-so activity set context None = refl
 encoding-so activity set context (Some transfer) = refl
 
 map-two : {X Y : Type 0} (f : X → Y) (xs ys : List X) → map f (xs ++ ys) ≡ map f xs ++ map f ys
 map-two {Y = Y} f [] ys = refl
 map-two {Y = Y} f (x ∷ xs) ys = ap (λ (l : List Y). f x ∷ l) (map-two f xs ys)
-
-newest-so : (x : ledgers.Encoding) (es : List Encoding) → transfers.IsNewest x (map as_model es) → IsNewest (as_ours x) es
-newest-so x [] h = h
-newest-so x (e ∷ es) h = ap as_ours h
-
-item-so : (k : ℕ) (items : List Queued) → transfers.item_of k items ≡ item_of k items
-item-so k [] = refl
-item-so k (item ∷ items) = ap (λ (o : Option Queued). if nat_eq k (suc (length items)) then Some item else o) (item-so k items)
-
-of-so : (apdu : Apdu) (o : Option Queued) → transfers.IsOf apdu o → IsOf apdu o
-of-so apdu None h = h
-of-so apdu (Some item) h = h
 
 -- numbers of what is handed up
 abbrev number_of : Arrival → ℕ
@@ -157,21 +134,20 @@ falling-so (x ∷ []) h = tt
 falling-so (x ∷ (y ∷ ys)) h = (h.0, falling-so (y ∷ ys) h.1)
 
 module _ (ends : Ends) where
-  step-encoded : (side : Side) (w : World) (x : Step) (transfer_log : TransferLog) (before : List Encoding) → transfer_log.encoded ≡ map as_model before
-      → (transfer_log_after (sides.base_at ends side) (sides.body_at ends side w) (shared_at ends w).set x transfer_log).encoded ≡ map as_model (encoded_in ends w (sides.body_at ends side w) x ++ before)
+  step-encoded : (side : Side) (w : World) (x : Step) (transfer_log : TransferLog) (before : List Encoding) → transfer_log.encoded ≡ before
+      → (transfer_log_after (sides.base_at ends side) (sides.body_at ends side w) (shared_at ends w).set x transfer_log).encoded ≡ encoded_in ends w (sides.body_at ends side w) x ++ before
   step-encoded side w (encoded context) transfer_log before e =
       let body : Body = sides.body_at ends side w in
-      (λ i. encoding-so body.sending.started (shared_at ends w).set context body.sending.current i ++ e i)
-      ∙ sym (map-two as_model (encoding_of body.sending.started context (pair_of (shared_at ends w).set context) body.sending.current) before)
+      λ i. encoding-so body.sending.started (shared_at ends w).set context body.sending.current i ++ e i
   step-encoded side w _ transfer_log before e = e
 
-  one-encoded : (side s : Side) (x : Step) (w : World) → (transfer_log_at ends side w).encoded ≡ map as_model (encodings ends side w) → (transfer_log_at ends side (record { side = s; step = x } ∷ w)).encoded ≡ map as_model (encodings ends side (record { side = s; step = x } ∷ w))
+  one-encoded : (side s : Side) (x : Step) (w : World) → (transfer_log_at ends side w).encoded ≡ encodings ends side w → (transfer_log_at ends side (record { side = s; step = x } ∷ w)).encoded ≡ encodings ends side (record { side = s; step = x } ∷ w)
   one-encoded A A x w e = step-encoded A w x (transfer_log_at ends A w) (encodings ends A w) e
   one-encoded B B x w e = step-encoded B w x (transfer_log_at ends B w) (encodings ends B w) e
   one-encoded A B x w e = e
   one-encoded B A x w e = e
 
-  encoded-same : (side : Side) (w : World) → (transfer_log_at ends side w).encoded ≡ map as_model (encodings ends side w)
+  encoded-same : (side : Side) (w : World) → (transfer_log_at ends side w).encoded ≡ encodings ends side w
   encoded-same side [] = refl
   encoded-same side (m ∷ w) = one-encoded side m.side m.step w (encoded-same side w)
 
@@ -211,24 +187,20 @@ module _ (ends : Ends) where
 
   -- ---- each arrives whole
 
-  step-whole : (side : Side) (w : World) (x : Step) → ArrivesThen ends side w x → KeepThen ends w → AreWhole (started ends (sides.other side) w) (encodings ends (sides.other side) w) (arrived_in (sides.base_at ends side) (sides.body_at ends side w) x)
+  step-whole : (side : Side) (w : World) (x : Step) → ArrivesThen ends side w x → KeepThen ends w → AreWhole (started ends (other_side side) w) (encodings ends (other_side side) w) (arrived_in (sides.base_at ends side) (sides.body_at ends side w) x)
   step-whole side w (took (Session (OfActivities (End number)))) h k = here (sides.body_at ends side w).receiving.was_handed h
     where
-      here : (handed : Bool) → UnlessHanded handed (arriving.IsWhole ends side w) → AreWhole (started ends (sides.other side) w) (encodings ends (sides.other side) w) (arrivals_of (sides.body_at ends side w).receiving.last (if handed then [] else values_arrived (arrived_now (sides.base_at ends side) (sides.body_at ends side w))))
+      here : (handed : Bool) → UnlessHanded handed (arriving.IsWhole ends side w) → AreWhole (started ends (other_side side) w) (encodings ends (other_side side) w) (arrivals_of (sides.body_at ends side w).receiving.last (if handed then [] else values_arrived (arrived_now (sides.base_at ends side) (sides.body_at ends side w))))
       here true h = tt
       here false h =
           let last : ℕ = (sides.body_at ends side w).receiving.last in
-          subst (λ (r : Result Arrived Fault). AreWhole (started ends (sides.other side) w) (encodings ends (sides.other side) w) (arrivals_of (sides.body_at ends side w).receiving.last (values_arrived r))) (sym h.arrived) (
+          subst (λ (r : Result Arrived Fault). AreWhole (started ends (other_side side) w) (encodings ends (other_side side) w) (arrivals_of (sides.body_at ends side w).receiving.last (values_arrived r))) (sym h.arrived) (
             record {
               apdu = h.item.apdu;
               is_remote = refl;
-              is_its =
-                  of-so h.item.apdu (item_of last (started ends (sides.other side) w))
-                  (subst (transfers.IsOf h.item.apdu) (item-so last (started ends (sides.other side) w))
-                  (subst (λ (l : List Queued). transfers.IsOf h.item.apdu (transfers.item_of (sides.body_at ends side w).receiving.last l)) (started-same (sides.other side) w k) h.started));
+              is_its = subst (λ (l : List Queued). IsOf h.item.apdu (item_of last l)) (started-same (other_side side) w k) h.started;
               is_encoded =
-                  newest-so (record { activity = last; id = h.item.id; pair = Some h.item.pair; apdu = h.item.apdu }) (encodings ends (sides.other side) w)
-                  (subst (transfers.IsNewest (record { activity = last; id = h.item.id; pair = Some h.item.pair; apdu = h.item.apdu })) (encoded-same (sides.other side) w) h.encoded);
+                  subst (IsNewest (record { activity = last; id = h.item.id; pair = Some h.item.pair; apdu = h.item.apdu })) (encoded-same (other_side side) w) h.encoded;
             },
             tt,
           )

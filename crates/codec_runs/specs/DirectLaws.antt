@@ -4,7 +4,7 @@ use Rattle.dialogue.specs.declared.config.Config.{Config}
 use Rattle.dialogue.specs.declared.event.Event.{Event}
 use Rattle.dialogue.specs.declared.event.Entry.{Entry}
 use Rattle.stub_tables.specs.declared.tables.Tables.{Tables}
-use Rattle.end_rules.specs.World.{World, Ends, other}
+use Rattle.end_rules.specs.World.{World, Ends}
 use Rattle.end_model.specs.BothEnds.{Common}
 use Rattle.end_laws.specs.Codecs.{Transfers, direct_ends}
 use Rattle.association_worlds.specs.association_reading.Transfers.{transferred, arrived_at}
@@ -18,6 +18,7 @@ use Rattle.association_runs.specs.Laws.{AreEvents, RunKeepsLaws}
 use Rattle.outcome_laws.specs.Exchanges.{AreDistinct, outcomes_in}
 use Rattle.outcome_laws.specs.Outcomes.{AreAllowed, AreAnswers}
 use Rattle.osi_base.specs.declared.layer_words.Side.{Side}
+use Rattle.dialogue.specs.Sides.{other}
 
 -- transfers are spelled as in every association, though none comes in direct mode
 abbrev pub transfers_of : Tables → Transfers

@@ -5,7 +5,7 @@ use Rattle.dialogue.specs.declared.config.Mode.TheVariants.{Reliable}
 use Rattle.dialogue.specs.declared.event.Event.{Event}
 use Rattle.dialogue.specs.declared.event.Entry.{Entry}
 use Rattle.stub_tables.specs.declared.tables.Tables.{Tables}
-use Rattle.end_rules.specs.World.{World, Ends, other}
+use Rattle.end_rules.specs.World.{World, Ends}
 use Rattle.said_worlds.specs.Laws.{AreEndsIn}
 use Rattle.run_laws.specs.Passing.{TakenInPlace}
 use Rattle.run_laws.specs.Showing.{EachCarryShows}
@@ -19,6 +19,7 @@ use Rattle.outcome_laws.specs.Exchanges.{AreDistinct, outcomes_in}
 use Rattle.outcome_laws.specs.Outcomes.{AreAllowed, AreAnswers}
 use Rattle.agreement.specs.Laws.{AreFalling}
 use Rattle.osi_base.specs.declared.layer_words.Side.{Side}
+use Rattle.dialogue.specs.Sides.{other}
 
 -- An initiator and a responder of reliable mode with one module, whatever its name, without any type, and with configurations that
 -- no end refuses.

@@ -1,6 +1,7 @@
 //! Tests of the commands of `osi_tool`: whole runs, from words and files to an output. Each module
-//! says where its rows come from. It is a program, and one that does nothing: for a library the
-//! gate would go through all that `osi_commands` stands on.
+//! says where its rows come from. This crate is a program that does nothing, and no library: for a
+//! library the gate would make checksums along every path down from `osi_commands`
+//! (`docs/PERFORMANCE.md`).
 #![tactic(auto)]
 
 #[cfg(test)]

@@ -14,7 +14,7 @@ use Rattle.osi_base.specs.SetPlaces.{pair_of}
 use Rattle.context_sets.specs.Syntaxes.{is_fixed}
 use Rattle.context_sets.specs.Alterations.{additions, named_by, is_among, is_named}
 
--- an initiator's identifiers are odd, a responder's even (X.226 8.4.2)
+-- an initiator's identifiers are odd, a responder's even (X.226 8.2)
 abbrev pub is_of : Bool → ℕ → Bool
 is_of initiator id = nat_eq (id % 2) (if initiator then 1 else 0)
 

@@ -1,7 +1,7 @@
 -- What an end answers to an alteration that the other asks for, and which it doesn't take (X.226 8.2).
 use Rattle.std.specs.Prelude.{◌≡◌, ◌≢◌, ℕ, ◌+◌, Bool, true, false, not, ◌&&◌, ◌||◌, nat_le, if◌then◌else◌, List, [], ◌∷◌, length, map, Option, Some, None, is_some, Result, Ok, Err}
 use Rattle.std.specs.Option.{option_or}
-use Rattle.osi_base.specs.Syntax.{name_of, syntax_named, is_listed}
+use Rattle.osi_base.specs.Syntax.{name_of, syntax_named, is_listed, acse_name, rtse_name}
 use Rattle.osi_base.specs.declared.syntax.Pair.{Pair}
 use Rattle.osi_base.specs.declared.syntax.Syntax.{Syntax}
 use Rattle.osi_base.specs.declared.syntax.Syntax.TheVariants.{Ber}
@@ -17,7 +17,7 @@ use Rattle.context_sets.specs.declared.rules.Rejection.{Rejection}
 use Rattle.context_sets.specs.declared.rules.Rejection.TheVariants.{AbstractSyntax, TransferSyntaxes, LocalLimit}
 use Rattle.context_sets.specs.Sets.{ContextSet}
 use Rattle.osi_base.specs.SetPlaces.{pair_of}
-use Rattle.context_sets.specs.Syntaxes.{is_same, acse_name, rtse_name, is_fixed}
+use Rattle.context_sets.specs.Syntaxes.{is_same, is_fixed}
 use Rattle.context_sets.specs.Alterations.{additions, is_among}
 use Rattle.context_sets.specs.Asking.{is_of}
 

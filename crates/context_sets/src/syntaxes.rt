@@ -1,7 +1,8 @@
 //! Names of syntaxes.
 
 ghost use Rattle.std.specs.Prelude.{◌≡◌};
-ghost use Rattle.context_sets.specs.Syntaxes.{is_same, acse_name, rtse_name, is_fixed};
+ghost use Rattle.osi_base.specs.Syntax.{acse_name, rtse_name};
+ghost use Rattle.context_sets.specs.Syntaxes.{is_same, is_fixed};
 
 /// Whether two object identifiers are one.
 pub(crate) fn is_same(a: &[u32], b: &[u32]) -> bool

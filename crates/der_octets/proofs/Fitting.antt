@@ -13,6 +13,7 @@ use Rattle.asn1_types.specs.Fits.{is_octet, are_bits, is_text, part_fits, parts_
 use Rattle.asn1_types.specs.Rising.{set_rises}
 use Rattle.asn1_types.specs.Value.{Value, boolean, integer, null, octets, bits, object_id, text, parts, list, chosen, any, MaybeValues, no_parts, absent, present, Values, no_values, value}
 use Rattle.asn1_types.specs.Writing.{written}
+use Rattle.asn1_types.proofs.OctetTests.{octets_by_test}
 use Rattle.der_octets.specs.Laws.{LeavesAre, LeavesInParts, LeavesInValues, FittingLeavesAre}
 
 abbrev Lacks : (ℕ → Value → Bool) → Type 0
@@ -58,18 +59,18 @@ module _ (f : ℕ → Value → Bool) (lacks : Lacks f) where
   in-row spell (row.Enumerated named) v x h = absurd cc
   in-row spell row.Null null x h = tt
   in-row spell row.Null v x h = absurd cc
-  in-row spell (row.OctetString most) (octets os) x h = (and_parts (list_all is_octet os) (nat_le (length os) most) h).0
+  in-row spell (row.OctetString most) (octets os) x h = octets_by_test os (and_parts (list_all is_octet os) (nat_le (length os) most) h).0
   in-row spell (row.OctetString most) v x h = absurd cc
   in-row spell row.BitString (bits os u) x h =
       let k = and_parts (list_all is_octet os) (are_bits os u) h in
-      (small u (and_parts (nat_lt u 8) _ k.1).0, k.0)
+      (small u (and_parts (nat_lt u 8) _ k.1).0, octets_by_test os k.0)
     where
       small : (u : ℕ) → nat_lt u 8 ≡ true → u < 256
       small u e = grind (arith, nat_tests)
   in-row spell row.BitString v x h = absurd cc
   in-row spell row.ObjectId (object_id arcs) x h = tt
   in-row spell row.ObjectId v x h = absurd cc
-  in-row spell (row.Text kind) (text os) x h = (and_parts (list_all is_octet os) (is_text kind os) h).0
+  in-row spell (row.Text kind) (text os) x h = octets_by_test os (and_parts (list_all is_octet os) (is_text kind os) h).0
   in-row spell (row.Text kind) v x h = absurd cc
   in-row spell (row.Sequence ps) v x h = in-sequence ps v h
   in-row spell (row.Set ps) v x h = in-sequence ps v h

@@ -17,6 +17,7 @@ use Rattle.asn1_types.specs.Fits.{is_octet}
 use Rattle.asn1_types.specs.Tags.{tag_or, leading, ranks, front_rank}
 use Rattle.asn1_types.specs.Value.{Value, boolean, integer, null, octets, bits, object_id, text, parts, list, chosen, any, MaybeValues, no_parts, absent, present, Values, no_values, value}
 use Rattle.asn1_types.specs.Writing.{Writer, high_digits, base_128, digits_256, base_256, natural_octets, integer_octets, identifier, length_octets, definite, subidentifiers, boolean_contents, integer_contents, octets_contents, text_contents, bits_contents, object_id_contents, any_written, parts_contents, sequence_contents, of_rank, risen_parts, set_parts, values_contents, list_contents, alternative_written, choice_written, under, nothing_written, write_by, writes, written}
+use Rattle.asn1_types.proofs.OctetTests.{octets_by_test, octets_pass}
 use Rattle.der_octets.specs.Laws.{LeavesAre, LeavesInParts, LeavesInValues, DerAreOctets}
 
 abbrev Are : List ℕ → Type 0
@@ -26,11 +27,11 @@ both : (a b : Bool) → a ≡ true → b ≡ true → (a && b) ≡ true
 both true b e f = f
 both false b e f = cc
 
-pub append-are : (xs ys : List ℕ) → Are xs → Are ys → Are (xs ++ ys)
+append-are : (xs ys : List ℕ) → Are xs → Are ys → Are (xs ++ ys)
 append-are [] ys h k = k
 append-are (x ∷ xs) ys h k = let a = and_parts (is_octet x) (list_all is_octet xs) h in both (is_octet x) (list_all is_octet (xs ++ ys)) a.0 (append-are xs ys a.1 k)
 
-pub cons-are : (x : ℕ) (xs : List ℕ) → x < 256 → Are xs → Are (x ∷ xs)
+cons-are : (x : ℕ) (xs : List ℕ) → x < 256 → Are xs → Are (x ∷ xs)
 cons-are x xs lt h = ap (λ b. b && list_all is_octet xs) (lt-ltb x 256 lt) ∙ h
 
 -- ---- digits
@@ -243,15 +244,15 @@ module _ (w : ℕ → Writer) (writes : Writes w) where
   integer-are v = refl
 
   octets-are : (v : Value) → LeavesAre v → Are (octets_contents v)
-  octets-are (octets os) a = a
+  octets-are (octets os) a = octets_pass os a
   octets-are v a = refl
 
   text-are : (v : Value) → LeavesAre v → Are (text_contents v)
-  text-are (text os) a = a
+  text-are (text os) a = octets_pass os a
   text-are v a = refl
 
   bits-are : (v : Value) → LeavesAre v → Are (bits_contents v)
-  bits-are (bits os unused) a = cons-are unused os a.0 a.1
+  bits-are (bits os unused) a = cons-are unused os a.0 (octets_pass os a.1)
   bits-are v a = refl
 
   object_id-are : (v : Value) → Are (object_id_contents v)
@@ -259,7 +260,7 @@ module _ (w : ℕ → Writer) (writes : Writes w) where
   object_id-are v = refl
 
   any-are : (v : Value) → LeavesAre v → Few (any_written v) → Are (any_written v)
-  any-are (any os) a few = a few
+  any-are (any os) a few = octets_pass os (a few)
   any-are v a few = refl
 
   row-are : (r : TypeRow) (tag : Option tags.Tag) (v : Value) → LeavesAre v → Few (write_by w r tag v) → Are (write_by w r tag v)
@@ -290,4 +291,4 @@ along-are rows (suc turns) n tag v a few = of_row-are (along nothing_written wri
 
 pub der-octets : DerAreOctets
 unfolding written writes
-der-octets rows n v a few = along-are rows (length rows) n None v a few
+der-octets rows n v a few = octets_by_test (written rows n v) (along-are rows (length rows) n None v a few)

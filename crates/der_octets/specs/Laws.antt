@@ -1,14 +1,11 @@
 -- What is written in DER are octets (X.690 8.1).
 use Rattle.std.specs.Prelude.{◌≡◌, ◌≢◌, ◌<◌, ◌^◌, ℕ, true, List, Some, length, slice_get}
-use Rattle.std.specs.List.{list_all}
+use Rattle.osi_base.specs.Octets.{AreOctets}
 use Rattle.asn1_types.specs.declared.row.TypeRow.{TypeRow}
 use Rattle.asn1_types.specs.declared.row.TypeRow.TheVariants as row
-use Rattle.asn1_types.specs.Fits.{has_form, is_octet}
+use Rattle.asn1_types.specs.Fits.{has_form}
 use Rattle.asn1_types.specs.Value.{Value, boolean, integer, null, octets, bits, object_id, text, parts, list, chosen, any, MaybeValues, no_parts, absent, present, Values, no_values, value}
 use Rattle.asn1_types.specs.Writing.{written}
-
-abbrev pub AreOctets : List ℕ → Type 0
-AreOctets xs = list_all is_octet xs ≡ true
 
 -- the strings that stand in a value are octets, and its values of any type that aren't too long
 abbrev mutual

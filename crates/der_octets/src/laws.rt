@@ -2,8 +2,8 @@
 
 ghost use Rattle.der_octets.specs.Laws.{DerAreOctets, FittingLeavesAre};
 
-/// The DER spelling of a value, of fewer than 2^24 octets, are octets, where the strings that stand
-/// in it are, and its values of any type.
+/// A DER spelling of fewer than 2^24 octets consists of octets, where the strings that stand in the
+/// value do, and its values of any type.
 pub fn der_are_octets()
     ensures law { DerAreOctets }
 {}

@@ -1,4 +1,5 @@
-//! A DER spelling consists of octets, numbers below 256, where the strings in the value do.
+//! A law: if the strings in a value consist of octets (numbers below 256), so does its DER
+//! spelling.
 #![tactic(auto)]
 
 mod laws;

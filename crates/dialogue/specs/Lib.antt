@@ -1,3 +1,4 @@
 pub mod Config
 pub mod Carries
+pub mod Sides
 pub mod Printed

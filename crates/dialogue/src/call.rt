@@ -55,7 +55,8 @@ pub enum Call {
         /// The priority; 0 is the highest.
         priority: u32,
     },
-    /// Restarts the dialogue at the mark of this number, in direct mode.
+    /// Asks for a restart, in direct mode: the marks from this number on are forgotten, and the set
+    /// of contexts is again that of the mark before.
     Resync {
         /// The mark's number.
         n: u32,

@@ -96,7 +96,7 @@ pub enum Indication {
         /// The mark's number, 1 to 999,999.
         n: u32,
     },
-    /// The dialogue restarted at the mark of this number.
+    /// A restart to the mark of this number took effect: the marks from it on are forgotten.
     Restarted {
         /// The mark's number.
         n: u32,

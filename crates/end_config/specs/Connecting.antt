@@ -16,14 +16,11 @@ use Rattle.dialogue.specs.declared.config.Config.{Config}
 use Rattle.dialogue.specs.declared.config.Mode.{Mode}
 use Rattle.dialogue.specs.declared.config.Mode.TheVariants.{Bare, Direct, Reliable}
 use Rattle.association_ground.specs.end_rules.Base.{Base, application_context}
-use Rattle.association_ground.specs.end_rules.Messages.{Information, Transferring, Other, ValueContent, Remote, Unread, Association, Plea, Part, DataValue}
+use Rattle.association_ground.specs.end_rules.Messages.{ValueContent, Remote, Unread, Association, Plea, Part, DataValue}
 use Rattle.association_ground.specs.end_rules.Writing.{own_proposals, requirement_bits, presentation_connect, connect_values}
+use Rattle.association_wire.specs.Values.{external_of}
 
 -- ---- what the rules send as CP, with its user data as octets
-
-abbrev pub external_of : Information → External
-external_of (Transferring id apdu) = record { id = id; value = written_rtse apdu }
-external_of (Other id octets) = record { id = id; value = octets }
 
 -- the octets of an APDU of association control with its user information
 abbrev pub associated : ValueContent → List ℕ

@@ -19,7 +19,7 @@ abbrev pub is_taken : ℕ → List Proposal → Bool
 is_taken id before = list_any (λ (p : Proposal). nat_eq p.id id) before
 
 -- An initiator's identifiers are odd; 1 is that of association control, 3 that of reliable transfer; each comes once
--- (X.226 8.4.2; the highest is this project's own).
+-- (X.226 8.2; the highest is this project's own).
 abbrev pub is_bad_context : Mode → List Proposal → Proposal → Bool
 is_bad_context mode before p =
     nat_eq (p.id % 2) 0 || nat_eq p.id 1 || (is_reliable mode && nat_eq p.id 3) || nat_lt highest_context p.id || is_taken p.id before || is_empty p.transfers

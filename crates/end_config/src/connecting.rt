@@ -2,7 +2,8 @@
 
 ghost use Rattle.std.specs.Prelude.{◌≡◌, ◌++◌, ◌∷◌, [], IfOk, OnOk, Some, None, true, false, pos};
 ghost use Rattle.osi_base.specs.declared.presentation_word.PresentationWord.TheVariants as unit;
-ghost use Rattle.association_ground.specs.end_rules.Base.{acse_name, rtse_name, ber_name, application_context};
+ghost use Rattle.osi_base.specs.Syntax.{acse_name, rtse_name};
+ghost use Rattle.association_ground.specs.end_rules.Base.{ber_name, application_context};
 ghost use Rattle.association_ground.specs.end_rules.Writing.{proposal_in_ber, own_proposals, requirement_bits};
 ghost use Rattle.end_config.specs.Connecting.{connection_data, transfer_request, externals};
 ghost use Rattle.end_config.specs.Connecting.{request_pdv, connect_of, connect_octets};

@@ -90,14 +90,6 @@ is_reliable Reliable = true
 
 -- ---- names
 
--- association control (X.227 11)
-abbrev pub acse_name : List ℕ
-acse_name = 2 ∷ 2 ∷ 1 ∷ 0 ∷ 1 ∷ []
-
--- reliable transfer (this project's own name)
-abbrev pub rtse_name : List ℕ
-rtse_name = 2 ∷ 999 ∷ 5 ∷ 2 ∷ []
-
 abbrev pub ber_name : List ℕ
 ber_name = 2 ∷ 1 ∷ 1 ∷ []
 

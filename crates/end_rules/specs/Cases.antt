@@ -16,8 +16,9 @@ use Rattle.dialogue.specs.declared.config.Mode.TheVariants.{Bare, Direct}
 use Rattle.dialogue.specs.declared.call.Call.{Call}
 use Rattle.dialogue.specs.declared.call.Call.TheVariants as the_calls
 use Rattle.dialogue.specs.declared.indication.Indication.{Indication}
-use Rattle.end_rules.specs.Base.{Base, General, Arrived, Whole, Fault, Spellings, base_of, acse_name, ber_name}
+use Rattle.end_rules.specs.Base.{Base, General, Arrived, Whole, Fault, Spellings, base_of, ber_name}
 use Rattle.osi_base.specs.SetPlaces.{pair_of}
+use Rattle.osi_base.specs.Syntax.{acse_name}
 use Rattle.end_rules.specs.Messages.{Remote, Values, RestartAck, OfData, OfMarks, Message, Session}
 use Rattle.end_rules.specs.State.{Body, new_body}
 use Rattle.end_rules.specs.Invoking.{Reply}

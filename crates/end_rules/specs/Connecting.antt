@@ -18,9 +18,10 @@ use Rattle.dialogue.specs.declared.config.Mode.TheVariants.{Bare, Direct, Reliab
 use Rattle.dialogue.specs.declared.config.Phase.TheVariants.{Up, Broken, Over}
 use Rattle.dialogue.specs.declared.indication.Indication.{Indication}
 use Rattle.dialogue.specs.declared.indication.Indication.TheVariants as indications
-use Rattle.end_rules.specs.Base.{Base, Fault, is_reliable, acse_name, rtse_name}
+use Rattle.end_rules.specs.Base.{Base, Fault, is_reliable}
 use Rattle.end_rules.specs.Sets.{same_name, has_abstract, lowest_with, accepted_set, fit_proposals, Saved}
 use Rattle.osi_base.specs.SetPlaces.{pair_of}
+use Rattle.osi_base.specs.Syntax.{acse_name, rtse_name}
 use Rattle.end_rules.specs.Messages.{Information, Transferring, Other, ValueContent, Association, DataValue, Accepting, Message}
 use Rattle.end_rules.specs.State.{Body, Carrying, NoAnswer, new_body, is_broken, is_none}
 use Rattle.end_rules.specs.Units.{has_units, needed_units, selected_with, has_version_two, manages_with}

@@ -1,7 +1,9 @@
 pub mod Base
+pub mod Members
 pub mod Sets
 pub mod Messages
 pub mod State
+pub mod Encodings
 pub mod Units
 pub mod Invoking
 pub mod Altering

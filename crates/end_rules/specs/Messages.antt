@@ -1,5 +1,5 @@
 -- The messages that two ends exchange, as they are meant (X.224 13, X.225 8.3, X.226 8.4, X.227 9, X.228 9, X.880 9).
-use Rattle.std.specs.Prelude.{ℕ, List, [], Option, None, Some}
+use Rattle.std.specs.Prelude.{ℕ, ℤ, pos, negsuc, List, [], Option, None, Some}
 use Rattle.osi_base.specs.declared.syntax.Pair.{Pair}
 use Rattle.osi_base.specs.declared.layer_words.Proposal.{Proposal}
 use Rattle.osi_base.specs.declared.layer_words.Answers.{Answers}
@@ -62,6 +62,11 @@ pub data AbortData : Type 0 where
   NoData : AbortData
   ProviderReason : (reason : Option ℕ) → AbortData
   UserValues : (values : List DataValue) → AbortData
+
+-- a provider's reason as a natural number: one below 0 counts as 0
+abbrev pub natural : ℤ → ℕ
+natural (pos n) = n
+natural (negsuc n) = 0
 
 -- the association (X.225 8.3.1, 8.3.4 to 8.3.10)
 pub data AssociationWord : Type 0 where

@@ -5,11 +5,11 @@ use Rattle.osi_base.specs.declared.layer_words.Proposal.{Proposal}
 use Rattle.osi_base.specs.declared.layer_words.AddAnswer.{AddAnswer}
 use Rattle.osi_base.specs.declared.layer_words.Answers.{Answers}
 use Rattle.osi_base.specs.declared.layer_words.SetItem.{SetItem}
-use Rattle.end_rules.specs.Base.{Base, is_reliable, acse_name, rtse_name, ber_name}
+use Rattle.end_rules.specs.Base.{Base, is_reliable, ber_name}
 use Rattle.end_rules.specs.Sets.{Alteration, same_name, is_among, is_fixed, has_parity, count_added, proposed_ids}
 use Rattle.osi_base.specs.SetPlaces.{pair_of}
 use Rattle.osi_base.specs.Limits.{most_contexts}
-use Rattle.osi_base.specs.Syntax.{syntax_named}
+use Rattle.osi_base.specs.Syntax.{syntax_named, acse_name, rtse_name}
 use Rattle.end_rules.specs.State.{Body}
 use Rattle.end_rules.specs.Altering.{used, has_double}
 
@@ -72,7 +72,7 @@ policy base body a =
 abbrev pub opening_policy : Base → List Proposal → List AddAnswer
 opening_policy base proposals = answers_to_additions base true 0 proposals
 
--- ---- what may not be proposed: an identifier that is there or comes twice, or has the wrong parity (X.226 8.4.2)
+-- ---- what may not be proposed: an identifier that is there or comes twice, or has the wrong parity (X.226 8.2)
 
 abbrev pub is_faulty_proposal : Bool → List SetItem → List Proposal → Bool
 is_faulty_proposal proposer_initiates held add =

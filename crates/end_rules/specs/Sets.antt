@@ -3,7 +3,7 @@ use Rattle.std.specs.Prelude.{ℕ, suc, ◌+◌, ◌%◌, List, [], ◌∷◌, �
 use Rattle.std.specs.Cmp.Lexicographic.{pointwise}
 use Rattle.std.specs.List.{list_any}
 use Rattle.osi_base.specs.SetPlaces.{pair_of, without_context}
-use Rattle.osi_base.specs.Syntax.{name_of, syntax_named}
+use Rattle.osi_base.specs.Syntax.{name_of, syntax_named, acse_name, rtse_name}
 use Rattle.osi_base.specs.declared.syntax.Pair.{Pair}
 use Rattle.osi_base.specs.declared.syntax.Syntax.{Syntax}
 use Rattle.osi_base.specs.declared.layer_words.SetItem.{SetItem}
@@ -11,7 +11,6 @@ use Rattle.osi_base.specs.declared.layer_words.Proposal.{Proposal}
 use Rattle.osi_base.specs.declared.layer_words.AddAnswer.{AddAnswer}
 use Rattle.osi_base.specs.declared.layer_words.Answers.{Answers}
 use Rattle.osi_base.specs.declared.layer_words.RestoredItem.{RestoredItem}
-use Rattle.end_rules.specs.Base.{acse_name, rtse_name}
 
 -- two object identifiers are one
 abbrev pub same_name : List ℕ → List ℕ → Bool
@@ -169,7 +168,7 @@ next_number (mark ∷ marks) = suc mark.number
 
 -- ---- whose an identifier is
 
--- an initiator's are odd, a responder's even (X.226 8.4.2)
+-- an initiator's are odd, a responder's even (X.226 8.2)
 abbrev pub has_parity : Bool → ℕ → Bool
 has_parity initiator k = if initiator then nat_eq (k % 2) 1 else nat_eq (k % 2) 0
 

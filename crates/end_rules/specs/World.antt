@@ -41,10 +41,6 @@ is_side A B = false
 is_side B A = false
 is_side B B = true
 
-abbrev pub other : Side → Side
-other A = B
-other B = A
-
 -- one end's history, and what it says of its body
 abbrev pub history_of : Side → World → History
 history_of side [] = []

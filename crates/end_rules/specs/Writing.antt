@@ -20,9 +20,10 @@ use Rattle.dialogue.specs.declared.config.Mode.{Mode}
 use Rattle.dialogue.specs.declared.config.Mode.TheVariants.{Bare, Direct, Reliable}
 use Rattle.dialogue.specs.declared.config.Phase.{Phase}
 use Rattle.dialogue.specs.declared.config.Phase.TheVariants.{Recovering}
-use Rattle.end_rules.specs.Base.{Base, acse_name, rtse_name, ber_name, application_context}
+use Rattle.end_rules.specs.Base.{Base, ber_name, application_context}
 use Rattle.end_rules.specs.Sets.{lowest_with}
 use Rattle.osi_base.specs.SetPlaces.{pair_of}
+use Rattle.osi_base.specs.Syntax.{acse_name, rtse_name}
 use Rattle.end_rules.specs.Messages.{Information, Transferring, ValueContent, Association, Plea, Part, DataValue, ConnectionRequest, NoData, ProviderReason, UserValues, Connect, Accept, Refuse, Finish, Disconnect, Abort, Values, Give, GiveConfirm, Please, OfAssociation, OfData, OfMarks, Message, Transport, Session}
 use Rattle.end_rules.specs.State.{Body}
 use Rattle.end_rules.specs.Units.{proposed_units}

@@ -12,7 +12,7 @@ use Rattle.asn1_types.specs.declared.value.Val.{Val}
 use Rattle.asn1_types.specs.declared.row.TypeId.{TypeId}
 use Rattle.asn1_types.specs.declared.table.TypeTable.{TypeTable}
 use Rattle.ber_spelling.specs.declared.fault.ReadFault.{ReadFault}
-use Rattle.ber_spelling.specs.Octets.{AreOctets}
+use Rattle.osi_base.specs.Octets.{AreOctets}
 use Rattle.ber_spelling.specs.Rules as ber
 use Rattle.ber_spelling.specs.Spelling as spelling
 use Rattle.ber_spelling.proofs.WholeValues as ber_laws

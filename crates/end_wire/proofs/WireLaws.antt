@@ -6,7 +6,7 @@ use Rattle.osi_base.specs.declared.layer_words.SetItem.{SetItem}
 use Rattle.asn1_types.specs.Value.{Value, any}
 use Rattle.asn1_types.specs.Whole.{is_whole}
 use Rattle.asn1_types.specs.Fits.{has_form}
-use Rattle.ber_spelling.specs.Octets.{AreOctets}
+use Rattle.osi_base.specs.Octets.{AreOctets}
 use Rattle.ber_spelling.specs.Spelling as spelling
 use Rattle.asn1_types.specs.Writing.{written as written_value}
 use Rattle.ber_spelling.proofs.WholeSpelled.{der_is_whole}
@@ -21,7 +21,7 @@ use Rattle.asn1_types.specs.declared.table.TypeTable.{TypeTable}
 use Rattle.stub_tables.specs.Apdus.{argument_of, result_of, parameter_of, operation_coded, error_coded}
 use Rattle.stub_tables.specs.Readable.{IsReadable}
 use Rattle.stub_tables.specs.Apdus.{IsWhole}
-use Rattle.stub_tables.specs.Heads as values
+use Rattle.stub_tables.specs.AnyValue as values
 use Rattle.stub_tables.proofs.Readings as values_sound
 use Rattle.asn1_types.specs.Writing.{writes}
 use Rattle.ber_spelling.proofs.Written.{written_spelled as value_spelled}
@@ -44,7 +44,7 @@ use Rattle.end_wire.proofs.ContentLaws.{one_content}
 
 any_is : (text : List ℕ) → is_whole text ≡ true → length text ≤ 262144 → IsWhole text
 unfolding IsWhole written_value writes has_form
-any_is text e le = value_spelled whole_is values.head_rows values_sound.heads_sound values.any_row (any text) e false 262144 (omega arith) le
+any_is text e le = value_spelled whole_is values.any_value_rows values_sound.any_value_sound values.any_value_row (any text) e false 262144 (omega arith) le
 
 -- ---- what is written in BER is what is written in DER
 

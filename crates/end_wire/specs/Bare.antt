@@ -10,7 +10,7 @@ use Rattle.ber_spelling.specs.declared.fault.ReadFault.TheVariants as fault
 use Rattle.ber_spelling.specs.Rules.{read_at}
 use Rattle.stub_tables.specs.declared.tables.Tables.{Tables}
 use Rattle.stub_tables.specs.declared.apdu.Apdu.{Apdu}
-use Rattle.stub_tables.specs.Heads.{head_rows, any_row}
+use Rattle.stub_tables.specs.AnyValue.{any_value_rows, any_value_row}
 use Rattle.stub_tables.specs.Apdus.{IsWhole}
 use Rattle.dialogue.specs.declared.config.Config.{Config}
 use Rattle.dialogue.specs.declared.config.Mode.TheVariants.{Bare}
@@ -83,7 +83,7 @@ first_of (Err fault.NoMemory) = Short
 
 -- an APDU has at most 262,144 octets
 unfoldable pub first_at : List ℕ → First
-first_at octets = first_of (read_at head_rows any_row false most_octets octets)
+first_at octets = first_of (read_at any_value_rows any_value_row false most_octets octets)
 
 -- the first message, and the octets behind it
 abbrev pub front : First → List ℕ → List ℕ

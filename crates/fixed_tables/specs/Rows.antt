@@ -1,21 +1,9 @@
 -- Rows of fixed tables of types.
-use Rattle.std.specs.Prelude.{ℕ, ◌^◌, Bool, true, false, ◌&&◌, List, [], ◌∷◌, ◌++◌, is_none, nat_lt, None}
-use Rattle.asn1_types.specs.declared.row.Part.{Part}
+use Rattle.std.specs.Prelude.{◌^◌, Bool, true, ◌&&◌, List, [], ◌∷◌, ◌++◌, is_none, nat_lt}
 use Rattle.asn1_types.specs.declared.row.Class.{Class}
-use Rattle.asn1_types.specs.declared.row.Class.TheVariants.{Context}
 use Rattle.asn1_types.specs.declared.row.TypeRow.{TypeRow}
 use Rattle.asn1_types.specs.declared.row.TypeRow.TheVariants.{Tagged}
 use Rattle.asn1_types.specs.Table.{refusal}
-
-abbrev pub part : List ℕ → ℕ → Bool → Part
-part name row optional = record { name = name; inner = record { 0 = row }; optional = optional; default = None }
-
--- a context tag in the place of a row's own, and one around it
-abbrev pub implicit : ℕ → ℕ → TypeRow
-implicit number row = Tagged Context number false (record { 0 = row })
-
-abbrev pub explicit : ℕ → ℕ → TypeRow
-explicit number row = Tagged Context number true (record { 0 = row })
 
 -- each of these rows may be added behind those before it
 abbrev pub all_added : List TypeRow → List TypeRow → Bool

@@ -3,7 +3,8 @@
 ghost use Rattle.std.specs.Prelude.{◌≡◌, ◌++◌, ◌∷◌, [], map, None, true, IfOk, OnOk};
 ghost use Rattle.asn1_types.specs.Table.{refusal};
 ghost use Rattle.asn1_types.specs.declared.row.TypeRow.TheVariants.{Tagged};
-ghost use Rattle.fixed_tables.specs.Rows.{part, implicit, explicit as around, all_added};
+ghost use Rattle.asn1_types.specs.FixedRows.{part, implicit, explicit as around};
+ghost use Rattle.fixed_tables.specs.Rows.{all_added};
 
 use asn1_types::{Class, Part, Parts, RowRefusal, TypeId, TypeRow, TypeTable};
 use osi_base::{ListOf, Name, NoMemory};

@@ -1,6 +1,6 @@
 //! Tests of the codecs of BER and of the packed syntax, of packets and of session units, over their
 //! public calls: worked rows, limits, and each public call once with ample memory. They stand in a
-//! crate of their own, so that each layer is proved once.
+//! crate of their own, since a crate with tests inside is proved twice.
 #![tactic(auto)]
 
 #[cfg(test)]

@@ -1,5 +1,5 @@
-//! The open invocations of an association as a forest: a linked invocation stands under the one
-//! that it is linked to (X.880 8.2.6).
+//! The open invocations of both ends as a forest: a linked invocation stands under the one that it
+//! is linked to (X.880 8.2.6).
 #![tactic(auto)]
 
 mod children;

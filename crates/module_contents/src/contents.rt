@@ -2,7 +2,7 @@
 
 ghost use Rattle.std.specs.Prelude.{◌≡◌, IfOk};
 ghost use Rattle.std.specs.Option.{option_copied, option_map};
-ghost use Rattle.ber_spelling.specs.Octets.{AreOctets};
+ghost use Rattle.osi_base.specs.Octets.{AreOctets};
 ghost use Rattle.stub_tables.specs.Lookup.{operation_at, error_at};
 ghost use Rattle.stub_tables.specs.Apdus.{placed, argument_of, result_of, parameter_of};
 ghost use Rattle.end_wire.specs.Heads.{head_at, apdu_of};
@@ -13,9 +13,8 @@ ghost use Rattle.module_contents.specs.Said.{apdu_in, invoke_by, result_by, erro
 use crate::module_values::{carried, needed};
 use apdu_spelling::{ApduHead, ApduKind};
 use association_words::ValueContent;
-use ber_spelling::are_octets;
 use end_wire::apdu_codec_layer::{HeadFault, Heads};
-use osi_base::{NoMemory, Octets, Syntax};
+use osi_base::{NoMemory, Octets, Syntax, hold_octets};
 use std::alloc::Global;
 use stub_tables::{Apdu, Returned, Tables, Use};
 
@@ -218,7 +217,7 @@ pub fn content_at(
     ensures { IfOk result (λ content. seen_content content ≡ values.content_at tables.now syntax
         octets.now) }
 {
-    are_octets(octets);
+    hold_octets(octets);
     match spelled(alloc, heads, tables, syntax, octets)? {
         Some(Found { apdu, place }) => Ok(ValueContent::Remote { apdu, place }),
         None => Ok(ValueContent::Unread(Octets::from_slice(alloc, octets)?)),

@@ -4,6 +4,7 @@ pub mod Failing
 pub mod Hexadecimal
 pub mod Limits
 pub mod OctetPlaces
+pub mod Octets
 pub mod Lines
 pub mod MemLines
 pub mod Memory

@@ -7,6 +7,7 @@ use Rattle.osi_base.specs.declared.layer_words.Layer.{Layer}
 use Rattle.osi_base.specs.declared.layer_words.Layer.TheVariants as layers
 use Rattle.osi_base.specs.declared.session_word.SessionConnect.{SessionConnect}
 use Rattle.osi_base.specs.declared.presentation_word.PresentationConnect.{PresentationConnect}
+use Rattle.end_model.specs.end_rules.Members.{IsIn}
 use Rattle.stub_tables.specs.declared.tables.Tables.{Tables}
 use Rattle.stub_tables.specs.declared.operation.Operation.{Operation}
 use Rattle.stub_tables.specs.declared.apdu.Apdu.{Apdu}
@@ -43,7 +44,7 @@ use Rattle.end_model.specs.BothEnds.{Common, base_at, Two, coming_to}
 use Rattle.end_model.proofs.Ladder.{called, passed}
 use Rattle.reliable_model.specs.Ledgers.{Ledger}
 use Rattle.outcome_laws.specs.Exchanges.{rejects_in, still_after, Exchanges, exchange_of, ReachedWithExchanges, begins, calls, acts, takes, passes, fails as aborts_of_itself, breaks}
-use Rattle.outcome_laws.specs.Outcomes.{IsIn, AreAnswers, OutcomesAreAnswers}
+use Rattle.outcome_laws.specs.Outcomes.{AreAnswers, OutcomesAreAnswers}
 use Rattle.outcome_laws.proofs.Words.{association-none, marks-none, settled-none, transport-none}
 use Rattle.outcome_laws.proofs.Once.{keeps, still-keeps}
 use Rattle.outcome_laws.proofs.Writers.{Within, within-more, Carries, AllCarry, all-on, all-append, answers-on, answers-append, quiet, TakenWell, values-taken}

@@ -4,6 +4,7 @@ use Rattle.std.specs.Prelude.{ℤ, length, Bool, not, ◌&&◌, nat_le, Option, 
 use Rattle.osi_base.specs.declared.layer_words.Problem.{Problem}
 use Rattle.osi_base.specs.declared.layer_words.ProblemKind.TheVariants as problems
 use Rattle.osi_base.specs.Limits.{most_open}
+use Rattle.end_model.specs.end_rules.Members.{IsIn}
 use Rattle.stub_tables.specs.declared.tables.Tables.{Tables}
 use Rattle.stub_tables.specs.declared.operation.Code.{Code}
 use Rattle.stub_tables.specs.Lookup.{operation_at, operation_with, error_with}
@@ -27,7 +28,6 @@ use Rattle.agreement.specs.Sets.Role.{Initiator, Responder}
 use Rattle.end_model.specs.BothEnds.{Common, base_at, Two}
 use Rattle.reliable_model.specs.Ledgers.{Ledger}
 use Rattle.outcome_laws.specs.Exchanges.{Asked, asked_by, still_after, Exchanges, exchange_of, ReachedWithExchanges, begins, calls as asks, acts, takes, passes, fails as aborts_of_itself, breaks}
-use Rattle.outcome_laws.specs.Outcomes.{IsIn}
 use Rattle.outcome_laws.specs.Links.{Link, link_in, links_in, IsAllowedLink, AreAllowedLinks, LinksAreAllowed}
 use Rattle.outcome_laws.proofs.Shown.{in-later, notes_in, links-append, unnoted-links}
 use Rattle.outcome_laws.proofs.Open.{asked_in, Once, Found, found}

@@ -6,6 +6,7 @@ use Rattle.std.specs.List.{list_any}
 use Rattle.std.proofs.lemmas.Bool.Decides.{nat_tests, Decides-int_eq}
 use Rattle.std.proofs.lemmas.List.Folds.{list_any-append}
 use Rattle.std.proofs.lemmas.List.{append-nil}
+use Rattle.end_model.specs.end_rules.Members.{IsIn}
 use Rattle.stub_tables.specs.declared.tables.Tables.{Tables}
 use Rattle.stub_tables.specs.Lookup.{operation_at}
 use Rattle.dialogue.specs.declared.indication.Indication.{Indication}
@@ -14,7 +15,7 @@ use Rattle.end_model.specs.end_rules.State.{OpenCall, Calls, is_key, opened_with
 use Rattle.end_model.specs.end_rules.Hearing.{is_silent_at, with_opened}
 use Rattle.end_model.proofs.Numbered.{opened-snoc, opened-closed, same-own, same-id, same-key, or-first, or-second, or-none}
 use Rattle.outcome_laws.specs.Exchanges.{AreDistinct, Asked, outcome_in, outcomes_in}
-use Rattle.outcome_laws.specs.Outcomes.{IsIn, IfOutcome, allows, Allowed, AreAllowed}
+use Rattle.outcome_laws.specs.Outcomes.{IfOutcome, allows, Allowed, AreAllowed}
 use Rattle.outcome_laws.proofs.Shown.{in-later, outcomes-append, each-on, each-append, each-quiet, notes_in, unnoted}
 
 -- a number that this end gave

@@ -2,9 +2,10 @@
 use Rattle.std.proofs.Common.{inl, inr, ◌≡◌, refl, ◌∙◌, sym, ap, subst, List, [], ◌∷◌, ◌++◌}
 use Rattle.std.proofs.lemmas.List.{append_assoc}
 use Rattle.std.specs.Prelude.{ℤ}
+use Rattle.end_model.specs.end_rules.Members.{IsIn}
 use Rattle.dialogue.specs.declared.indication.Indication.{Indication}
 use Rattle.outcome_laws.specs.Exchanges.{outcome_in, outcomes_in}
-use Rattle.outcome_laws.specs.Outcomes.{IsIn, IfOutcome, EachOutcome}
+use Rattle.outcome_laws.specs.Outcomes.{IfOutcome, EachOutcome}
 use Rattle.outcome_laws.specs.Links.{Link, link_in, links_in}
 
 pub outcomes-append : (xs ys : List Indication) → outcomes_in (xs ++ ys) ≡ outcomes_in xs ++ outcomes_in ys

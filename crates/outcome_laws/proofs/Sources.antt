@@ -35,15 +35,16 @@ use Rattle.end_model.specs.end_rules.ByItself.{OwnAct, SendsNow, EncodesOn}
 use Rattle.end_model.specs.end_rules.Reacting.{Reaction, Passes, Takes, Fails, fails, after_word, shown_of_word, fault_above, word_fault, on_word, react_to_word, on_transport, react_to_transport, react_to_session, react_alive, react}
 use Rattle.end_model.specs.end_rules.History.{after_step, step_of, after_broke, off_line}
 use Rattle.osi_base.specs.declared.layer_words.SetItem.{SetItem}
+use Rattle.end_model.specs.end_rules.Encodings.{Encoding}
+use Rattle.end_model.specs.end_rules.Members.{IsIn}
 use Rattle.agreement.specs.Sets.{Role}
 use Rattle.agreement.specs.Sets.Role.{Initiator, Responder}
 use Rattle.end_model.specs.Rows.{at}
 use Rattle.end_model.specs.Acting.{as_list, invoked_as, apdus_of}
 use Rattle.end_model.specs.Requests.{sent_all, after_called}
 use Rattle.end_model.specs.BothEnds.{Common, base_at, Two, body_at}
-use Rattle.reliable_model.specs.Ledgers.{Encoding, encoding_of, encoded_by, transfer_log_of, Ledger}
+use Rattle.reliable_model.specs.Ledgers.{encoding_of, encoded_by, transfer_log_of, Ledger}
 use Rattle.outcome_laws.specs.Exchanges.{rejects_in, Exchanges, exchange_of, ReachedWithExchanges, begins, calls, acts, takes, passes, fails as aborts_of_itself, breaks}
-use Rattle.outcome_laws.specs.Outcomes.{IsIn}
 use Rattle.outcome_laws.proofs.Shown.{in-later}
 use Rattle.outcome_laws.proofs.Writers.{Within, within-more, in-first, in-either, rejects-append}
 

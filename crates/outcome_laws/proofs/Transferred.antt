@@ -2,6 +2,8 @@
 use Rattle.std.proofs.Common.{◌≡◌, refl, true, false, ◌∙◌, sym, ap, subst, ℕ, List, [], ◌∷◌, ◌++◌}
 use Rattle.std.specs.Prelude.{ℤ, Bool, not, ◌||◌, Option, Some, None, Result, Ok, Err, if◌then◌else◌}
 use Rattle.osi_base.specs.declared.layer_words.SetItem.{SetItem}
+use Rattle.end_model.specs.end_rules.Encodings.{Encoding, IsNewest}
+use Rattle.end_model.specs.end_rules.Members.{IsIn}
 use Rattle.stub_tables.specs.declared.tables.Tables.{Tables}
 use Rattle.stub_tables.specs.declared.apdu.Apdu.{Apdu}
 use Rattle.dialogue.specs.declared.config.Config.{Config}
@@ -26,12 +28,12 @@ use Rattle.end_model.specs.Seen.{Free}
 use Rattle.end_model.specs.Acting.{apdus_of}
 use Rattle.end_model.specs.BothEnds.{Common, base_at, Two, body_at, coming_to}
 use Rattle.reliable_model.specs.Codecs.{Carries}
-use Rattle.reliable_model.specs.Ledgers.{Encoding, transfer_log_of, Ledger}
+use Rattle.reliable_model.specs.Ledgers.{transfer_log_of, Ledger}
 use Rattle.reliable_model.specs.ReliableEnds.{reliable_common, IsFit}
-use Rattle.reliable_model.specs.Transfers.{TakesTransferEnd, IsNewest, ArrivesWhole}
+use Rattle.reliable_model.specs.Transfers.{TakesTransferEnd, ArrivesWhole}
 use Rattle.reliable_model.proofs.Laws.{reliable-whole}
 use Rattle.outcome_laws.specs.Exchanges.{rejects_in, still_after, Exchanges, exchange_of, ReachedWithExchanges, begins, calls, acts, takes, passes, fails as aborts_of_itself, breaks}
-use Rattle.outcome_laws.specs.Outcomes.{IsIn, AreAnswers}
+use Rattle.outcome_laws.specs.Outcomes.{AreAnswers}
 use Rattle.outcome_laws.specs.Transferred.{TransferredAnswers}
 use Rattle.outcome_laws.proofs.Words.{association-none, settled-none, marks-none, transport-none, lost-more, discard-none}
 use Rattle.outcome_laws.proofs.Once.{keeps, still-keeps}

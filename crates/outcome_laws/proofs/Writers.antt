@@ -5,6 +5,7 @@ use Rattle.std.specs.Prelude.{ℤ, Bool, ◌&&◌, Option, Some, None, is_some, 
 use Rattle.asn1_types.specs.declared.value.Val.{Val}
 use Rattle.osi_base.specs.declared.layer_words.Problem.{Problem}
 use Rattle.osi_base.specs.declared.layer_words.ProblemKind.TheVariants as problems
+use Rattle.end_model.specs.end_rules.Members.{IsIn}
 use Rattle.stub_tables.specs.declared.tables.Tables.{Tables}
 use Rattle.stub_tables.specs.declared.operation.Code.{Code}
 use Rattle.stub_tables.specs.declared.apdu.Apdu.{Apdu}
@@ -19,7 +20,7 @@ use Rattle.end_model.specs.end_rules.State.{Body, OpenCall, Calls, opened_with, 
 use Rattle.end_model.specs.end_rules.Invoking.{carrier_in}
 use Rattle.end_model.specs.end_rules.Hearing.{Rejecting, Heard, rejected, showing, unless_problem, invoke_problem, invoked, result_problem, hear_result_of, error_problem, showing_error, hear_error_of, is_of_invocation, hear_reject, hear, carried_in, code_returned, value_returned, value_in, head_of_apdu, Taken, sent_on, queued, with_reject, on_heard, take_head, head_of, take_values}
 use Rattle.outcome_laws.specs.Exchanges.{reject_in, rejects_in}
-use Rattle.outcome_laws.specs.Outcomes.{IsIn, value_of, Answered, AreAnswers}
+use Rattle.outcome_laws.specs.Outcomes.{value_of, Answered, AreAnswers}
 use Rattle.outcome_laws.proofs.Shown.{in-later, each-on, each-append, each-quiet, notes_in, unnoted}
 use Rattle.outcome_laws.proofs.Hearing.{with-reject}
 

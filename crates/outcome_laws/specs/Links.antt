@@ -1,5 +1,6 @@
 -- Linked invocations that an end is shown: each is linked to an own invocation, whose operation may have it linked (X.880 8.2.6).
 use Rattle.std.specs.Prelude.{◌≡◌, ℕ, ℤ, List, [], ◌∷◌, ◌++◌, true, Some}
+use Rattle.end_model.specs.end_rules.Members.{IsIn}
 use Rattle.stub_tables.specs.declared.tables.Tables.{Tables}
 use Rattle.stub_tables.specs.Lookup.{operation_at}
 use Rattle.dialogue.specs.declared.indication.Indication.{Indication}
@@ -7,7 +8,6 @@ use Rattle.dialogue.specs.declared.indication.Indication.TheVariants as indicati
 use Rattle.end_model.specs.end_rules.Invoking.{is_linked_to}
 use Rattle.agreement.specs.Sets.{Role}
 use Rattle.outcome_laws.specs.Exchanges.{Asked, exchange_of, EverExchanges}
-use Rattle.outcome_laws.specs.Outcomes.{IsIn}
 
 -- to which invocation one of this operation is linked
 pub record Link : Type 0 where

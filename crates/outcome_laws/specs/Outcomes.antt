@@ -1,6 +1,7 @@
 -- Whose answers the outcomes are that an end is told: the other end wrote them (X.880 8, 9).
-use Rattle.std.specs.Prelude.{◌≡◌, ℕ, ℤ, List, [], ◌∷◌, Bool, true, false, Option, Some, None, ◌⊎◌}
+use Rattle.std.specs.Prelude.{◌≡◌, ℕ, ℤ, List, [], ◌∷◌, Bool, true, false, Option, Some, None}
 use Rattle.asn1_types.specs.declared.value.Val.{Val}
+use Rattle.end_model.specs.end_rules.Members.{IsIn}
 use Rattle.stub_tables.specs.declared.tables.Tables.{Tables}
 use Rattle.stub_tables.specs.declared.apdu.Apdu.{Apdu}
 use Rattle.stub_tables.specs.declared.apdu.Apdu.TheVariants as apdus
@@ -16,10 +17,6 @@ use Rattle.agreement.specs.Sets.{Role, other}
 use Rattle.end_model.specs.BothEnds.{Common, Two}
 use Rattle.reliable_model.specs.Ledgers.{Ledger}
 use Rattle.outcome_laws.specs.Exchanges.{outcome_in, outcomes_in, Asked, Exchanges, exchange_of, ReachedWithExchanges, EverExchanges, AreDistinct}
-
-abbrev pub IsIn : {X : Type 0} → X → List X → Type 0
-IsIn x [] = ⊥
-IsIn x (y ∷ ys) = (y ≡ x) ⊎ IsIn x ys
 
 abbrev pub value_of : Option Returned → Option Val
 value_of None = None

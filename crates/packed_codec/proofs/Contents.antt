@@ -10,7 +10,7 @@ use Rattle.asn1_types.specs.Defaults.{is_item}
 use Rattle.asn1_types.specs.Fits.{is_number, has_32_bits, is_octet, is_text, integer_fits, enumerated_fits, octets_fit, text_fits, object_id_fits}
 use Rattle.asn1_types.specs.Value.{Value, boolean, integer, null, octets, bits, object_id, text, parts, list, chosen, any}
 use Rattle.ber_spelling.specs.Rules.{in_range}
-use Rattle.ber_spelling.specs.Octets.{AreOctets}
+use Rattle.osi_base.specs.Octets.{AreOctets}
 use Rattle.ber_spelling.specs.Primitives.{integer_of}
 use Rattle.packed_codec.specs.Numbers.{is_size, integer_octets}
 use Rattle.packed_codec.specs.ObjectIds.{arcs_of, arcs_octets}

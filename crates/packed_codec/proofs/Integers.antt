@@ -8,9 +8,10 @@ use Rattle.byteorder.specs.Endian.{big_from}
 use Rattle.byteorder.specs.Numbers.{big_from-cons, big_from-bytes}
 use Rattle.asn1_types.specs.Whole.{number_256}
 use Rattle.asn1_types.specs.Fits.{is_number}
-use Rattle.ber_spelling.specs.Octets.{AreOctets}
+use Rattle.osi_base.specs.Octets.{AreOctets}
+use Rattle.osi_base.proofs.OctetLaws.{octets_tail}
 use Rattle.ber_spelling.specs.Primitives.{is_padded, signed_of, integer_of}
-use Rattle.ber_spelling.proofs.Numbers.{regroup, out, number_low, number_high, number_small, number_large, octets_tail}
+use Rattle.ber_spelling.proofs.Numbers.{regroup, out, number_low, number_high, number_small, number_large}
 use Rattle.packed_codec.specs.Numbers.{is_size, unpadded, integer_octets}
 use Rattle.packed_codec.proofs.Spelled.{some_if}
 

@@ -6,7 +6,7 @@ use Rattle.std.proofs.lemmas.Bool.{lt-ltb, le-ltb, ltb-false, ltb-true, and_part
 use Rattle.osi_base.specs.Oid.{is_oid}
 use Rattle.asn1_types.specs.Fits.{has_32_bits}
 use Rattle.asn1_types.specs.Writing.{subidentifiers}
-use Rattle.ber_spelling.specs.Octets.{AreOctets}
+use Rattle.osi_base.specs.Octets.{AreOctets}
 use Rattle.ber_spelling.specs.Primitives.{subidentifiers_of}
 use Rattle.ber_spelling.specs.Spelling.{AreSubidentifiers}
 use Rattle.ber_spelling.proofs.Oids.{AllSmall, subs_found, subs_again, sized_subs, second_low, root_small}

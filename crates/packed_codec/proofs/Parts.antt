@@ -9,12 +9,13 @@ use Rattle.asn1_types.specs.Fits.{part_fits, parts_fit, sequence_fits, values_fi
 use Rattle.asn1_types.specs.Value.{Value, parts, list, chosen, MaybeValues, no_parts, absent, present, Values, no_values, value}
 use Rattle.asn1_types.specs.ValueView.{parts_of, values_of}
 use Rattle.packed_codec.specs.declared.fault.PackedFault.TheVariants as faults
-use Rattle.ber_spelling.specs.Octets.{AreOctets}
+use Rattle.osi_base.specs.Octets.{AreOctets}
+use Rattle.osi_base.proofs.OctetLaws.{octets_right}
 use Rattle.packed_codec.specs.Reading.{Spot, ◌>>=◌, refuse}
 use Rattle.packed_codec.specs.Fields.{octet_at, count_at}
 use Rattle.packed_codec.specs.Rules.{Reader, last_size, present_at, marked_at, part_at, parts_at, sequence_at, items_at, spent, list_at, alternative_at, choice_at, set_item_at, set_items_at, set_of_at}
 use Rattle.packed_codec.specs.Writing.{Writer, part_written, parts_written, sequence_written, how_many, values_written, list_written, alternative_written, choice_written, items, items_of_parts, items_of_values}
-use Rattle.packed_codec.proofs.Taking.{bind_ok, unless_ok, if_ok, chosen_ok, ok_is, octets_right, Took, took_octets, octet_found, count_found}
+use Rattle.packed_codec.proofs.Taking.{bind_ok, unless_ok, if_ok, chosen_ok, ok_is, Took, took_octets, octet_found, count_found}
 use Rattle.packed_codec.proofs.Spelled.{ReadAs, Found}
 use Rattle.asn1_types.specs.Rising.{behind_last, set_rises}
 use Rattle.ber_spelling.proofs.RisingLaws.{GoOn, up_after, goes_rise}

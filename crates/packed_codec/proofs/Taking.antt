@@ -1,5 +1,5 @@
 -- Fields: what is read is spelled so, and what is spelled so is read.
-use Rattle.std.proofs.Common.{◌≡◌, ℕ, zero, suc, ◌+◌, ◌*◌, ◌/◌, ◌%◌, ◌^◌, ◌≤◌, ◌<◌, Bool, true, false, cond, List, [], ◌∷◌, ◌++◌, length, take, Ok, Err, refl, sym, ap, ◌∙◌, subst, arith, length-append, ◌⊎◌, inl, inr}
+use Rattle.std.proofs.Common.{◌≡◌, ℕ, ◌+◌, ◌*◌, ◌/◌, ◌%◌, ◌^◌, ◌≤◌, ◌<◌, Bool, true, false, cond, List, [], ◌∷◌, ◌++◌, length, take, Ok, Err, refl, sym, ap, ◌∙◌, subst, arith, length-append, ◌⊎◌, inl, inr}
 use Rattle.std.specs.Prelude.{nat_lt, nat_eq, slice_index}
 use Rattle.std.proofs.lemmas.Bool.{le-ltb, ltb-false, ne_eqb}
 use Rattle.std.proofs.lemmas.List.{take_at, drop_at, take-append-drop, length-take}
@@ -7,7 +7,8 @@ use Rattle.byteorder.specs.Endian.{big_number, big_bytes}
 use Rattle.byteorder.specs.Numbers.{big_number-reads_back}
 use Rattle.packed_codec.specs.declared.fault.PackedFault.{PackedFault}
 use Rattle.packed_codec.specs.declared.fault.PackedFault.TheVariants as faults
-use Rattle.ber_spelling.specs.Octets.{AreOctets}
+use Rattle.osi_base.specs.Octets.{AreOctets}
+use Rattle.osi_base.proofs.OctetLaws.{octets_left, octets_right}
 use Rattle.packed_codec.specs.Reading.{Spot, Reading, ◌>>=◌, within}
 use Rattle.packed_codec.specs.Fields.{moved, announced_at, field_at, octet_at, count_at}
 
@@ -35,19 +36,6 @@ pub ok_is : {A : Type 0} (x y : A) → done x ≡ done y → x ≡ y
 ok_is x y e = cc
 
 -- ---- octets in parts
-
-pub octets_left : (a b : List ℕ) → AreOctets (a ++ b) → AreOctets a
-octets_left [] b h = record { each = λ i. omega arith }
-octets_left (o ∷ a) b h = record { each = at o a b h }
-  where
-    at : (o : ℕ) (a b : List ℕ) → AreOctets ((o ∷ a) ++ b) → (i : ℕ) → slice_index (o ∷ a) i < 256
-    at o a b h zero = h.each 0
-    at o [] b h (suc i) = omega arith
-    at o (p ∷ a) b h (suc i) = at p a b (record { each = λ j. h.each (suc j) }) i
-
-pub octets_right : (a b : List ℕ) → AreOctets (a ++ b) → AreOctets b
-octets_right [] b h = h
-octets_right (o ∷ a) b h = octets_right a b (record { each = λ i. h.each (suc i) })
 
 -- ---- octets that are taken at a spot, within the limit
 

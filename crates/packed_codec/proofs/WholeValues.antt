@@ -7,14 +7,15 @@ use Rattle.asn1_types.specs.Value.{Value}
 use Rattle.packed_codec.specs.declared.fault.PackedFault.{PackedFault}
 use Rattle.packed_codec.specs.declared.fault.PackedFault.TheVariants as faults
 use Rattle.packed_codec.specs.declared.whole_values.Read.{Read}
-use Rattle.ber_spelling.specs.Octets.{AreOctets}
+use Rattle.osi_base.specs.Octets.{AreOctets}
+use Rattle.osi_base.proofs.OctetLaws.{octets_left}
 use Rattle.packed_codec.specs.Reading.{Spot, Reading, ◌>>=◌, Gives}
 use Rattle.packed_codec.specs.Rules.{reads, start, read_at}
 use Rattle.packed_codec.specs.Writing.{packed, items}
 use Rattle.packed_codec.specs.Laws.{packs, Packed, IsRead, ReadIsSpelled, SpelledIsRead, NoneBegins, ReadStays, FaultStays, IsAt, FaultIsFirst, BeginsSpelled, OneHolds, OneOfThree, BeginningIsShort, WrittenIsRead}
 use Rattle.packed_codec.proofs.Growing.{Grows, Grows-bind, with_spot, along_grows}
 use Rattle.packed_codec.proofs.Inside.{Inside, second, along_inside}
-use Rattle.packed_codec.proofs.Taking.{bind_ok, ok_is, octets_left}
+use Rattle.packed_codec.proofs.Taking.{bind_ok, ok_is}
 use Rattle.packed_codec.proofs.RowLaws.{along_found, along_only}
 
 read_grows : (rows : List TypeRow) (n limit : ℕ) (bytes more : List ℕ) → Grows (λ x. x) (read_at rows n limit bytes) (read_at rows n limit (bytes ++ more))

@@ -9,7 +9,7 @@ use Rattle.asn1_types.specs.Value.{Value}
 use Rattle.packed_codec.specs.declared.fault.PackedFault.{PackedFault}
 use Rattle.packed_codec.specs.declared.fault.PackedFault.TheVariants.{NotSpelled, Short, TooLong, NoMemory}
 use Rattle.packed_codec.specs.declared.whole_values.Read.{Read}
-use Rattle.ber_spelling.specs.Octets.{AreOctets}
+use Rattle.osi_base.specs.Octets.{AreOctets}
 use Rattle.packed_codec.specs.Rules.{read_at}
 use Rattle.packed_codec.specs.Writing.{packed, items}
 use Rattle.asn1_types.specs.Writing.{written}

@@ -8,12 +8,13 @@ use Rattle.byteorder.specs.Endian.{big_number}
 use Rattle.asn1_types.specs.Value.{Value}
 use Rattle.packed_codec.specs.declared.fault.PackedFault.{PackedFault}
 use Rattle.packed_codec.specs.declared.fault.PackedFault.TheVariants.{Short, TooLong}
-use Rattle.ber_spelling.specs.Octets.{AreOctets}
+use Rattle.osi_base.specs.Octets.{AreOctets}
+use Rattle.osi_base.proofs.OctetLaws.{octets_left, octets_right}
 use Rattle.packed_codec.specs.Reading.{Spot, Reading, within}
 use Rattle.packed_codec.specs.Fields.{moved, announced_at, field_at, octet_at, count_at}
 use Rattle.packed_codec.specs.Rules.{Reader}
 use Rattle.packed_codec.specs.Writing.{Writer, items}
-use Rattle.packed_codec.proofs.Taking.{done, bind_ok, unless_ok, ok_is, Took, octets_left, octets_right, Announced, announced_found, octet_found}
+use Rattle.packed_codec.proofs.Taking.{done, bind_ok, unless_ok, ok_is, Took, Announced, announced_found, octet_found}
 use Rattle.packed_codec.proofs.Spelled.{ReadAs, Only}
 use Rattle.packed_faults.specs.Values.{IsAt, Crosses, FieldFault, Takes, Counts, Stands}
 use Rattle.packed_faults.proofs.Steps.{failed, err_is, not_err, bind_err, bind_fails, bind_goes, cond_err, cond_yes, cond_no, refused, refusal_is}

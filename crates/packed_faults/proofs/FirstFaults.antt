@@ -4,7 +4,7 @@ use Rattle.asn1_types.specs.declared.row.TypeRow.{TypeRow}
 use Rattle.asn1_types.specs.Value.{Value}
 use Rattle.packed_codec.specs.declared.fault.PackedFault.{PackedFault}
 use Rattle.packed_codec.specs.declared.fault.PackedFault.TheVariants.{NotSpelled, Short, TooLong, NoMemory}
-use Rattle.ber_spelling.specs.Octets.{AreOctets}
+use Rattle.osi_base.specs.Octets.{AreOctets}
 use Rattle.packed_codec.specs.Reading.{Spot, Reading}
 use Rattle.packed_codec.specs.Rules.{reads, read_at, start}
 use Rattle.packed_codec.specs.Laws.{IsAt, OneHolds, BeginsSpelled}

@@ -6,7 +6,7 @@ use Rattle.asn1_types.specs.Fits.{are_bits}
 use Rattle.asn1_types.specs.Value.{Value, bits}
 use Rattle.packed_codec.specs.declared.fault.PackedFault.{PackedFault}
 use Rattle.packed_codec.specs.declared.fault.PackedFault.TheVariants.{Short}
-use Rattle.ber_spelling.specs.Octets.{AreOctets}
+use Rattle.osi_base.specs.Octets.{AreOctets}
 use Rattle.packed_codec.specs.Reading.{Spot, Reading, ◌>>=◌, refuse}
 use Rattle.packed_codec.specs.Fields.{announced_at, octet_at, count_at}
 use Rattle.packed_codec.specs.Numbers.{is_size}

@@ -7,7 +7,7 @@ use Rattle.packed_codec.specs.declared.fault.PackedFault.TheVariants.{NotSpelled
 use Rattle.packed_codec.specs.Fields.{announced_at, field_at, octet_at, count_at}
 use Rattle.ber_spelling.specs.Primitives.{integer_of}
 use Rattle.packed_codec.specs.Numbers.{integer_octets}
-use Rattle.ber_spelling.specs.Octets.{AreOctets}
+use Rattle.osi_base.specs.Octets.{AreOctets}
 use Rattle.packed_codec.specs.Reading.{within}
 use Rattle.packed_codec.specs.Rules.{sized_at, number_at, present_at, part_at, parts_at, sequence_at, set_item_at, set_items_at, set_of_at, reads, read_at}
 use Rattle.packed_faults.specs.Examples.{with_default, set_of_integers, default_written, falling_items, large_size}

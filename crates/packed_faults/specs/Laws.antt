@@ -3,7 +3,7 @@ use Rattle.std.specs.Prelude.{◌≡◌, ℕ, ◌^◌, ◌<◌, ◌⊎◌, ◌�
 use Rattle.asn1_types.specs.declared.row.TypeRow.{TypeRow}
 use Rattle.packed_codec.specs.declared.fault.PackedFault.{PackedFault}
 use Rattle.packed_codec.specs.declared.fault.PackedFault.TheVariants.{Short}
-use Rattle.ber_spelling.specs.Octets.{AreOctets}
+use Rattle.osi_base.specs.Octets.{AreOctets}
 use Rattle.packed_codec.specs.Rules.{read_at}
 use Rattle.packed_codec.specs.Laws.{IsAt, BeginsSpelled}
 use Rattle.packed_faults.specs.FirstFault.{FirstFault}

@@ -9,9 +9,9 @@ use Rattle.asn1_types.specs.Defaults.{may_be_absent, kept}
 use Rattle.asn1_types.specs.Table.{AreSoundRows}
 use Rattle.asn1_types.specs.Value.{Value, parts}
 use Rattle.asn1_types.specs.ValueView.{parts_of}
+use Rattle.asn1_types.specs.FixedRows.{part}
 use Rattle.ber_spelling.specs.Rules.{plain, bare}
 use Rattle.ber_spelling.specs.Spelling.{PartsAre, SequenceIs, Steps, SpelledBy}
-use Rattle.fixed_tables.specs.Rows.{part}
 use Rattle.passed_fields.specs.declared.field.Field as known
 use Rattle.passed_fields.specs.declared.field.Holds.{Holds}
 use Rattle.passed_fields.specs.declared.field.Holds.TheVariants as holds

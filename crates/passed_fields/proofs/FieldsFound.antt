@@ -12,7 +12,7 @@ use Rattle.asn1_types.specs.Value as tree
 use Rattle.ber_spelling.specs.declared.fault.ReadFault.TheVariants as faults
 use Rattle.ber_spelling.specs.declared.spot.Scope.{Scope}
 use Rattle.asn1_types.specs.declared.row.Tag as tags
-use Rattle.ber_spelling.specs.Octets.{AreOctets}
+use Rattle.osi_base.specs.Octets.{AreOctets}
 use Rattle.ber_spelling.specs.Fields.{identifier_at}
 use Rattle.ber_spelling.specs.Reading.{Spot, Reading, Opened}
 use Rattle.ber_spelling.specs.Rules.{plain, reads, list_item_at, all_items_at, constructed_at, any_at, whole_at}

@@ -11,13 +11,13 @@ use Rattle.asn1_types.specs.Rows.{same_class, is_no_tag, openings, allows, begin
 use Rattle.asn1_types.specs.Table.{AreSoundRows}
 use Rattle.asn1_types.specs.Value.{Value, parts, MaybeValues, no_parts, absent, present}
 use Rattle.asn1_types.specs.ValueView.{parts_of}
+use Rattle.asn1_types.specs.FixedRows.{part}
 use Rattle.ber_spelling.specs.declared.spot.Scope.{Scope}
 use Rattle.ber_spelling.specs.Rules.{Guise, plain}
 use Rattle.ber_spelling.specs.Spelling.{PartIs, PartsAre, SequenceIs, Steps, SpelledBy}
 use Rattle.ber_spelling.proofs.Identifiers.{IsIn}
 use Rattle.ber_spelling.proofs.Steady.{same_classes}
 use Rattle.ber_spelling.proofs.RowLaws.{Allowed, along_only}
-use Rattle.fixed_tables.specs.Rows.{part}
 use Rattle.passed_fields.specs.declared.field.Field as known
 use Rattle.passed_fields.specs.declared.field.Passed as over
 use Rattle.passed_fields.specs.declared.field.Holds.{Holds}

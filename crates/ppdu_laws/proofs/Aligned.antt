@@ -7,9 +7,9 @@ use Rattle.asn1_types.specs.Value.{Value, parts, list}
 use Rattle.asn1_types.specs.ValueView.{parts_of, values_of}
 use Rattle.std.specs.Prelude.{codes}
 use Rattle.asn1_types.specs.declared.row.Class.TheVariants.{Application}
+use Rattle.asn1_types.specs.FixedRows.{part}
 use Rattle.ber_spelling.specs.Rules.{plain, list_done}
 use Rattle.ber_spelling.specs.Spelling.{IsConstructed, PartIs, PartsAre, SequenceIs, ListIs, ListStep, SpelledBy}
-use Rattle.fixed_tables.specs.Rows.{part}
 use Rattle.passed_fields.specs.declared.field.Field as known
 use Rattle.passed_fields.specs.declared.field.Passed as over
 use Rattle.passed_fields.specs.declared.field.Holds.{Holds}

@@ -8,10 +8,10 @@ use Rattle.asn1_types.specs.declared.row.Class.TheVariants.{Context}
 use Rattle.asn1_types.specs.declared.row.Part.{Part}
 use Rattle.asn1_types.specs.Tags.{front_rank}
 use Rattle.asn1_types.specs.Value.{Value}
+use Rattle.asn1_types.specs.FixedRows.{part}
 use Rattle.ber_spelling.specs.Order.{Filled}
 use Rattle.ber_spelling.specs.Rules.{plain, list_done, set_done}
 use Rattle.ber_spelling.specs.Spelling.{IsConstructed, SequenceIs, Steps, ListStep, ListIs, SetStep, SetIs, SpelledBy}
-use Rattle.fixed_tables.specs.Rows.{part}
 use Rattle.passed_fields.specs.declared.field.Field as known
 use Rattle.passed_fields.specs.Known.{of_row}
 use Rattle.passed_fields.specs.Reading.{some_done}

@@ -4,10 +4,10 @@ use Rattle.std.specs.Prelude.{codes, slice_get, slice_set}
 use Rattle.asn1_types.specs.declared.row.Part.{Part}
 use Rattle.asn1_types.specs.Value.{Value, parts}
 use Rattle.asn1_types.specs.ValueView.{parts_of}
+use Rattle.asn1_types.specs.FixedRows.{part}
 use Rattle.ber_spelling.specs.Order.{Filled}
 use Rattle.ber_spelling.specs.Rules.{plain, set_done, nothing_filled}
 use Rattle.ber_spelling.specs.Spelling.{IsConstructed, Steps, SetStep, SetIs, SpelledBy}
-use Rattle.fixed_tables.specs.Rows.{part}
 use Rattle.passed_fields.proofs.MoreTurns.{constructed_more, turns_more}
 use Rattle.presentation_pdus.specs.Rows.{ppdu_rows}
 use Rattle.presentation_pdus.specs.Fields.{set_tag}

@@ -4,14 +4,15 @@ use Rattle.std.specs.List.{flat_map}
 use Rattle.std.proofs.lemmas.Bool.{cases_lt}
 use Rattle.std.proofs.lemmas.List.{length-take, length-drop, take-append-drop, append-nil}
 use Rattle.osi_base.specs.Limits.{tsdu_limit}
+use Rattle.osi_base.proofs.OctetLaws.{octets_right}
+use Rattle.osi_base.specs.Octets.{AreOctets}
 use Rattle.tpkt.specs.declared.packet.Packet.{Packet}
 use Rattle.tpkt.specs.declared.packet.Packet.TheVariants.{Tsdu}
 use Rattle.tpkt.specs.Wire.{packet, header, mark, Tpdu, Whole, Part, IsUnit, Splits, begun_after, begun_by, handed_for, handed}
 use Rattle.tpkt.specs.Written.{parts_of, part_packet}
-use Rattle.tpkt.specs.Stream.{IsOctets}
 use Rattle.tpkt.proofs.WrittenLaws.{parts_step, parts_last}
 use Rattle.prefix_laws.specs.Laws.{HandsUpLast, OnlyTheLastPacketHandsUp}
-use Rattle.prefix_laws.proofs.Lists.{cut, octets-behind}
+use Rattle.prefix_laws.proofs.Lists.{cut}
 
 -- ---- the packets of a TSDU
 
@@ -103,9 +104,9 @@ pub record CutAt (begun front : List ℕ) (us : List Tpdu) : Type 0 where
   pub is : IsUnit (begun_by begun before) next unit
   pub whole : packet unit ≡ rest ++ left
   pub some : 0 < length left
-  pub octets : IsOctets rest
+  pub octets : AreOctets rest
 
-pub cut-at : (begun stream front back : List ℕ) (us : List Tpdu) → Splits begun stream us [] → stream ≡ front ++ back → 0 < length back → IsOctets front → CutAt begun front us
+pub cut-at : (begun stream front back : List ℕ) (us : List Tpdu) → Splits begun stream us [] → stream ≡ front ++ back → 0 < length back → AreOctets front → CutAt begun front us
 cut-at begun stream front back [] s e some fits =
     let lengths : length stream ≡ length front + length back = ap length e ∙ length-append front back in
     let none : length stream ≡ 0 = ap length s in
@@ -119,7 +120,7 @@ cut-at begun stream front back (u ∷ us) s e some fits =
           record { before = []; next = u; after = us; are = refl; rest = front; left = c.more; unit = s.0; splits = refl; is = s.2; whole = c.front; some = omega (arith, lengths); octets = fits })
       | inr longer ↦ (
           let c = cut front back (packet s.0) s.1 (sym both) longer in
-          let k = cut-at (begun_after begun u) s.1 c.more back us s.4 c.back some (octets-behind (packet s.0) c.more (subst IsOctets c.front fits)) in
+          let k = cut-at (begun_after begun u) s.1 c.more back us s.4 c.back some (octets_right (packet s.0) c.more (subst AreOctets c.front fits)) in
           record {
             before = u ∷ k.before;
             next = k.next;

@@ -5,18 +5,19 @@ use Rattle.stub_tables.specs.declared.tables.Tables.{Tables}
 use Rattle.tpkt.specs.declared.packet.Packet.{Packet}
 use Rattle.tpkt.specs.declared.packet.Packet.TheVariants.{Connect, Confirm, Disconnect, Tsdu}
 use Rattle.tpkt.specs.Wire.{Tpdu, Splits, begun_by, handed_for, handed}
-use Rattle.tpkt.specs.Stream.{IsOctets, unit_at}
-use Rattle.tpkt.proofs.StreamLaws.{split_read, less_than_a_packet, splits_join, handed_join, octets_join}
+use Rattle.tpkt.specs.Stream.{unit_at}
+use Rattle.tpkt.proofs.StreamLaws.{split_read, less_than_a_packet, splits_join, handed_join}
 use Rattle.tpkt.proofs.WrittenLaws.{connect_is, confirm_is, disconnect_is}
 use Rattle.end_rules.specs.Messages.{TransportUnit, ConnectionRequest, ConnectionConfirm, DisconnectRequest, TransportError, Message, Transport, Session}
 use Rattle.association_worlds.specs.association_wire.Written.{request_ends, confirm_ends, written_unit, written, tsdu_of}
 use Rattle.association_worlds.specs.association_reading.Front.{Front, OfTransport, fronts_of, all_fronts}
 use Rattle.osi_base.specs.Limits.{IsUnitSize}
+use Rattle.osi_base.proofs.OctetLaws.{octets_join, octets_left}
+use Rattle.osi_base.specs.Octets.{AreOctets}
 use Rattle.association_worlds.specs.InTransit.{IsOfTransport, IsCarried, front_of, SentMessage, text_of, texts, fronts_of_sent, AreWritten}
 use Rattle.association_worlds.proofs.Streams.{word-front, small-octets, texts-octets}
 use Rattle.association_worlds.proofs.Kept.{fronts-append}
 use Rattle.prefix_laws.specs.Laws.{HandsUpLast, BeginningsBringNothing}
-use Rattle.prefix_laws.proofs.Lists.{octets-front}
 use Rattle.prefix_laws.proofs.Cuts.{last-hands-up, unit-closes, begun-append, none-before, cut-at}
 
 -- ---- one message
@@ -89,7 +90,7 @@ nothing-brought tables before next front back written e some =
     let last = written-behind tables before (next ∷ []) written in
     let r = row tables before sent in
     let c = closing tables next last.0 last.1 in
-    let came : IsOctets front = octets-front front back (subst IsOctets e (small-octets tables next last.0 last.1)) in
+    let came : AreOctets front = octets_left front back (subst AreOctets e (small-octets tables next last.0 last.1)) in
     let k = cut-at [] (text_of tables next) front back (c.closes.before ++ c.closes.last ∷ []) c.closes.splits e some came in
     let all : Splits [] (texts tables before ++ front) (r.us ++ k.before) k.rest =
     splits_join [] (texts tables before) front r.us k.before k.rest r.splits (subst (λ (b : List ℕ). Splits b front k.before k.rest) (sym r.whole) k.splits) in

@@ -3,7 +3,7 @@ use Rattle.std.specs.Prelude.{◌≡◌, ℕ, ◌<◌, ◌≤◌, List, length, 
 use Rattle.osi_base.specs.declared.layer_words.Kind.{Kind}
 use Rattle.osi_base.specs.declared.layer_words.Kind.TheVariants.{Missing}
 use Rattle.osi_base.specs.declared.presentation_word.PresentationWord as units
-use Rattle.ber_spelling.specs.Octets.{AreOctets}
+use Rattle.osi_base.specs.Octets.{AreOctets}
 use Rattle.presentation_pdus.specs.declared.place.PpduPlace.{PpduPlace}
 use Rattle.presentation_pdus.specs.declared.place.PpduFault.TheVariants as fault
 use Rattle.presentation_pdus.specs.Units.{SpellsPpdu, ppdu_at, reason_of}

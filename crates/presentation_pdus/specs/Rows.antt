@@ -7,8 +7,8 @@ use Rattle.asn1_types.specs.declared.row.Class.TheVariants.{Application}
 use Rattle.asn1_types.specs.declared.row.Part.{Part}
 use Rattle.asn1_types.specs.declared.row.TypeRow.{TypeRow}
 use Rattle.asn1_types.specs.declared.row.TypeRow.TheVariants.{Integer, OctetString, BitString, ObjectId, Sequence, Set, SequenceOf, Choice, Tagged, Any}
+use Rattle.asn1_types.specs.FixedRows.{part, implicit, explicit}
 use Rattle.ber_spelling.specs.declared.spot.Spot.{Spot}
-use Rattle.fixed_tables.specs.Rows.{part, implicit, explicit}
 
 -- how many rows the table has
 abbrev pub row_count : ℕ

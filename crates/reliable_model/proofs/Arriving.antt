@@ -11,6 +11,7 @@ use Rattle.end_model.specs.end_rules.Messages.{Message, TransportUnit, Associati
 use Rattle.end_model.specs.end_rules.Messages.{unit_of}
 use Rattle.end_model.specs.end_rules.State.{Body, Carrying}
 use Rattle.osi_base.specs.SetPlaces.{pair_of}
+use Rattle.end_model.specs.end_rules.Encodings.{Encoding, IsNewest}
 use Rattle.end_model.specs.end_rules.Purging.{is_purged}
 use Rattle.end_model.specs.end_rules.TakesActivities.{arrived_now}
 use Rattle.end_model.specs.end_rules.Reacting.{Passes, Takes, react, on_word, word_fault}
@@ -32,10 +33,10 @@ use Rattle.end_model.proofs.DirectLaws.{same-pair}
 use Rattle.end_model.proofs.DirectOpening.{At}
 use Rattle.end_model.specs.Acting.{ReadsBack}
 use Rattle.reliable_model.specs.Codecs.{IsTransferable, IsPlaced, Carries}
-use Rattle.reliable_model.specs.Ledgers.{Encoding, transfer_log_of, Ledger}
+use Rattle.reliable_model.specs.Ledgers.{transfer_log_of, Ledger}
 use Rattle.reliable_model.specs.OwnRows.{encoding_seen}
 use Rattle.reliable_model.specs.ReliableEnds.{reliable_common, IsFit}
-use Rattle.reliable_model.specs.Transfers.{TakesTransferEnd, IsNewest}
+use Rattle.reliable_model.specs.Transfers.{TakesTransferEnd}
 use Rattle.reliable_model.proofs.Ledgers.{AreEncodable}
 use Rattle.reliable_model.proofs.SameApdus.{apdus-same}
 use Rattle.reliable_model.proofs.Words.{Live, Stands, IsOver}

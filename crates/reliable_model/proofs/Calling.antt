@@ -4,6 +4,7 @@ use Rattle.std.specs.Prelude.{ℤ, Option, Some, None, Ok, Err, if◌then◌else
 use Rattle.osi_base.specs.declared.layer_words.Proposal.{Proposal}
 use Rattle.osi_base.specs.declared.layer_words.SetItem.{SetItem}
 use Rattle.asn1_types.specs.declared.value.Val.{Val}
+use Rattle.end_model.specs.end_rules.Encodings.{first_of, Encoding}
 use Rattle.stub_tables.specs.declared.apdu.Apdu.{Apdu}
 use Rattle.stub_tables.specs.declared.apdu.Apdu.TheVariants as apdus
 use Rattle.stub_tables.specs.declared.operation.Operation.{Operation}
@@ -50,7 +51,7 @@ use Rattle.end_model.proofs.Requests.{release_in_turn-acts}
 use Rattle.end_model.proofs.Connecting.{connections-act}
 use Rattle.reliable_model.specs.Codecs.{IsShort, IsTransferable, SpellsTransfers, IsTransferOf, Carries}
 use Rattle.reliable_model.specs.Transferring.{AreTransferable, OnCurrent, IsSending}
-use Rattle.reliable_model.specs.Ledgers.{first_of, encoding_of, Encoding, Ledger, after_sending, own_messages, after_own, started_by, encoded_by}
+use Rattle.reliable_model.specs.Ledgers.{encoding_of, Ledger, after_sending, own_messages, after_own, started_by, encoded_by}
 use Rattle.reliable_model.proofs.Transferring.{queue-append, kept-current, with-confirmed, resumed-current}
 use Rattle.reliable_model.specs.OwnRows.{EncodesInPlace}
 use Rattle.reliable_model.proofs.OwnRows.{own-rows, Leaves, leaves}

@@ -9,9 +9,10 @@ use Rattle.osi_base.specs.declared.layer_words.SetItem.{SetItem}
 use Rattle.osi_base.specs.declared.layer_words.Proposal.{Proposal}
 use Rattle.osi_base.specs.declared.layer_words.AddAnswer.{AddAnswer}
 use Rattle.end_model.specs.dialogue.declared.config.Mode.TheVariants.{Reliable}
-use Rattle.end_model.specs.end_rules.Base.{Base, acse_name, rtse_name, ber_name}
+use Rattle.end_model.specs.end_rules.Base.{Base, ber_name}
 use Rattle.end_model.specs.end_rules.Sets.{Alteration, same_name, is_among, put, put_accepted, pair_accepted, with_added, accepted_set}
 use Rattle.osi_base.specs.SetPlaces.{pair_of}
+use Rattle.osi_base.specs.Syntax.{acse_name, rtse_name}
 use Rattle.end_model.specs.end_rules.Sets.{proposed_ids, has_abstract, lowest_with, is_deleted_in}
 use Rattle.end_model.specs.end_rules.Altering.{has_double}
 use Rattle.end_model.specs.end_rules.Writing.{proposal_in_ber}

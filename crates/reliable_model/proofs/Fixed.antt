@@ -13,10 +13,11 @@ use Rattle.osi_base.specs.declared.layer_words.AddAnswer.{AddAnswer}
 use Rattle.osi_base.specs.declared.layer_words.Answers.{Answers}
 use Rattle.osi_base.specs.Limits.{highest_context}
 use Rattle.end_model.specs.dialogue.declared.call.CallRefusal.{CallRefusal}
-use Rattle.end_model.specs.end_rules.Base.{Base, acse_name, rtse_name}
+use Rattle.end_model.specs.end_rules.Base.{Base}
 use Rattle.end_model.specs.end_rules.Sets.{Alteration, same_name, is_among, put, put_accepted, pair_accepted, accepted_pair}
 use Rattle.osi_base.specs.SetPlaces.{pair_of, without_context}
 use Rattle.osi_base.specs.Proposals.{has_bad_transfers}
+use Rattle.osi_base.specs.Syntax.{acse_name, rtse_name}
 use Rattle.end_model.specs.end_rules.Sets.{named_syntax, with_added, with_deleted, altered, named_ids, proposed_ids, is_named_in, has_abstract, is_fixed, has_parity}
 use Rattle.end_model.specs.end_rules.Altering.{has_double, is_no_context, is_bad, used, addition_refusal, additions_refusal}
 use Rattle.end_model.specs.end_rules.Altering.{deletion_refusal, deletions_refusal, or_else}

@@ -9,6 +9,7 @@ use Rattle.end_model.specs.dialogue.declared.config.Config.{Config}
 use Rattle.end_model.specs.end_rules.Base.{Base, Spellings, Item, Arrived, Whole, Fault}
 use Rattle.end_model.specs.end_rules.State.{Queued}
 use Rattle.osi_base.specs.SetPlaces.{pair_of}
+use Rattle.end_model.specs.end_rules.Encodings.{item_of, IsOf, Encoding, IsNewest}
 use Rattle.agreement.specs.Sets.{Role, other}
 use Rattle.agreement.specs.Sets.Role.{Initiator, Responder}
 use Rattle.agreement.specs.Messages as model
@@ -23,10 +24,10 @@ use Rattle.end_model.proofs.DirectLaws.{holds-so}
 use Rattle.end_model.specs.Acting.{ReadsBack}
 use Rattle.reliable_model.specs.Codecs.{IsTransferable, Carries}
 use Rattle.reliable_model.specs.Transferring.{AreTransferable}
-use Rattle.reliable_model.specs.Ledgers.{Encoding, transfer_log_of, Ledger, ReachedWithLedger}
+use Rattle.reliable_model.specs.Ledgers.{transfer_log_of, Ledger, ReachedWithLedger}
 use Rattle.reliable_model.specs.OwnRows.{encoding_seen}
 use Rattle.reliable_model.specs.ReliableEnds.{reliable_common, IsFit, ReliableModelled, ReliableTakes, ReliableOneHolder}
-use Rattle.reliable_model.specs.Transfers.{IsNewest, ReliableArriveWhole, ReliableAsSent, item_of, IsOf}
+use Rattle.reliable_model.specs.Transfers.{ReliableArriveWhole, ReliableAsSent}
 use Rattle.reliable_model.specs.Transfers.{ReliableItems, ReliableArriveOnce}
 use Rattle.reliable_model.proofs.Ledgers.{AreEncodable}
 use Rattle.reliable_model.proofs.SameApdus.{apdus-same}

@@ -4,6 +4,7 @@ use Rattle.std.specs.Prelude.{Bool, if◌then◌else◌}
 use Rattle.std.proofs.lemmas.List.{map-append}
 use Rattle.osi_base.specs.declared.layer_words.Proposal.{Proposal}
 use Rattle.osi_base.specs.declared.layer_words.SetItem.{SetItem}
+use Rattle.end_model.specs.end_rules.Encodings.{Encoding}
 use Rattle.end_model.specs.dialogue.declared.config.Mode.TheVariants.{Reliable}
 use Rattle.end_model.specs.dialogue.declared.config.Config.{Config}
 use Rattle.stub_tables.specs.declared.tables.Tables.{Tables}
@@ -45,7 +46,7 @@ use Rattle.end_model.proofs.Machine.{acts-kept, breaks-kept, unseen-kept, units-
 use Rattle.reliable_model.specs.Codecs.{IsTransferable}
 use Rattle.reliable_model.specs.Transferring.{AreTransferable}
 use Rattle.reliable_model.proofs.Transferring.{queue-append}
-use Rattle.reliable_model.specs.Ledgers.{items_anew, Encoding, TransferLog, TransferLogs, Ledger, transfer_log_of, on_transfer_log, longer_transfer_log, after_acting}
+use Rattle.reliable_model.specs.Ledgers.{items_anew, TransferLog, TransferLogs, Ledger, transfer_log_of, on_transfer_log, longer_transfer_log, after_acting}
 use Rattle.reliable_model.specs.Ledgers.{transfer_log_taken, items_by, arrived_by, after_sending, after_taking}
 use Rattle.reliable_model.specs.OwnRows.{encoding_seen}
 use Rattle.reliable_model.specs.ReliableEnds.{reliable_common}

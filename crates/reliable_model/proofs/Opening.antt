@@ -14,13 +14,14 @@ use Rattle.end_model.specs.dialogue.declared.config.Mode.TheVariants.{Reliable}
 use Rattle.end_model.specs.dialogue.declared.config.Phase.{Phase}
 use Rattle.end_model.specs.dialogue.declared.config.Phase.TheVariants.{Idle, Opening, Broken, Recovering, Over}
 use Rattle.end_model.specs.dialogue.declared.indication.Indication.{Indication}
-use Rattle.end_model.specs.end_rules.Base.{Base, Spellings, Fault, rtse_name}
+use Rattle.end_model.specs.end_rules.Base.{Base, Spellings, Fault}
 use Rattle.end_model.specs.end_rules.Messages.{TransportUnit, ConnectionRequest, ConnectionConfirm, DataValue, AbortData, Word, OfAssociation}
 use Rattle.end_model.specs.end_rules.Messages.{Connect, Accept, Refuse, Abort, Accepting, Message, Transport, Session, unit_of}
 use Rattle.end_model.specs.end_rules.State.{Body, Stage, Unused, Asked, Joined, Carrying, passes_over, is_joined}
 use Rattle.end_model.specs.end_rules.State.{is_carrying, is_unused, is_asked, is_broken}
 use Rattle.end_model.specs.end_rules.Sets.{fit_proposals, lowest_with, has_abstract}
 use Rattle.osi_base.specs.SetPlaces.{pair_of}
+use Rattle.osi_base.specs.Syntax.{rtse_name}
 use Rattle.end_model.specs.end_rules.Units.{selected_with, proposed_units, needed_units, has_units, has_version_two, manages_with}
 use Rattle.end_model.specs.end_rules.World.{Shared}
 use Rattle.end_model.specs.end_rules.Altering.{has_double}

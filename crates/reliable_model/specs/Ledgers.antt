@@ -1,13 +1,12 @@
 -- What two ends reach, in every mode: by calls, by what they do by themselves, by takings and by breaks; with a
 -- ledger: what they share, and the transfer log of each, which is what it started, encoded and was handed up.
 use Rattle.std.specs.Prelude.{◌≡◌, ℕ, ℤ, List, [], ◌∷◌, ◌++◌, Bool, ◌||◌, if◌then◌else◌, Option, Some, None, Ok}
-use Rattle.osi_base.specs.declared.syntax.Pair.{Pair}
 use Rattle.osi_base.specs.declared.layer_words.SetItem.{SetItem}
-use Rattle.stub_tables.specs.declared.apdu.Apdu.{Apdu}
 use Rattle.end_model.specs.dialogue.declared.call.Call.{Call}
 use Rattle.end_model.specs.dialogue.declared.indication.Indication.{Indication}
 use Rattle.end_model.specs.end_rules.Base.{Base, Fault}
 use Rattle.osi_base.specs.SetPlaces.{pair_of}
+use Rattle.end_model.specs.end_rules.Encodings.{first_of, Encoding}
 use Rattle.end_model.specs.end_rules.Messages.{Message, Session, OfAssociation, OfActivities, Connect, Start, End}
 use Rattle.end_model.specs.end_rules.State.{Body, Queued, Transfer}
 use Rattle.end_model.specs.end_rules.Connecting.{is_refused, recovers_in}
@@ -27,13 +26,6 @@ use Rattle.end_model.specs.Sharing.{side_of, shared_all_sent, shared_all_answere
 abbrev pub own_messages : OwnAct → List Message
 own_messages (SendsNow message) = message ∷ []
 own_messages (EncodesOn context) = []
-
--- an item as it was encoded: its activity, its context, the pair that the shared set gave the context just then, its APDU
-pub record Encoding : Type 0 where
-  pub activity : ℕ
-  pub id : ℕ
-  pub pair : Option Pair
-  pub apdu : Apdu
 
 -- Of one end, the newest first: the items that it started, the k-th in its activity k; what it encoded; and the activities of
 -- the other whose transfers were handed up to it since its association began.
@@ -65,10 +57,6 @@ on_transfer_log Initiator change transfer_logs = record transfer_logs { a = chan
 on_transfer_log Responder change transfer_logs = record transfer_logs { b = change transfer_logs.b }
 
 -- ---- what each step adds
-
-abbrev pub first_of : List Queued → List Queued
-first_of [] = []
-first_of (item ∷ items) = item ∷ []
 
 abbrev pub encoding_of : Option Transfer → ℕ → List SetItem → ℕ → List Encoding
 encoding_of None activity set context = []

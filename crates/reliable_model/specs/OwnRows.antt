@@ -7,6 +7,7 @@ use Rattle.end_model.specs.dialogue.declared.config.Mode.TheVariants.{Reliable}
 use Rattle.end_model.specs.end_rules.Base.{Base}
 use Rattle.end_model.specs.end_rules.State.{Body}
 use Rattle.osi_base.specs.SetPlaces.{pair_of}
+use Rattle.end_model.specs.end_rules.Encodings.{Encoding}
 use Rattle.end_model.specs.end_rules.ByItself.{OwnAct, SendsNow, EncodesOn, next_own}
 use Rattle.end_model.specs.end_rules.History.{after_step, step_of}
 use Rattle.agreement.specs.Messages.{Act}
@@ -18,7 +19,7 @@ use Rattle.end_model.specs.Rows.{at}
 use Rattle.end_model.specs.Acting.{ActsAs}
 use Rattle.reliable_model.specs.Codecs.{IsContextOf, SpellsTransfers, Carries}
 use Rattle.reliable_model.specs.Transferring.{IsSending}
-use Rattle.reliable_model.specs.Ledgers.{Encoding, own_messages, started_by, encoded_by}
+use Rattle.reliable_model.specs.Ledgers.{own_messages, started_by, encoded_by}
 
 -- an encoding, as the model sees it
 abbrev pub encoding_seen : Base → Encoding → ModelEncoding

@@ -1,13 +1,13 @@
 -- Transfers between two ends of reliable mode: they arrive whole and at most once, and are taken as sent (X.228 7).
-use Rattle.std.specs.Prelude.{◌≡◌, ℕ, suc, nat_eq, length, List, [], ◌∷◌, false, Option, Some, None, Ok, if◌then◌else◌}
+use Rattle.std.specs.Prelude.{◌≡◌, ℕ, List, ◌∷◌, false, Some, Ok}
 use Rattle.end_model.specs.dialogue.declared.config.Config.{Config}
 use Rattle.end_model.specs.dialogue.declared.indication.Indication.{Indication}
 use Rattle.stub_tables.specs.declared.tables.Tables.{Tables}
-use Rattle.stub_tables.specs.declared.apdu.Apdu.{Apdu}
 use Rattle.end_model.specs.end_rules.Base.{Spellings, Item, Whole}
 use Rattle.osi_base.specs.SetPlaces.{pair_of}
+use Rattle.end_model.specs.end_rules.Encodings.{item_of, IsOf, Encoding, IsNewest}
 use Rattle.end_model.specs.end_rules.Messages.{Message, Session, OfActivities, End}
-use Rattle.end_model.specs.end_rules.State.{Body, Queued}
+use Rattle.end_model.specs.end_rules.State.{Body}
 use Rattle.end_model.specs.end_rules.TakesActivities.{arrived_now}
 use Rattle.end_model.specs.end_rules.Reacting.{Takes, react}
 use Rattle.agreement.specs.Sets.{Role, other}
@@ -16,7 +16,7 @@ use Rattle.agreement.specs.Laws.{AreFalling}
 use Rattle.end_model.specs.Seen.{Free}
 use Rattle.end_model.specs.BothEnds.{Common, base_at, Two, body_at, coming_to}
 use Rattle.reliable_model.specs.Codecs.{Carries}
-use Rattle.reliable_model.specs.Ledgers.{Encoding, transfer_log_of, Ledger, ReachedWithLedger}
+use Rattle.reliable_model.specs.Ledgers.{transfer_log_of, Ledger, ReachedWithLedger}
 use Rattle.reliable_model.specs.ReliableEnds.{reliable_common, IsFit}
 
 -- of every two ends of reliable mode this holds, whatever they reach
@@ -37,11 +37,6 @@ pub record TakesTransferEnd (common : Common) (two : Two) (role : Role) : Type 0
   pub taken : react (base_at role common) (body_at role two) (Session (OfActivities (End number))) ≡ Takes body answers shown
   pub is_new : (body_at role two).receiving.was_handed ≡ false
 
--- what was encoded last
-abbrev pub IsNewest : Encoding → List Encoding → Type 0
-IsNewest encoding [] = ⊥
-IsNewest encoding (first ∷ rest) = first ≡ encoding
-
 -- What arrives is the item that the other end encoded last, for the activity of that number, on its context.
 pub record ArrivesWhole (common : Common) (two : Two) (ledger : Ledger) (role : Role) : Type 0 where
   pub item : Item
@@ -60,15 +55,6 @@ ReliableAsSent =
     (pair_of (body_at role two).sets.held item.id ≡ Some item.pair) ×
     IsNewest (record { activity = (body_at role two).receiving.last; id = item.id; pair = pair_of (body_at role two).sets.held item.id; apdu = item.apdu })
     (transfer_log_of (other role) ledger.transfer_logs).encoded)
-
--- the k-th item that was started, of a list with the newest first
-abbrev pub item_of : ℕ → List Queued → Option Queued
-item_of k [] = None
-item_of k (item ∷ items) = if nat_eq k (suc (length items)) then Some item else item_of k items
-
-abbrev pub IsOf : Apdu → Option Queued → Type 0
-IsOf apdu None = ⊥
-IsOf apdu (Some item) = item.apdu ≡ apdu
 
 -- what was encoded last for an activity is the item that was started as that activity
 abbrev pub ReliableItems : Type 0

@@ -1,13 +1,14 @@
 -- From one world, events have one run.
 use Rattle.std.proofs.Common.{◌≡◌, List, [], ◌∷◌, length, refl, sym, ap, subst}
 use Rattle.osi_base.specs.declared.layer_words.Side.TheVariants.{A, B}
+use Rattle.dialogue.specs.Sides.{other}
 use Rattle.dialogue.specs.Carries.{first_octets}
 use Rattle.dialogue.specs.declared.event.Event.{Event}
 use Rattle.dialogue.specs.declared.event.Entry.{Entry}
 use Rattle.dialogue.specs.declared.event.Entry.TheVariants as entries
 use Rattle.end_rules.specs.Calling.{can_call}
 use Rattle.end_rules.specs.History.{Step, gave, broke}
-use Rattle.end_rules.specs.World.{World, Ends, base_at, other}
+use Rattle.end_rules.specs.World.{World, Ends, base_at}
 use Rattle.association_duo.specs.association_line.OneFeed.{OneCall, OneFeed}
 use Rattle.association_duo.specs.association_runs.Worlds.{end_at, stepping, Runs, rests, calls, carries, breaks}
 

@@ -1,4 +1,5 @@
-//! Runs a schedule over two new ends, in each of the three modes, and gives the transcript.
+//! Runs a schedule over two new ends of its mode (bare, direct or reliable), and gives the
+//! transcript.
 #![tactic(auto)]
 
 mod associated;

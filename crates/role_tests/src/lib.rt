@@ -1,5 +1,5 @@
 //! Tests of the two sides of remote operations, by worked rows. They stand in a crate of their own,
-//! so that each layer is proved once.
+//! since a crate with tests inside is proved twice.
 #![tactic(auto)]
 
 #[cfg(test)]

@@ -3,7 +3,7 @@ use Rattle.std.specs.Prelude.{ℕ, ◌≤◌, Bool, length, IfSome}
 use Rattle.osi_base.specs.declared.syntax.Syntax.{Syntax}
 use Rattle.osi_base.specs.Limits.{most_open}
 use Rattle.asn1_types.specs.Table.{AreSoundRows}
-use Rattle.ber_spelling.specs.Octets.{AreOctets}
+use Rattle.osi_base.specs.Octets.{AreOctets}
 use Rattle.stub_tables.specs.declared.tables.Tables.{Tables}
 use Rattle.apdu_spelling.specs.declared.head.ApduHead.{ApduHead}
 use Rattle.end_wire.specs.end_rules.Base.{Base, Carried, HeardHead}

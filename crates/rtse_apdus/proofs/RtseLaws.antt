@@ -8,7 +8,7 @@ use Rattle.osi_base.specs.declared.rtse_word.Rtse.TheVariants as apdu
 use Rattle.asn1_types.specs.Fits.{has_form, is_number}
 use Rattle.asn1_types.specs.Value.{Value}
 use Rattle.asn1_types.specs.Whole.{is_whole}
-use Rattle.ber_spelling.specs.Octets.{AreOctets}
+use Rattle.osi_base.specs.Octets.{AreOctets}
 use Rattle.ber_spelling.proofs.Wholes.{whole_is}
 use Rattle.ber_spelling.proofs.Written.{written_spelled}
 use Rattle.fixed_tables.specs.declared.pdu.PduFault as units

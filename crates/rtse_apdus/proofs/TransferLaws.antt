@@ -9,7 +9,7 @@ use Rattle.osi_base.specs.Limits.{most_transferred}
 use Rattle.asn1_types.specs.Table.{refusal, AreSoundRows}
 use Rattle.asn1_types.specs.Rows.{nesting, openings}
 use Rattle.asn1_types.specs.Value.{Value}
-use Rattle.ber_spelling.specs.Octets.{AreOctets}
+use Rattle.osi_base.specs.Octets.{AreOctets}
 use Rattle.ber_spelling.proofs.Wholes.{whole_is}
 use Rattle.ber_spelling.proofs.Written.{written_spelled}
 use Rattle.fixed_tables.specs.declared.pdu.PduFault as units

@@ -1,7 +1,7 @@
 -- The laws of APDUs of reliable transfer.
 use Rattle.std.specs.Prelude.{◌≡◌, ℕ, List, Ok}
 use Rattle.osi_base.specs.declared.rtse_word.Rtse as apdus
-use Rattle.ber_spelling.specs.Octets.{AreOctets}
+use Rattle.osi_base.specs.Octets.{AreOctets}
 use Rattle.rtse_apdus.specs.Reading.{SpellsRtse, rtse_at}
 use Rattle.rtse_apdus.specs.Written.{IsWritable, written_rtse}
 

@@ -4,7 +4,7 @@ use Rattle.osi_base.specs.Limits.{most_checkpoint, most_32, most_spelled, most_s
 use Rattle.asn1_types.specs.declared.row.Class.TheVariants.{Universal}
 use Rattle.asn1_types.specs.declared.row.TypeRow.{TypeRow}
 use Rattle.asn1_types.specs.declared.row.TypeRow.TheVariants.{Integer, OctetString, Sequence, Set, Choice, Tagged, Any}
-use Rattle.fixed_tables.specs.Rows.{part, implicit, explicit}
+use Rattle.asn1_types.specs.FixedRows.{part, implicit, explicit}
 
 -- the row of all APDUs
 abbrev pub rtse_row : ℕ

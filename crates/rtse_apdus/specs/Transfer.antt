@@ -4,7 +4,7 @@ use Rattle.osi_base.specs.declared.presentation_word.Pdv as pdvs
 use Rattle.osi_base.specs.Limits.{most_transferred, highest_context}
 use Rattle.asn1_types.specs.Fits.{has_form}
 use Rattle.asn1_types.specs.Value.{Value}
-use Rattle.ber_spelling.specs.Octets.{AreOctets}
+use Rattle.osi_base.specs.Octets.{AreOctets}
 use Rattle.ber_spelling.specs.Spelling.{Spells}
 use Rattle.asn1_types.specs.Writing.{written}
 use Rattle.fixed_tables.specs.declared.pdu.PduFault as units

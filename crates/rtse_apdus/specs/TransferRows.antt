@@ -3,7 +3,7 @@ use Rattle.std.specs.Prelude.{ℕ, pos, true, false, List, [], ◌∷◌, codes}
 use Rattle.osi_base.specs.Limits.{highest_context, most_spelled}
 use Rattle.asn1_types.specs.declared.row.TypeRow.{TypeRow}
 use Rattle.asn1_types.specs.declared.row.TypeRow.TheVariants.{Integer, ObjectId, OctetString, BitString, Any, Choice, Sequence}
-use Rattle.fixed_tables.specs.Rows.{part, implicit, explicit}
+use Rattle.asn1_types.specs.FixedRows.{part, implicit, explicit}
 
 abbrev pub transfer_row : ℕ
 transfer_row = 9

@@ -1,10 +1,12 @@
 -- Invocations and outcomes as a transcript tells them: what each end invoked and answered, and what it was told of the other
 -- (X.880 8.2 to 8.4).
-use Rattle.std.specs.Prelude.{◌≡◌, ◌≢◌, ◌⊎◌, ℕ, ℤ, List, [], ◌∷◌, ◌++◌, flat_map, Bool, true, false, ◌&&◌, if◌then◌else◌, Option, Some, None, Ok}
+use Rattle.std.specs.Prelude.{◌≡◌, ◌≢◌, ℕ, ℤ, List, [], ◌∷◌, ◌++◌, flat_map, Bool, true, false, ◌&&◌, if◌then◌else◌, Option, Some, None, Ok}
 use Rattle.std.specs.List.{AllByRecursion}
 use Rattle.osi_base.specs.declared.layer_words.Side.{Side}
 use Rattle.osi_base.specs.declared.layer_words.Problem.{Problem}
 use Rattle.asn1_types.specs.declared.value.Val.{Val}
+use Rattle.end_rules.specs.Members.{IsIn}
+use Rattle.dialogue.specs.Sides.{other}
 use Rattle.stub_tables.specs.declared.tables.Tables.{Tables}
 use Rattle.stub_tables.specs.declared.operation.Operation.{Operation}
 use Rattle.stub_tables.specs.declared.operation.ErrorRow.{ErrorRow}
@@ -19,7 +21,7 @@ use Rattle.dialogue.specs.declared.indication.Indication.{Indication}
 use Rattle.dialogue.specs.declared.indication.Indication.TheVariants as indications
 use Rattle.end_rules.specs.Invoking.{Reply, is_linked_to}
 use Rattle.end_rules.specs.Hearing.{is_of_invocation}
-use Rattle.end_rules.specs.World.{is_side, other}
+use Rattle.end_rules.specs.World.{is_side}
 use Rattle.run_laws.specs.Showing.{indications_at}
 
 -- an invocation: its identifier, its operation and argument, and the invocation to which it is linked
@@ -105,10 +107,6 @@ has_outcome tables operation (failed id place parameter) = has_error tables oper
 has_outcome tables operation (rejected id problem) = is_of_invocation problem.kind
 
 -- ---- one outcome
-
-abbrev pub IsIn : {X : Type 0} → X → List X → Type 0
-IsIn x [] = ⊥
-IsIn x (y ∷ ys) = (y ≡ x) ⊎ IsIn x ys
 
 -- it is the outcome of one of these invocations, and one that its operation has
 pub record IsAllowed (tables : Tables) (made : List Invocation) (outcome : ToldOutcome) : Type 0 where

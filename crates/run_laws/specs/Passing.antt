@@ -3,9 +3,10 @@
 use Rattle.std.specs.Prelude.{◌≡◌, ℕ, List, [], ◌∷◌, ◌++◌, map, Bool, true, false, if◌then◌else◌, Option, Some, None}
 use Rattle.osi_base.specs.declared.layer_words.Side.{Side}
 use Rattle.osi_base.specs.declared.syntax.Pair.{Pair}
+use Rattle.dialogue.specs.Sides.{other}
 use Rattle.end_rules.specs.Messages.{Message, Session, Word, OfAssociation, OfData, OfMarks, OfActivities, DataValue, AssociationWord, Finish, Disconnect, DataWord, Values, MarkWord, Please}
 use Rattle.end_rules.specs.History.{Step, sent, took, answered, passed, aborted, broke}
-use Rattle.end_rules.specs.World.{World, Moment, Ends, is_side, other, pair_at_sending}
+use Rattle.end_rules.specs.World.{World, Moment, Ends, is_side, pair_at_sending}
 
 -- ---- what is sent and taken
 

@@ -1,6 +1,7 @@
 -- What is shown: each carry shows what the messages show that are taken in it, in their order, and nothing else.
 use Rattle.std.specs.Prelude.{◌≡◌, List, [], ◌∷◌, ◌++◌, Bool, true, false, if◌then◌else◌}
 use Rattle.osi_base.specs.declared.layer_words.Side.{Side}
+use Rattle.dialogue.specs.Sides.{other}
 use Rattle.dialogue.specs.declared.event.Entry.{Entry}
 use Rattle.dialogue.specs.declared.event.Entry.TheVariants as entries
 use Rattle.dialogue.specs.declared.indication.Indication.{Indication}
@@ -8,7 +9,7 @@ use Rattle.end_rules.specs.Base.{Base}
 use Rattle.end_rules.specs.State.{Body}
 use Rattle.end_rules.specs.Reacting.{Reaction, Passes, Takes, Fails, react}
 use Rattle.end_rules.specs.History.{Step, fed, took}
-use Rattle.end_rules.specs.World.{World, Ends, base_at, body_at, is_side, other}
+use Rattle.end_rules.specs.World.{World, Ends, base_at, body_at, is_side}
 
 -- ---- what the taking of a message shows, by the rules of its end, as the end is then
 

@@ -1,21 +1,19 @@
 -- Transfers between two ends: what each started and encoded, and what arrived at the other (X.228 7; the numbers of activities and
 -- what is kept of them are this project's own rule).
-use Rattle.std.specs.Prelude.{◌≡◌, ℕ, suc, ◌<◌, List, [], ◌∷◌, ◌++◌, length, nat_eq, Bool, true, false, if◌then◌else◌, Option, Some, None}
+use Rattle.std.specs.Prelude.{◌≡◌, ℕ, ◌<◌, List, [], ◌∷◌, ◌++◌, Bool, true, false, if◌then◌else◌, Option, Some, None}
 use Rattle.osi_base.specs.declared.layer_words.Side.{Side}
 use Rattle.osi_base.specs.declared.syntax.Pair.{Pair}
+use Rattle.end_rules.specs.Encodings.{first_of, item_of, IsOf, Encoding, IsNewest}
+use Rattle.dialogue.specs.Sides.{other}
 use Rattle.stub_tables.specs.declared.apdu.Apdu.{Apdu}
 use Rattle.end_rules.specs.Base.{Base, Item}
 use Rattle.end_rules.specs.Messages.{Message, Session, OfActivities, Start, End, Remote, DataValue}
 use Rattle.end_rules.specs.State.{Body, Queued, Transfer}
 use Rattle.end_rules.specs.TakesActivities.{handed_up}
 use Rattle.end_rules.specs.History.{Step, sent, encoded, took}
-use Rattle.end_rules.specs.World.{World, Ends, base_at, body_at, is_side, other, pair_at_sending}
+use Rattle.end_rules.specs.World.{World, Ends, base_at, body_at, is_side, pair_at_sending}
 
 -- ---- what an end started: the k-th in its activity k; the newest first
-
-abbrev pub first_of : List Queued → List Queued
-first_of [] = []
-first_of (item ∷ items) = item ∷ []
 
 abbrev pub started_in : Body → Step → List Queued
 started_in body (sent (Session (OfActivities (Start activity)))) = first_of body.sending.queue
@@ -26,12 +24,6 @@ started ends side [] = []
 started ends side (m ∷ w) = if is_side side m.side then started_in (body_at ends side w) m.step ++ started ends side w else started ends side w
 
 -- ---- what it encoded: in which activity, on which context, under the pair that the shared set gave the context just then; the newest first
-
-pub record Encoding : Type 0 where
-  pub activity : ℕ
-  pub id : ℕ
-  pub pair : Option Pair
-  pub apdu : Apdu
 
 abbrev pub encoding_of : ℕ → ℕ → Option Pair → Option Transfer → List Encoding
 encoding_of activity context pair None = []
@@ -64,19 +56,6 @@ arrivals ends side [] = []
 arrivals ends side (m ∷ w) = if is_side side m.side then arrived_in (base_at ends side) (body_at ends side w) m.step ++ arrivals ends side w else arrivals ends side w
 
 -- ---- whole, and at most once
-
--- the k-th item, of a list with the newest first
-abbrev pub item_of : ℕ → List Queued → Option Queued
-item_of k [] = None
-item_of k (item ∷ items) = if nat_eq k (suc (length items)) then Some item else item_of k items
-
-abbrev pub IsOf : Apdu → Option Queued → Type 0
-IsOf apdu None = ⊥
-IsOf apdu (Some item) = item.apdu ≡ apdu
-
-abbrev pub IsNewest : Encoding → List Encoding → Type 0
-IsNewest encoding [] = ⊥
-IsNewest encoding (first ∷ rest) = first ≡ encoding
 
 -- it is the item that was started with that number, as it was encoded last, read under its pair
 pub record ArrivedWhole (items : List Queued) (made : List Encoding) (arrival : Arrival) : Type 0 where

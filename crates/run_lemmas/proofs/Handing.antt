@@ -5,6 +5,7 @@ use Rattle.std.specs.Prelude.{ℤ, Bool, ◌&&◌, Option, Some, None, is_some, 
 use Rattle.std.proofs.lemmas.List.{append-nil}
 use Rattle.asn1_types.specs.declared.value.Val.{Val}
 use Rattle.osi_base.specs.declared.layer_words.Problem.{Problem}
+use Rattle.end_rules.specs.Members.{IsIn}
 use Rattle.stub_tables.specs.declared.tables.Tables.{Tables}
 use Rattle.stub_tables.specs.declared.operation.Code.{Code}
 use Rattle.stub_tables.specs.declared.operation.Operation.{Operation}
@@ -21,7 +22,7 @@ use Rattle.end_rules.specs.Invoking.{result_apdu, error_apdu, returned_with}
 use Rattle.end_rules.specs.Hearing.{Heard, showing, unless_problem, invoke_problem, invoked, with_opened, is_silent_at, result_problem, hear_result_of, error_problem, showing_error, hear_error_of, is_of_invocation, hear_reject, hear, head_of_apdu, carried_in, code_returned, value_returned}
 use Rattle.end_rules.specs.Requesting.{result_for, error_for}
 use Rattle.outcome_laws.specs.Outcomes.{value_of}
-use Rattle.run_laws.specs.Outcomes.{Invocation, ToldOutcome, returned, failed, IsIn}
+use Rattle.run_laws.specs.Outcomes.{Invocation, ToldOutcome, returned, failed}
 use Rattle.association_runs.proofs.Telling.{invoked_ids}
 use Rattle.association_runs.proofs.Noted.{in-behind, IsOurs, AreNoted, all-noted_on}
 use Rattle.run_lemmas.proofs.Numbers.{apdu_invokes}

@@ -15,11 +15,15 @@ use Rattle.osi_base.specs.declared.presentation_word.PdvContent.TheVariants as f
 use Rattle.osi_base.specs.declared.presentation_word.PresentationWord.{PresentationWord}
 use Rattle.osi_base.specs.declared.presentation_word.PresentationWord.TheVariants as ppdus
 use Rattle.osi_base.specs.declared.session_word.SessionWord.TheVariants as units
+use Rattle.osi_base.specs.Octets.{AreOctets}
+use Rattle.osi_base.proofs.OctetLaws.{octets_join, octets_more, no_octets}
 use Rattle.asn1_types.specs.Fits.{has_form, has_32_bits}
 use Rattle.asn1_types.specs.Whole.{is_whole}
 use Rattle.asn1_types.specs.Whole as whole
 use Rattle.asn1_types.specs.Writing.{written, writes}
 use Rattle.asn1_types.specs.Writing as writing
+use Rattle.asn1_types.proofs.OctetTests.{octets_by_test}
+use Rattle.osi_base.specs.Syntax.{acse_name}
 use Rattle.acse.specs.Written.{written_acse}
 use Rattle.end_config.specs.presentation_pdus.declared.place.PpduPlace.TheVariants as place
 use Rattle.end_config.specs.presentation_pdus.Rows.{ppdu_rows, connect_row}
@@ -37,7 +41,7 @@ use Rattle.dialogue.specs.Config as values
 use Rattle.end_config.specs.Refusing.{config_refusal, early_refusal, late_refusal, or_refusal, context_refusal, bad_context, is_too_long, has_connect}
 use Rattle.end_config.specs.Connecting.{connect_octets}
 use Rattle.end_config.proofs.Connects.{connect_is_of_rules}
-use Rattle.end_rules.specs.Base.{Base, Spellings, acse_name, is_bare}
+use Rattle.end_rules.specs.Base.{Base, Spellings, is_bare}
 use Rattle.end_rules.specs.Messages.{OfAssociation, AssociationWord, Connect, Accept, Refuse, Finish, Disconnect, Abort, AbortAccept, Message, Transport, Session, TransportUnit, ConnectionRequest, ConnectionConfirm, DisconnectRequest, TransportError}
 use Rattle.end_rules.specs.Writing.{acse_context, requirement_bits, proposals, session_connect, presentation_connect, proposal_in_ber}
 use Rattle.end_rules.specs.Policy.{opening_policy}
@@ -48,8 +52,7 @@ use Rattle.agreement.specs.Sets.Role.{Initiator, Responder}
 use Rattle.end_model.specs.BothEnds.{Common, base_at}
 use Rattle.end_model.specs.DirectEnds.{direct_common, ProposesRightly}
 use Rattle.reliable_model.proofs.Fixed.{AreIdentifiers}
-use Rattle.der_octets.specs.Laws.{AreOctets}
-use Rattle.der_octets.proofs.Octets.{append-are, cons-are, der-octets}
+use Rattle.der_octets.proofs.Octets.{der-octets}
 use Rattle.said_words.specs.Calls.{AreNamed}
 use Rattle.said_words.specs.Fields.{IsContext, AreResults}
 use Rattle.said_words.specs.Words.{the_connect, the_acceptance, the_finish, the_disconnect, the_abort, IsOfAssociation, IsUnit}
@@ -57,7 +60,7 @@ use Rattle.said_words.proofs.Answers.{results-so, results-few}
 use Rattle.said_words.proofs.First.{first_of, first-context}
 use Rattle.said_spellings.proofs.Sizes.{Each}
 use Rattle.said_spellings.proofs.Ppdus.{Named, IsContent, IsShortString, accept-stands, answering, connect-fitting}
-use Rattle.said_spellings.proofs.Session.{each-octet, AreParameters, parameters-append, alone}
+use Rattle.said_spellings.proofs.Session.{AreParameters, parameters-append, alone}
 use Rattle.said_spellings.proofs.Places.{InPlace, data-in, stands-in, results-whole, pdv-whole}
 use Rattle.said_spellings.proofs.Carried.{sendable}
 use Rattle.said_spellings.specs.Laws.{IsEndIn, IsEnd}
@@ -195,7 +198,7 @@ aborting = written_acse (acse.Abort 0 [])
 
 release-is : IsContent (forms.SingleAsn1Type release)
 unfolding written writes is_whole whole.behind_whole writing.integer_octets
-release-is = (refl, refl)
+release-is = (refl, octets_by_test release refl)
 
 pub release-few : length release ≤ 100
 unfolding written writes writing.integer_octets
@@ -203,7 +206,7 @@ release-few = le-so (length release) 100 refl
 
 released-is : IsContent (forms.SingleAsn1Type released)
 unfolding written writes is_whole whole.behind_whole writing.integer_octets
-released-is = (refl, refl)
+released-is = (refl, octets_by_test released refl)
 
 pub released-few : length released ≤ 100
 unfolding written writes writing.integer_octets
@@ -211,7 +214,7 @@ released-few = le-so (length released) 100 refl
 
 accepting-is : IsContent (forms.SingleAsn1Type accepting)
 unfolding written writes is_whole whole.behind_whole writing.base_128 writing.integer_octets
-accepting-is = (refl, refl)
+accepting-is = (refl, octets_by_test accepting refl)
 
 pub accepting-few : length accepting ≤ 100
 unfolding written writes writing.base_128 writing.integer_octets
@@ -219,7 +222,7 @@ accepting-few = le-so (length accepting) 100 refl
 
 pub asking-is : IsContent (forms.SingleAsn1Type asking)
 unfolding written writes is_whole whole.behind_whole writing.base_128
-asking-is = (refl, refl)
+asking-is = (refl, octets_by_test asking refl)
 
 pub asking-few : length asking ≤ 100
 unfolding written writes writing.base_128
@@ -259,7 +262,7 @@ module _ (tables : Tables) where
       let p = finish-in in
       let few : length (written_ppdu unit) ≤ 122 = p.few in
       sendable tables (OfAssociation the_finish)
-      (alone (units.Finish (Some 1) (written_ppdu unit)) refl (record { fields = tt; few = omega arith; code = omega arith; parameters = ((omega arith, refl), ((omega arith, p.octets), tt)); information = refl; within = omega arith }))
+      (alone (units.Finish (Some 1) (written_ppdu unit)) refl (record { fields = tt; few = omega arith; code = omega arith; parameters = ((omega arith, octets_by_test _ refl), ((omega arith, p.octets), tt)); information = no_octets; within = omega arith }))
 
   pub disconnect-sent : IsSendable tables (OfAssociation the_disconnect)
   disconnect-sent =
@@ -268,13 +271,13 @@ module _ (tables : Tables) where
       let p = disconnect-in in
       let few : length (written_ppdu unit) ≤ 122 = p.few in
       sendable tables (OfAssociation the_disconnect)
-      (alone (units.Disconnect (written_ppdu unit)) refl (record { fields = tt; few = omega arith; code = omega arith; parameters = ((omega arith, p.octets), tt); information = refl; within = omega arith }))
+      (alone (units.Disconnect (written_ppdu unit)) refl (record { fields = tt; few = omega arith; code = omega arith; parameters = ((omega arith, p.octets), tt); information = no_octets; within = omega arith }))
 
 pub abort-in : InPlace place.Ab (ppdus.UserAbort None (pdv 1 (written_acse (acse.Abort 0 [])) ∷ [])) 200
 unfolding has_form written writes is_whole whole.behind_whole writing.integer_octets
 abort-in =
     let few = le-so (length (written_ppdu (ppdus.UserAbort None (pdv 1 aborting ∷ [])))) 200 refl in
-    record { writable = record { carried = refl; whole = refl; fitting = refl; within = omega arith }; octets = refl; few = few }
+    record { writable = record { carried = refl; whole = refl; fitting = refl; within = omega arith }; octets = octets_by_test _ refl; few = few }
 
 module _ (tables : Tables) where
   pub abort-sent : IsSendable tables (OfAssociation the_abort)
@@ -282,12 +285,12 @@ module _ (tables : Tables) where
       let unit = ppdus.UserAbort None (pdv 1 aborting ∷ []) in
       let few : length (written_ppdu unit) ≤ 200 = abort-in.few in
       sendable tables (OfAssociation the_abort)
-      (alone (units.Abort (Some 3) (Some (written_ppdu unit))) refl (record { fields = tt; few = omega arith; code = omega arith; parameters = ((omega arith, refl), ((omega arith, abort-in.octets), tt)); information = refl; within = omega arith }))
+      (alone (units.Abort (Some 3) (Some (written_ppdu unit))) refl (record { fields = tt; few = omega arith; code = omega arith; parameters = ((omega arith, octets_by_test _ refl), ((omega arith, abort-in.octets), tt)); information = no_octets; within = omega arith }))
 
 -- ---- AC and CN
 
 pub bits-true : IsShortString (requirement_bits true)
-bits-true = (refl, omega arith, omega arith, refl)
+bits-true = (refl, omega arith, omega arith, octets_by_test _ refl)
 
 -- with the octets of an AARE
 abbrev pub accept_unit : List ℕ → List AddAnswer → ℕ → List ℕ → PresentationWord
@@ -346,7 +349,7 @@ module _ (tables : Tables) (spellings : Spellings) (a b : Config) (right : Propo
       let few : length (written_ppdu (accept_unit b.called results k accepting)) ≤ 50000 = p.few in
       sendable tables _
       (alone (units.Accept (Some 0) (Some 2) (Some 1) _ (written_ppdu (accept_unit b.called results k accepting))) refl
-      (record { fields = (omega arith, omega arith); few = omega arith; code = omega arith; parameters = ((omega arith, refl), ((omega arith, refl), ((omega arith, p.octets), tt))); information = refl; within = omega arith }))
+      (record { fields = (omega arith, omega arith); few = omega arith; code = omega arith; parameters = ((omega arith, octets_by_test _ refl), ((omega arith, octets_by_test _ refl), ((omega arith, p.octets), tt))); information = no_octets; within = omega arith }))
 
   abbrev pub connect_unit : PresentationWord
   connect_unit = ppdus.Connect (record (presentation_connect (base_at Initiator common)) { user = pdv 1 asking ∷ [] })
@@ -379,8 +382,8 @@ module _ (tables : Tables) (spellings : Spellings) (a b : Config) (right : Propo
         fields = ((omega arith, omega arith), few);
         few = omega arith;
         code = omega arith;
-        parameters = ((omega arith, refl), ((omega arith, refl), ((omega arith, ea.calling), ((omega arith, ea.called), parameters-append (connect_data (written_ppdu connect_unit)) [] (connect-data_are (written_ppdu connect_unit) p.octets) tt))));
-        information = refl;
+        parameters = ((omega arith, octets_by_test _ refl), ((omega arith, octets_by_test _ refl), ((omega arith, ea.calling), ((omega arith, ea.called), parameters-append (connect_data (written_ppdu connect_unit)) [] (connect-data_are (written_ppdu connect_unit) p.octets) tt))));
+        information = no_octets;
         within = omega arith;
       }))
 
@@ -400,16 +403,16 @@ module _ (tables : Tables) (spellings : Spellings) (a b : Config) (right : Propo
 packet-are : (fields : List ℕ) → length fields ≤ 254 → AreOctets fields → AreOctets (control_packet fields)
 packet-are fields few o =
     let n : ℕ = suc (length fields) + 4 in
-    append-are (3 ∷ 0 ∷ (n / 256) ∷ (n % 256) ∷ []) (length fields ∷ fields)
-    (cons-are 3 (0 ∷ (n / 256) ∷ (n % 256) ∷ []) (omega arith) (cons-are 0 ((n / 256) ∷ (n % 256) ∷ []) (omega arith) (cons-are (n / 256) ((n % 256) ∷ []) (omega arith) (cons-are (n % 256) [] (mod-lt n (omega arith)) refl))))
-    (cons-are (length fields) fields (omega arith) o)
+    octets_join (3 ∷ 0 ∷ (n / 256) ∷ (n % 256) ∷ []) (length fields ∷ fields)
+    (octets_more 3 (0 ∷ (n / 256) ∷ (n % 256) ∷ []) (omega arith) (octets_more 0 ((n / 256) ∷ (n % 256) ∷ []) (omega arith) (octets_more (n / 256) ((n % 256) ∷ []) (omega arith) (octets_more (n % 256) [] (mod-lt n (omega arith)) no_octets))))
+    (octets_more (length fields) fields (omega arith) o)
 
 selector-are : (code : ℕ) (octets : List ℕ) → code < 256 → Selected octets → AreOctets octets → AreOctets (flat_map parameter (selector_parameter code octets)) × (length (flat_map parameter (selector_parameter code octets)) ≤ 18)
-selector-are code [] low s o = (refl, omega arith)
+selector-are code [] low s o = (no_octets, omega arith)
 selector-are code (x ∷ xs) low s o =
     let few : length (x ∷ xs) ≤ 16 = s.high in
     let n = length-append (code ∷ length (x ∷ xs) ∷ x ∷ xs) [] in
-    (append-are (code ∷ length (x ∷ xs) ∷ x ∷ xs) [] (cons-are code (length (x ∷ xs) ∷ x ∷ xs) low (cons-are (length (x ∷ xs)) (x ∷ xs) (omega arith) o)) refl, omega arith)
+    (octets_join (code ∷ length (x ∷ xs) ∷ x ∷ xs) [] (octets_more code (length (x ∷ xs) ∷ x ∷ xs) low (octets_more (length (x ∷ xs)) (x ∷ xs) (omega arith) o)) no_octets, omega arith)
 
 pub request-sent : (calling called : List ℕ) → Selected calling → Selected called → AreOctets calling → AreOctets called → IsOfTransport (ConnectionRequest 1 (Some 10) calling called)
 request-sent calling called sa sb oa ob =
@@ -420,17 +423,16 @@ request-sent calling called sa sb oa ob =
     let joined : flat_map parameter (selector_parameter 193 calling ++ selector_parameter 194 called) ≡ xs ++ ys = flat_map-append parameter (selector_parameter 193 calling) (selector_parameter 194 called) in
     let n = length-append xs ys in
     let few : length (flat_map parameter (selector_parameter 193 calling ++ selector_parameter 194 called)) ≤ 36 = subst (λ zs. length zs ≤ 36) (sym joined) (omega (arith, x.1, y.1, n)) in
-    let are : AreOctets (flat_map parameter (selector_parameter 193 calling ++ selector_parameter 194 called)) = subst AreOctets (sym joined) (append-are xs ys x.0 y.0) in
+    let are : AreOctets (flat_map parameter (selector_parameter 193 calling ++ selector_parameter 194 called)) = subst AreOctets (sym joined) (octets_join xs ys x.0 y.0) in
     let fields : List ℕ = connection_fields 224 (request_ends 1 (Some 10) calling called) in (
       omega arith,
       omega arith,
-      each-octet (control_packet fields)
-          (packet-are fields (omega arith)
-          (append-are (224 ∷ 0 ∷ 0 ∷ 0 ∷ 1 ∷ 0 ∷ 192 ∷ 1 ∷ 10 ∷ []) (flat_map parameter (selector_parameter 193 calling ++ selector_parameter 194 called)) refl are)),
+      (packet-are fields (omega arith)
+          (octets_join (224 ∷ 0 ∷ 0 ∷ 0 ∷ 1 ∷ 0 ∷ 192 ∷ 1 ∷ 10 ∷ []) (flat_map parameter (selector_parameter 193 calling ++ selector_parameter 194 called)) (octets_by_test (224 ∷ 0 ∷ 0 ∷ 0 ∷ 1 ∷ 0 ∷ 192 ∷ 1 ∷ 10 ∷ []) refl) are)),
     )
 
 pub confirm-sent : IsOfTransport (ConnectionConfirm 1 (Some 10))
-confirm-sent = (omega arith, omega arith, each-octet (written_unit (ConnectionConfirm 1 (Some 10))) refl)
+confirm-sent = (omega arith, omega arith, octets_by_test (written_unit (ConnectionConfirm 1 (Some 10))) refl)
 
 pub units-sent : (mode : Mode) (a : Config) (base : Base) (unit : TransportUnit) → base.config ≡ a → IsEndIn mode a → IsUnit base unit → IsOfTransport unit
 units-sent mode a base (ConnectionRequest source size calling called) same e h =

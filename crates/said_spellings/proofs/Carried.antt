@@ -7,6 +7,9 @@ use Rattle.osi_base.specs.declared.layer_words.RestoredItem.{RestoredItem}
 use Rattle.osi_base.specs.declared.presentation_word.PresentationWord.{PresentationWord}
 use Rattle.osi_base.specs.declared.presentation_word.PresentationWord.TheVariants as ppdus
 use Rattle.osi_base.specs.declared.session_word.SessionWord.TheVariants as units
+use Rattle.osi_base.specs.Octets.{AreOctets}
+use Rattle.osi_base.proofs.OctetLaws.{no_octets}
+use Rattle.asn1_types.proofs.OctetTests.{octets_by_test}
 use Rattle.end_config.specs.presentation_pdus.declared.place.PpduPlace.TheVariants as place
 use Rattle.end_config.specs.presentation_pdus.Words.{written_ppdu}
 use Rattle.stub_tables.specs.declared.tables.Tables.{Tables}
@@ -19,10 +22,9 @@ use Rattle.association_worlds.specs.association_reading.Laws.{IsSendable}
 use Rattle.reliable_model.specs.Codecs.{IsTransferable}
 use Rattle.transfer_spelling.specs.Laws.{IsModule}
 use Rattle.transfer_spelling.proofs.Writable.{transferables-writable}
-use Rattle.der_octets.specs.Laws.{AreOctets}
 use Rattle.said_words.specs.Fields.{IsContext, IsAlteration, AreAnswers}
 use Rattle.said_words.specs.Words.{IsRestart, IsOfData, IsOfMarks}
-use Rattle.said_spellings.proofs.Session.{each-octet, numeral-are, Sayable, Written, alone, behind}
+use Rattle.said_spellings.proofs.Session.{numeral-are, Sayable, Written, alone, behind}
 use Rattle.said_spellings.proofs.Contents.{content-is, content-few}
 use Rattle.said_spellings.proofs.Ppdus.{content_length}
 use Rattle.said_spellings.proofs.Places.{InPlace, alter-in, ack-in, restart-in, restart_ack-in, data-in}
@@ -30,7 +32,7 @@ use Rattle.said_spellings.proofs.Places.{InPlace, alter-in, ack-in, restart-in, 
 -- ---- words
 
 pub sendable : (tables : Tables) (word : Word) → Written (session_units tables word) → IsSendable tables word
-sendable tables word w = let few : length (tsdu_of tables word) ≤ 600000 = w.few in record { units = w.writable; octets = each-octet (tsdu_of tables word) w.octets; within = omega arith }
+sendable tables word w = let few : length (tsdu_of tables word) ≤ 600000 = w.few in record { units = w.writable; octets = w.octets; within = omega arith }
 
 -- user data behind a unit of the session
 typed : (os : List ℕ) → AreOctets os → length os ≤ 400000 → Sayable (units.TypedData os)
@@ -45,8 +47,8 @@ resynchronizing n os low high o few =
       fields = (omega arith, omega arith);
       few = few;
       code = omega arith;
-      parameters = ((omega arith, refl), ((omega arith, numeral-are n), ((omega arith, o), tt)));
-      information = refl;
+      parameters = ((omega arith, octets_by_test _ refl), ((omega arith, numeral-are n), ((omega arith, o), tt)));
+      information = no_octets;
       within = omega arith;
     }
 
@@ -57,19 +59,19 @@ answering n os low high o few =
       few = few;
       code = omega arith;
       parameters = ((omega arith, numeral-are n), ((omega arith, o), tt));
-      information = refl;
+      information = no_octets;
       within = omega arith;
     }
 
 marking : (n : ℕ) → 1 ≤ n → n ≤ 65536 → Sayable (units.Mark n)
 marking n low high =
-    record { fields = (omega arith, omega arith); few = omega arith; code = omega arith; parameters = ((omega arith, numeral-are n), tt); information = refl; within = omega arith }
+    record { fields = (omega arith, omega arith); few = omega arith; code = omega arith; parameters = ((omega arith, numeral-are n), tt); information = no_octets; within = omega arith }
 
 giving : Sayable (units.GiveTokens (Some 4))
-giving = record { fields = tt; few = omega arith; code = omega arith; parameters = ((omega arith, refl), tt); information = refl; within = omega arith }
+giving = record { fields = tt; few = omega arith; code = omega arith; parameters = ((omega arith, octets_by_test _ refl), tt); information = no_octets; within = omega arith }
 
 pleading : Sayable (units.PleaseTokens (Some 4) None)
-pleading = record { fields = tt; few = omega arith; code = omega arith; parameters = ((omega arith, refl), tt); information = refl; within = omega arith }
+pleading = record { fields = tt; few = omega arith; code = omega arith; parameters = ((omega arith, octets_by_test _ refl), tt); information = no_octets; within = omega arith }
 
 module _ (tables : Tables) where
   pub alter-sent : (add : List Proposal) (delete : List ℕ) → IsAlteration add delete → IsSendable tables (OfData (AlterContext add delete))

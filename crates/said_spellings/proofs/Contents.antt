@@ -1,17 +1,20 @@
 -- An APDU of the module as a value of the presentation protocol: in the basic encoding a whole value, and octets in each syntax.
-use Rattle.std.proofs.Common.{◌≡◌, refl, true, arith, ℕ, ◌≤◌, ◌<◌, ◌^◌, List, length}
+use Rattle.std.proofs.Common.{◌≡◌, true, arith, ℕ, ◌≤◌, ◌<◌, ◌^◌, List, length}
 use Rattle.std.specs.Prelude.{ℤ, ◌&&◌, Option, Some, None, option_map, nat_le}
 use Rattle.std.specs.List.{list_all}
 use Rattle.std.proofs.lemmas.Bool.{and_parts}
 use Rattle.osi_base.specs.declared.syntax.Syntax.{Syntax}
 use Rattle.osi_base.specs.declared.syntax.Syntax.TheVariants.{Ber, Der, Packed}
 use Rattle.osi_base.specs.declared.layer_words.Problem.{Problem}
+use Rattle.osi_base.specs.Octets.{AreOctets}
+use Rattle.osi_base.proofs.OctetLaws.{no_octets}
 use Rattle.asn1_types.specs.declared.row.TypeId.{TypeId}
 use Rattle.asn1_types.specs.declared.value.Val.{Val}
 use Rattle.asn1_types.specs.Fits.{is_octet, has_form}
 use Rattle.asn1_types.proofs.FitLaws.{fits_has_form}
 use Rattle.asn1_types.specs.Whole.{is_whole}
 use Rattle.asn1_types.specs.Writing.{written}
+use Rattle.asn1_types.proofs.OctetTests.{octets_by_test}
 use Rattle.fixed_tables.specs.Pdvs.{pdv_value}
 use Rattle.rtse_apdus.specs.TransferRows.{transfer_row, transfer_rows}
 use Rattle.stub_tables.specs.declared.tables.Tables.{Tables}
@@ -25,7 +28,7 @@ use Rattle.apdu_spelling.specs.Heads as heads
 use Rattle.apdu_spelling.specs.Rows.{head_rows, apdu_row}
 use Rattle.apdu_spelling.specs.Values.{code_value, any_part, rejected_value, ber_value}
 use Rattle.apdu_spelling.specs.Writing.{written_apdu, written_typed, written_carried, head_of, is_typed, may_carry, IsWritable}
-use Rattle.der_octets.specs.Laws.{AreOctets, LeavesAre, LeavesInParts}
+use Rattle.der_octets.specs.Laws.{LeavesAre, LeavesInParts}
 use Rattle.der_octets.proofs.Octets.{der-octets}
 use Rattle.der_octets.proofs.Fitting.{fitting-leaves}
 use Rattle.association_worlds.specs.association_wire.Values.{in_form}
@@ -78,7 +81,7 @@ module _ (tables : Tables) (m : IsModule tables) where
   der-carried (Some u) (Some v) h = der-typed u.inner v h
 
   some-any : (x : Option (List ℕ)) → LeavesInParts (any_part x) → length (heads.or_none x) < 2 ^ 24 → AreOctets (heads.or_none x)
-  some-any None h few = refl
+  some-any None h few = no_octets
   some-any (Some os) h few = h.0 few
 
   ber-head : (apdu : Apdu) → IsWritable tables Ber apdu → LeavesAre (ber_value (head_of tables Ber apdu))
@@ -116,6 +119,7 @@ module _ (tables : Tables) (m : IsModule tables) where
   packed-so : (id : ℕ) (os : List ℕ) → has_form transfer_rows transfer_row (pdv_value (pdv_with id Packed os)) ≡ true → AreOctets os
   unfolding has_form
   packed-so id os h =
+      octets_by_test os
       (and_parts (list_all is_octet os) (nat_le (length os) 4294967295) (and_parts (list_all is_octet os && nat_le (length os) 4294967295) true (and_parts _ ((list_all is_octet os && nat_le (length os) 4294967295) && true) h).1).0).0
 
   pub content-is : (id : ℕ) (syntax : Syntax) (apdu : Apdu) → IsContext id → IsWritable tables syntax apdu → IsContent (in_form syntax (written_apdu tables syntax apdu))

@@ -10,13 +10,13 @@ use Rattle.osi_base.specs.declared.layer_words.RestoredItem.{RestoredItem}
 use Rattle.osi_base.specs.declared.presentation_word.PdvContent.{PdvContent}
 use Rattle.osi_base.specs.declared.presentation_word.PresentationWord.{PresentationWord}
 use Rattle.osi_base.specs.declared.presentation_word.PresentationWord.TheVariants as unit
+use Rattle.osi_base.specs.Octets.{AreOctets}
 use Rattle.asn1_types.specs.Fits.{has_32_bits}
 use Rattle.end_config.specs.presentation_pdus.declared.place.PpduPlace.{PpduPlace}
 use Rattle.end_config.specs.presentation_pdus.declared.place.PpduPlace.TheVariants as place
 use Rattle.end_config.specs.presentation_pdus.Rows.{ppdu_rows}
 use Rattle.end_config.specs.presentation_pdus.Words.{row_of, value_of, written_ppdu}
 use Rattle.association_worlds.specs.ppdu_laws.Written.{carries, is_written_whole, is_small, all_of, definition_sized, answer_sized, restored_sized, IsWritable}
-use Rattle.der_octets.specs.Laws.{AreOctets}
 use Rattle.der_octets.proofs.Octets.{der-octets}
 use Rattle.said_words.specs.Fields.{IsContext, AreContexts, AreFew, IsReason, IsResult, AreResults, AreVerdicts, AreRestored, IsAlteration, AreAnswers}
 use Rattle.said_spellings.proofs.Ppdus.{Stands, defined, answering, restoring, alter-stands, ack-stands, restart-stands, data-stands, IsContent, content_length}

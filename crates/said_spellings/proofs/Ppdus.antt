@@ -14,6 +14,7 @@ use Rattle.osi_base.specs.declared.layer_words.AddAnswer.{AddAnswer}
 use Rattle.osi_base.specs.declared.layer_words.RestoredItem.{RestoredItem}
 use Rattle.osi_base.specs.declared.presentation_word.PdvContent.{PdvContent}
 use Rattle.osi_base.specs.declared.presentation_word.PdvContent.TheVariants as forms
+use Rattle.osi_base.specs.Octets.{AreOctets}
 use Rattle.asn1_types.specs.declared.row.Class.TheVariants.{Universal, Application, Context}
 use Rattle.asn1_types.specs.declared.row.Tag as tags
 use Rattle.asn1_types.specs.Rows.{along}
@@ -22,14 +23,15 @@ use Rattle.asn1_types.specs.Value.{Value, integer, octets, bits, object_id, part
 use Rattle.asn1_types.specs.ValueView.{parts_of, values_of}
 use Rattle.asn1_types.specs.Whole.{is_whole}
 use Rattle.asn1_types.specs.Writing.{Writer, integer_octets, definite, subidentifiers, base_128, set_parts, values_contents, nothing_written, write_by, writes, written}
-use Rattle.fixed_tables.specs.Rows.{part}
+use Rattle.asn1_types.specs.FixedRows.{part}
+use Rattle.asn1_types.proofs.OctetTests.{octets_pass}
 use Rattle.end_config.specs.presentation_pdus.Rows.{ppdu_rows, connect_row, accept_row, alter_row, alter_ack_row, restart_row, data_row}
 use Rattle.fixed_tables.specs.Pdvs.{pdv_value}
 use Rattle.fixed_tables.specs.Values.{bits_value}
 use Rattle.end_config.specs.presentation_pdus.Items.{number_value, list_value, some_list, definition_value, answer_value, restored_value}
 use Rattle.end_config.specs.presentation_pdus.Words.{normal_mode, with_mode}
 use Rattle.said_words.specs.Calls.{IsName, AreNames, AreNamed}
-use Rattle.der_octets.specs.Laws.{AreOctets, LeavesAre, LeavesInParts, LeavesInValues}
+use Rattle.der_octets.specs.Laws.{LeavesAre, LeavesInParts, LeavesInValues}
 use Rattle.transfer_spelling.proofs.Lengths.{integer-length, definite-length}
 use Rattle.said_words.specs.Fields.{IsContext, AreContexts, AreFew, IsSyntaxName, IsSyntaxOrNone, IsReason, AreResults, AreVerdicts, AreRestored, IsResult}
 use Rattle.said_spellings.proofs.Sizes.{times, times-up, Each, list-few, name-few, set-few}
@@ -423,7 +425,7 @@ module _ (k : ℕ) where
   pdv-fits id (forms.SingleAsn1Type os) i c few = both (Fit (suc (suc (suc (suc k)))) 0 (number_value id)) _ (id-fits (suc (suc (suc k))) id i) (both (is_whole os) true c.0 refl)
   pdv-fits id (forms.OctetAligned os) i c few =
       both (Fit (suc (suc (suc (suc k)))) 0 (number_value id)) _ (id-fits (suc (suc (suc k))) id i)
-      (both (list_all is_octet os && nat_le (length os) 4294967295) true (both (list_all is_octet os) (nat_le (length os) 4294967295) c (le-leb (length os) 4294967295 (omega arith))) refl)
+      (both (list_all is_octet os && nat_le (length os) 4294967295) true (both (list_all is_octet os) (nat_le (length os) 4294967295) (octets_pass os c) (le-leb (length os) 4294967295 (omega arith))) refl)
   pdv-fits id (forms.Arbitrary string) i c few = absurd c
 
   pdv-around : (x y : List ℕ) (m : ℕ) → m ≤ 300000 → length x ≤ 7 → length y ≤ 5 + m → length (definite true (record { class = Universal; number = 16 }) (x ++ (y ++ []))) ≤ 17 + m
@@ -464,7 +466,7 @@ data-stands id content i c few = record { fitting = user-fits 57 id content i c 
 -- ---- CPA and CP, each with one value
 
 octets-fit_so : (os : List ℕ) → AreOctets os → length os ≤ 16 → octets_fit 4294967295 (octets os) ≡ true
-octets-fit_so os h few = both (list_all is_octet os) (nat_le (length os) 4294967295) h (le-leb (length os) 4294967295 (omega arith))
+octets-fit_so os h few = both (list_all is_octet os) (nat_le (length os) 4294967295) (octets_pass os h) (le-leb (length os) 4294967295 (omega arith))
 
 abbrev pub IsShortString : strings.BitString → Type 0
 IsShortString string = (bits_fit (bits string.octets string.unused) ≡ true) × (length string.octets ≤ 1) × (string.unused < 256) × AreOctets string.octets

@@ -1,31 +1,18 @@
 -- Units of the session that may be written: their octets, and how many.
-use Rattle.std.proofs.Common.{◌≡◌, refl, true, false, arith, ℕ, zero, suc, ◌+◌, ◌/◌, ◌%◌, ◌≤◌, ◌<◌, List, [], ◌∷◌, ◌++◌, map, length}
+use Rattle.std.proofs.Common.{◌≡◌, refl, true, false, arith, ℕ, ◌+◌, ◌/◌, ◌%◌, ◌≤◌, ◌<◌, List, [], ◌∷◌, ◌++◌, map, length}
 use Rattle.std.specs.Prelude.{Bool, None, nat_lt, if◌then◌else◌}
-use Rattle.std.specs.List.{list_all}
 use Rattle.std.specs.Int.Digits.{digits_of, AllBelowBase}
 use Rattle.std.proofs.lemmas.Int.Digits.{all_below_base_digits_of}
 use Rattle.std.proofs.Math.Nat.{mod-lt}
-use Rattle.std.proofs.lemmas.Bool.{and_parts}
 use Rattle.std.proofs.lemmas.Bool.Decides.{nat_tests}
 use Rattle.std.proofs.lemmas.List.{length-append}
 use Rattle.osi_base.specs.declared.session_word.SessionWord.{SessionWord}
 use Rattle.osi_base.specs.declared.session_word.SessionWord.TheVariants as units
-use Rattle.asn1_types.specs.Fits.{is_octet}
-use Rattle.der_octets.specs.Laws.{AreOctets}
-use Rattle.der_octets.proofs.Octets.{append-are, cons-are}
-use Rattle.tpkt.specs.Stream.{IsOctets}
+use Rattle.osi_base.specs.Octets.{AreOctets}
+use Rattle.osi_base.proofs.OctetLaws.{octets_join, octets_more, no_octets}
+use Rattle.asn1_types.proofs.OctetTests.{octets_by_test}
 use Rattle.spdu_codec.specs.Written.{written_length, coded, spelled, numeral, parameters_written, code_written, information_written, unit_written, units_written, AreFields, Fits, stands_alone, stands_second, AreWritable, octets_in}
 use Rattle.spdu_codec.proofs.SizeLaws.{word_size}
-
--- ---- octets
-
-pub each-octet : (xs : List ℕ) → AreOctets xs → IsOctets xs
-each-octet [] h i = omega arith
-each-octet (x ∷ xs) h zero = small x (and_parts (is_octet x) (list_all is_octet xs) h).0
-  where
-    small : (x : ℕ) → is_octet x ≡ true → x < 256
-    small x e = grind (arith, nat_tests)
-each-octet (x ∷ xs) h (suc i) = each-octet xs (and_parts (is_octet x) (list_all is_octet xs) h).1 i
 
 -- a parameter of a low code
 abbrev pub IsParameter : ℕ × List ℕ → Type 0
@@ -42,23 +29,25 @@ length-are n = go (nat_lt n 255) refl
     low n e = grind (arith, nat_tests)
 
     go : (b : Bool) → nat_lt n 255 ≡ b → AreOctets (if b then n ∷ [] else 255 ∷ n / 256 % 256 ∷ n % 256 ∷ [])
-    go true e = cons-are n [] (low n e) refl
-    go false e = cons-are (n / 256 % 256) (n % 256 ∷ []) (mod-lt (n / 256) (omega arith)) (cons-are (n % 256) [] (mod-lt n (omega arith)) refl)
+    go true e = octets_more n [] (low n e) no_octets
+    go false e =
+        octets_more 255 (n / 256 % 256 ∷ n % 256 ∷ []) (omega arith)
+        (octets_more (n / 256 % 256) (n % 256 ∷ []) (mod-lt (n / 256) (omega arith)) (octets_more (n % 256) [] (mod-lt n (omega arith)) no_octets))
 
 coded-are : (code : ℕ) (value : List ℕ) → code < 256 → AreOctets value → AreOctets (coded code value)
-coded-are code value low h = cons-are code (written_length (length value) ++ value) low (append-are (written_length (length value)) value (length-are (length value)) h)
+coded-are code value low h = octets_more code (written_length (length value) ++ value) low (octets_join (written_length (length value)) value (length-are (length value)) h)
 
 pub spelled-are : (ps : List (ℕ × List ℕ)) → AreParameters ps → AreOctets (spelled ps)
-spelled-are [] h = refl
-spelled-are (p ∷ ps) h = append-are (coded p.0 p.1) (spelled ps) (coded-are p.0 p.1 h.0.0 h.0.1) (spelled-are ps h.1)
+spelled-are [] h = no_octets
+spelled-are (p ∷ ps) h = octets_join (coded p.0 p.1) (spelled ps) (coded-are p.0 p.1 h.0.0 h.0.1) (spelled-are ps h.1)
 
 pub parameters-append : (ps qs : List (ℕ × List ℕ)) → AreParameters ps → AreParameters qs → AreParameters (ps ++ qs)
 parameters-append [] qs h k = k
 parameters-append (p ∷ ps) qs h k = (h.0, parameters-append ps qs h.1 k)
 
 digits-are : (ds : List ℕ) → AllBelowBase 10 ds → AreOctets (map (λ d. d + 48) ds)
-digits-are [] h = refl
-digits-are (d ∷ ds) h = cons-are (d + 48) (map (λ d. d + 48) ds) (let l : d < 10 = h.0 in omega arith) (digits-are ds h.1)
+digits-are [] h = no_octets
+digits-are (d ∷ ds) h = octets_more (d + 48) (map (λ d. d + 48) ds) (let l : d < 10 = h.0 in omega arith) (digits-are ds h.1)
 
 pub numeral-are : (n : ℕ) → AreOctets (numeral n)
 numeral-are n = digits-are (digits_of 10 n) (all_below_base_digits_of 10 n (omega arith))
@@ -82,7 +71,7 @@ pub record Sayable (word : SessionWord) : Type 0 where
 
 unit-are : (word : SessionWord) → Sayable word → AreOctets (unit_written word)
 unit-are word s =
-    append-are (coded (code_written word) (spelled (parameters_written word))) (information_written word)
+    octets_join (coded (code_written word) (spelled (parameters_written word))) (information_written word)
     (coded-are (code_written word) (spelled (parameters_written word)) s.code (spelled-are (parameters_written word) s.parameters)) s.information
 
 parameters-few : (word : SessionWord) → Sayable word → length (spelled (parameters_written word)) < 65536
@@ -111,7 +100,7 @@ pub alone : (word : SessionWord) → stands_alone word ≡ true → Sayable word
 alone word first s =
     record {
       writable = (first, fits-so word s);
-      octets = append-are (unit_written word) [] (unit-are word s) refl;
+      octets = octets_join (unit_written word) [] (unit-are word s) no_octets;
       few = let a = unit-few word s in let b = length-append (unit_written word) [] in omega arith;
     }
 
@@ -120,6 +109,6 @@ pub behind : (word : SessionWord) → stands_second word ≡ true → Sayable wo
 behind word second s =
     record {
       writable = (refl, record { fields = tt; size = omega arith }, second, fits-so word s);
-      octets = append-are (1 ∷ 0 ∷ []) (unit_written word ++ []) refl (append-are (unit_written word) [] (unit-are word s) refl);
+      octets = octets_join (1 ∷ 0 ∷ []) (unit_written word ++ []) (octets_by_test (1 ∷ 0 ∷ []) refl) (octets_join (unit_written word) [] (unit-are word s) no_octets);
       few = let a = unit-few word s in let b = length-append (unit_written word) [] in let c = length-append (1 ∷ 0 ∷ []) (unit_written word ++ []) in omega arith;
     }

@@ -10,6 +10,9 @@ use Rattle.osi_base.specs.declared.presentation_word.PdvContent.TheVariants as f
 use Rattle.osi_base.specs.declared.presentation_word.PresentationWord.{PresentationWord}
 use Rattle.osi_base.specs.declared.presentation_word.PresentationWord.TheVariants as ppdus
 use Rattle.osi_base.specs.declared.session_word.SessionWord.TheVariants as units
+use Rattle.osi_base.proofs.OctetLaws.{no_octets}
+use Rattle.asn1_types.proofs.OctetTests.{octets_by_test}
+use Rattle.osi_base.specs.Syntax.{acse_name, rtse_name}
 use Rattle.acse.specs.Written.{written_acse}
 use Rattle.rtse_apdus.specs.Written.{written_rtse}
 use Rattle.end_config.specs.presentation_pdus.declared.place.PpduPlace.TheVariants as place
@@ -22,7 +25,7 @@ use Rattle.dialogue.specs.declared.config.Config.{Config}
 use Rattle.dialogue.specs.declared.config.Mode.TheVariants.{Reliable}
 use Rattle.end_config.specs.Connecting.{connect_octets}
 use Rattle.end_config.proofs.Connects.{connect_is_of_rules}
-use Rattle.end_rules.specs.Base.{Spellings, acse_name, rtse_name, is_bare}
+use Rattle.end_rules.specs.Base.{Spellings, is_bare}
 use Rattle.end_rules.specs.Messages.{OfAssociation, AssociationWord, Connect, Accept, Refuse, Finish, Disconnect, Abort, AbortAccept}
 use Rattle.end_rules.specs.Writing.{acse_context, rtse_context, requirement_bits, proposals, session_connect, presentation_connect, connection_data, proposal_in_ber}
 use Rattle.end_rules.specs.Policy.{opening_policy}
@@ -133,7 +136,7 @@ module _ (tables : Tables) (spellings : Spellings) (a b : Config) (right : Propo
       let few : length (written_ppdu unit) ≤ 50000 = p.few in
       sendable tables _
       (alone (units.Accept (Some 0) (Some 2) None _ (written_ppdu unit)) refl
-      (record { fields = tt; few = omega arith; code = omega arith; parameters = ((omega arith, refl), ((omega arith, refl), ((omega arith, p.octets), tt))); information = refl; within = omega arith }))
+      (record { fields = tt; few = omega arith; code = omega arith; parameters = ((omega arith, octets_by_test _ refl), ((omega arith, octets_by_test _ refl), ((omega arith, p.octets), tt))); information = no_octets; within = omega arith }))
 
   -- ---- CN
 
@@ -173,9 +176,9 @@ module _ (tables : Tables) (spellings : Spellings) (a b : Config) (right : Propo
         code = omega arith;
         parameters = (
           (omega arith, spelled-are ((10, a.reference) ∷ (11, a.common) ∷ []) ((omega arith, ea.references.0), ((omega arith, ea.references.1), tt))),
-          ((omega arith, refl), ((omega arith, refl), ((omega arith, ea.calling), ((omega arith, ea.called), parameters-append (connect_data (written_ppdu (connect_unit recovers))) [] (connect-data_are (written_ppdu (connect_unit recovers)) p.octets) tt)))),
+          ((omega arith, octets_by_test _ refl), ((omega arith, octets_by_test _ refl), ((omega arith, ea.calling), ((omega arith, ea.called), parameters-append (connect_data (written_ppdu (connect_unit recovers))) [] (connect-data_are (written_ppdu (connect_unit recovers)) p.octets) tt)))),
         );
-        information = refl;
+        information = no_octets;
         within = omega arith;
       }))
 

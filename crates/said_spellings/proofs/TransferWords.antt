@@ -1,8 +1,6 @@
 -- What two ends of reliable mode say of a transfer and of the turn may be written.
-use Rattle.std.proofs.Common.{◌≡◌, refl, true, false, ◌∙◌, sym, ap, subst, arith, ℕ, ◌+◌, ◌^◌, ◌≤◌, ◌<◌, List, [], ◌∷◌, ◌++◌, take, drop, length}
-use Rattle.std.specs.Prelude.{Bool, ◌&&◌, ◌==◌, Option, Some, None, if◌then◌else◌}
-use Rattle.std.specs.List.{list_all}
-use Rattle.std.proofs.lemmas.Bool.{and_parts}
+use Rattle.std.proofs.Common.{◌≡◌, refl, true, false, ◌∙◌, sym, ap, subst, arith, ℕ, ◌+◌, ◌^◌, ◌≤◌, ◌<◌, List, [], ◌∷◌, take, drop, length}
+use Rattle.std.specs.Prelude.{Bool, ◌==◌, Option, Some, None, if◌then◌else◌}
 use Rattle.std.proofs.lemmas.List.{length-append, take-append-drop}
 use Rattle.osi_base.specs.declared.syntax.Syntax.{Syntax}
 use Rattle.osi_base.specs.declared.syntax.Syntax.TheVariants.{Ber, Der, Packed}
@@ -11,7 +9,9 @@ use Rattle.osi_base.specs.declared.presentation_word.PresentationWord.{Presentat
 use Rattle.osi_base.specs.declared.presentation_word.PresentationWord.TheVariants as ppdus
 use Rattle.osi_base.specs.declared.rtse_word.Rtse.TheVariants as rtse
 use Rattle.osi_base.specs.declared.session_word.SessionWord.TheVariants as units
-use Rattle.asn1_types.specs.Fits.{is_octet}
+use Rattle.osi_base.specs.Octets.{AreOctets}
+use Rattle.osi_base.proofs.OctetLaws.{no_octets, octets_left, octets_right}
+use Rattle.asn1_types.proofs.OctetTests.{octets_by_test}
 use Rattle.end_config.specs.presentation_pdus.declared.place.PpduPlace.TheVariants as place
 use Rattle.end_config.specs.presentation_pdus.Words.{written_ppdu}
 use Rattle.fixed_tables.specs.Pdvs.{pdv_value}
@@ -30,7 +30,6 @@ use Rattle.association_worlds.specs.association_reading.Transfers.{transferred}
 use Rattle.transfer_spelling.specs.Laws.{IsModule}
 use Rattle.transfer_spelling.proofs.Transfers.{values-transfers}
 use Rattle.transfer_spelling.proofs.Writable.{transferables-writable}
-use Rattle.der_octets.specs.Laws.{AreOctets}
 use Rattle.der_octets.proofs.Octets.{der-octets}
 use Rattle.said_words.specs.Fields.{IsContext}
 use Rattle.said_words.specs.Words.{transfer_value, IsPart, IsPartOrAlteration, IsOfTurn, IsOfActivity}
@@ -43,22 +42,10 @@ use Rattle.said_spellings.proofs.Transfers.{part-spelled, plea-spelled}
 
 -- ---- the octets of a transfer, and parts of them
 
-front-are : (xs ys : List ℕ) → AreOctets (xs ++ ys) → AreOctets xs
-front-are [] ys h = refl
-front-are (x ∷ xs) ys h = let p = and_parts (is_octet x) (list_all is_octet (xs ++ ys)) h in ap-and (is_octet x) (list_all is_octet xs) p.0 (front-are xs ys p.1)
-  where
-    ap-and : (p q : Bool) → p ≡ true → q ≡ true → (p && q) ≡ true
-    ap-and true q e f = f
-    ap-and false q e f = cc
-
-back-are : (xs ys : List ℕ) → AreOctets (xs ++ ys) → AreOctets ys
-back-are [] ys h = h
-back-are (x ∷ xs) ys h = back-are xs ys (and_parts (is_octet x) (list_all is_octet (xs ++ ys)) h).1
-
 part-are : (size from : ℕ) (os : List ℕ) → AreOctets os → AreOctets (take size (drop from os))
 part-are size from os h =
-    let d : AreOctets (drop from os) = back-are (take from os) (drop from os) (subst AreOctets (sym (take-append-drop from os)) h) in
-    front-are (take size (drop from os)) (drop size (drop from os)) (subst AreOctets (sym (take-append-drop size (drop from os))) d)
+    let d : AreOctets (drop from os) = octets_right (take from os) (drop from os) (subst AreOctets (sym (take-append-drop from os)) h) in
+    octets_left (take size (drop from os)) (drop size (drop from os)) (subst AreOctets (sym (take-append-drop size (drop from os))) d)
 
 part-few : (size from : ℕ) (os : List ℕ) → length (take size (drop from os)) ≤ length os
 part-few size from os =
@@ -140,19 +127,19 @@ part-octets base values its spelled m p =
 -- ---- units of the session
 
 pleading-all : (os : List ℕ) → AreOctets os → length os ≤ 60000 → Sayable (units.PleaseTokens (Some 21) (Some os))
-pleading-all os o few = record { fields = tt; few = few; code = omega arith; parameters = ((omega arith, refl), ((omega arith, o), tt)); information = refl; within = omega arith }
+pleading-all os o few = record { fields = tt; few = few; code = omega arith; parameters = ((omega arith, octets_by_test _ refl), ((omega arith, o), tt)); information = no_octets; within = omega arith }
 
 confirming : (n : ℕ) → 1 ≤ n → n ≤ 65536 → Sayable (units.MarkAck n)
-confirming n low high = record { fields = (omega arith, omega arith); few = omega arith; code = omega arith; parameters = ((omega arith, numeral-are n), tt); information = refl; within = omega arith }
+confirming n low high = record { fields = (omega arith, omega arith); few = omega arith; code = omega arith; parameters = ((omega arith, numeral-are n), tt); information = no_octets; within = omega arith }
 
 starting : (n : ℕ) → 1 ≤ n → n ≤ 999999 → Sayable (units.ActivityStart n)
-starting n low high = record { fields = (omega arith, omega arith); few = omega arith; code = omega arith; parameters = ((omega arith, numeral-are n), tt); information = refl; within = omega arith }
+starting n low high = record { fields = (omega arith, omega arith); few = omega arith; code = omega arith; parameters = ((omega arith, numeral-are n), tt); information = no_octets; within = omega arith }
 
 mark_numeral-are : (n : ℕ) → AreOctets (mark_numeral n)
 mark_numeral-are n = go (n == 0)
   where
     go : (p : Bool) → AreOctets (if p then 48 ∷ [] else numeral n)
-    go true = refl
+    go true = octets_by_test (48 ∷ []) refl
     go false = numeral-are n
 
 resuming : (n mark : ℕ) → 1 ≤ n → n ≤ 999999 → mark ≤ 65536 → Sayable (units.ActivityResume n mark)
@@ -165,33 +152,33 @@ resuming n mark low high few =
         (omega arith, spelled-are ((41, numeral n) ∷ (42, mark_numeral mark) ∷ []) ((omega arith, numeral-are n), ((omega arith, mark_numeral-are mark), tt))),
         ((omega arith, numeral-are n), tt),
       );
-      information = refl;
+      information = no_octets;
       within = omega arith;
     }
 
 ending : (n : ℕ) → 1 ≤ n → n ≤ 65536 → Sayable (units.ActivityEnd n)
-ending n low high = record { fields = (omega arith, omega arith); few = omega arith; code = omega arith; parameters = ((omega arith, numeral-are n), tt); information = refl; within = omega arith }
+ending n low high = record { fields = (omega arith, omega arith); few = omega arith; code = omega arith; parameters = ((omega arith, numeral-are n), tt); information = no_octets; within = omega arith }
 
 ended : (n : ℕ) → 1 ≤ n → n ≤ 65536 → Sayable (units.ActivityEndAck n)
-ended n low high = record { fields = (omega arith, omega arith); few = omega arith; code = omega arith; parameters = ((omega arith, numeral-are n), tt); information = refl; within = omega arith }
+ended n low high = record { fields = (omega arith, omega arith); few = omega arith; code = omega arith; parameters = ((omega arith, numeral-are n), tt); information = no_octets; within = omega arith }
 
 interrupting : Sayable (units.ActivityInterrupt (Some 0))
-interrupting = record { fields = tt; few = omega arith; code = omega arith; parameters = ((omega arith, refl), tt); information = refl; within = omega arith }
+interrupting = record { fields = tt; few = omega arith; code = omega arith; parameters = ((omega arith, octets_by_test _ refl), tt); information = no_octets; within = omega arith }
 
 interrupted : Sayable units.ActivityInterruptAck
-interrupted = record { fields = tt; few = omega arith; code = omega arith; parameters = tt; information = refl; within = omega arith }
+interrupted = record { fields = tt; few = omega arith; code = omega arith; parameters = tt; information = no_octets; within = omega arith }
 
 discarding : Sayable (units.ActivityDiscard (Some 0))
-discarding = record { fields = tt; few = omega arith; code = omega arith; parameters = ((omega arith, refl), tt); information = refl; within = omega arith }
+discarding = record { fields = tt; few = omega arith; code = omega arith; parameters = ((omega arith, octets_by_test _ refl), tt); information = no_octets; within = omega arith }
 
 discarded : Sayable units.ActivityDiscardAck
-discarded = record { fields = tt; few = omega arith; code = omega arith; parameters = tt; information = refl; within = omega arith }
+discarded = record { fields = tt; few = omega arith; code = omega arith; parameters = tt; information = no_octets; within = omega arith }
 
 giving-all : Sayable units.GiveTokensConfirm
-giving-all = record { fields = tt; few = omega arith; code = omega arith; parameters = tt; information = refl; within = omega arith }
+giving-all = record { fields = tt; few = omega arith; code = omega arith; parameters = tt; information = no_octets; within = omega arith }
 
 given : Sayable units.GiveTokensAck
-given = record { fields = tt; few = omega arith; code = omega arith; parameters = tt; information = refl; within = omega arith }
+given = record { fields = tt; few = omega arith; code = omega arith; parameters = tt; information = no_octets; within = omega arith }
 
 -- ---- the words
 

@@ -12,6 +12,7 @@ use Rattle.osi_base.specs.declared.rtse_word.ConnectionData.{ConnectionData}
 use Rattle.osi_base.specs.declared.rtse_word.ConnectionData.TheVariants as data_of
 use Rattle.osi_base.specs.declared.rtse_word.Rtse.{Rtse}
 use Rattle.osi_base.specs.declared.rtse_word.Rtse.TheVariants as rtse
+use Rattle.osi_base.specs.Octets.{AreOctets}
 use Rattle.asn1_types.specs.declared.row.Class.TheVariants.{Universal, Application, Context}
 use Rattle.asn1_types.specs.declared.row.Part.{Part}
 use Rattle.asn1_types.specs.declared.row.Tag as tags
@@ -22,8 +23,9 @@ use Rattle.asn1_types.specs.ValueView.{values_of}
 use Rattle.asn1_types.specs.Whole.{is_whole}
 use Rattle.asn1_types.specs.Whole as whole
 use Rattle.asn1_types.specs.Writing.{Writer, base_128, subidentifiers, integer_octets, definite, set_parts, nothing_written, write_by, writes, written}
+use Rattle.asn1_types.specs.FixedRows.{part}
+use Rattle.asn1_types.proofs.OctetTests.{octets_by_test, octets_pass}
 use Rattle.ber_spelling.proofs.WholeSpelled.{written_whole}
-use Rattle.fixed_tables.specs.Rows.{part}
 use Rattle.acse.specs.Rows.{acse_row, acse_rows}
 use Rattle.acse.specs.Words.{external_value}
 use Rattle.acse.specs.Words as acse_words
@@ -37,7 +39,7 @@ use Rattle.rtse_apdus.specs.Words.{data_value, value_of}
 use Rattle.rtse_apdus.specs.Written.{are_octets, can_carry, can_write, written_rtse, IsWritable}
 use Rattle.rtse_apdus.proofs.Added.{rtse_sound}
 use Rattle.rtse_apdus.proofs.RtseLaws.{writable_fits}
-use Rattle.der_octets.specs.Laws.{AreOctets, LeavesAre, LeavesInValues}
+use Rattle.der_octets.specs.Laws.{LeavesAre, LeavesInValues}
 use Rattle.der_octets.proofs.Octets.{der-octets}
 use Rattle.transfer_spelling.proofs.Lengths.{integer-length, definite-length}
 use Rattle.said_words.specs.Fields.{IsContext}
@@ -105,11 +107,11 @@ data-few (data_of.Open os) h =
 data-few (data_of.Recover reference common) h = reference-few reference common h.0.1 h.1.1
 
 data-leaves : (d : ConnectionData) → IsConnection d → LeavesAre (data_value d)
-data-leaves (data_of.Open os) h = λ few. subst AreOctets (sym h) refl
+data-leaves (data_of.Open os) h = λ few. subst AreOctets (sym h) (octets_by_test (5 ∷ 0 ∷ []) refl)
 data-leaves (data_of.Recover reference common) h = (h.0.0, (h.1.0, tt))
 
 octets-so : (os : List ℕ) → AreOctets os → length os ≤ 300000 → are_octets os ≡ true
-octets-so os h few = both (list_all is_octet os) (nat_le (length os) 4294967295) h (le-leb (length os) 4294967295 (omega arith))
+octets-so os h few = both (list_all is_octet os) (nat_le (length os) 4294967295) (octets_pass os h) (le-leb (length os) 4294967295 (omega arith))
 
 null-whole : is_whole (5 ∷ 0 ∷ []) ≡ true
 unfolding is_whole whole.behind_whole

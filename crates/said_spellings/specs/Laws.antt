@@ -1,5 +1,6 @@
 -- Whatever two ends say may be written, in direct mode and in reliable mode.
 use Rattle.std.specs.Prelude.{◌≡◌, true, None}
+use Rattle.osi_base.specs.Octets.{AreOctets}
 use Rattle.stub_tables.specs.declared.tables.Tables.{Tables}
 use Rattle.dialogue.specs.declared.config.Config.{Config}
 use Rattle.dialogue.specs.declared.config.Mode.{Mode}
@@ -14,7 +15,6 @@ use Rattle.end_model.specs.DirectEnds.{ProposesRightly}
 use Rattle.transfer_spelling.specs.Laws.{IsModule}
 use Rattle.association_worlds.specs.association_reading.Transfers.{transferred}
 use Rattle.association_worlds.specs.InTransit.{IsCarried}
-use Rattle.der_octets.specs.Laws.{AreOctets}
 use Rattle.said_words.specs.Calls.{AreNamed}
 use Rattle.said_words.specs.Words.{IsMessage}
 use Rattle.said_words.specs.Laws.{ProposesContexts}

@@ -8,9 +8,10 @@ use Rattle.osi_base.specs.declared.layer_words.Proposal.{Proposal}
 use Rattle.osi_base.specs.declared.layer_words.AddAnswer.{AddAnswer}
 use Rattle.stub_tables.specs.declared.tables.Tables.{Tables}
 use Rattle.dialogue.specs.declared.config.Config.{Config}
-use Rattle.end_model.specs.end_rules.Base.{Spellings, acse_name, ber_name}
+use Rattle.end_model.specs.end_rules.Base.{Spellings, ber_name}
 use Rattle.end_model.specs.end_rules.Sets.{same_name, is_among, put, put_accepted, pair_accepted, with_added, proposed_ids}
 use Rattle.osi_base.specs.SetPlaces.{pair_of}
+use Rattle.osi_base.specs.Syntax.{acse_name}
 use Rattle.end_model.specs.end_rules.State.{Body}
 use Rattle.end_model.specs.end_rules.Altering.{has_double}
 use Rattle.end_model.specs.end_rules.Policy.{is_association, takes_syntax, acceptance, rejection, answer_within, answer_to_addition, counted_with, answers_to_additions, opening_policy}

@@ -5,9 +5,10 @@ use Rattle.osi_base.specs.declared.syntax.Syntax.TheVariants.{Ber}
 use Rattle.osi_base.specs.declared.layer_words.RestoredItem.{RestoredItem}
 use Rattle.osi_base.specs.declared.acse_word.Acse.TheVariants as acse
 use Rattle.osi_base.specs.Limits.{most_marks, last_serial, most_contexts}
+use Rattle.osi_base.specs.Syntax.{rtse_name}
 use Rattle.dialogue.specs.declared.config.Mode.{Mode}
 use Rattle.dialogue.specs.declared.config.Mode.TheVariants.{Bare, Direct, Reliable}
-use Rattle.end_model.specs.end_rules.Base.{Base, Item, rtse_name}
+use Rattle.end_model.specs.end_rules.Base.{Base, Item}
 use Rattle.end_model.specs.end_rules.Messages.{TransportUnit, ConnectionRequest, ConnectionConfirm, DisconnectRequest, TransportError, ValueContent, DataValue, Plea, Part, UserValues, Word, OfAssociation, OfData, OfMarks, OfActivities, AssociationWord, Connect, Accept, Refuse, Finish, Disconnect, Abort, AbortAccept, DataWord, Values, AlterContext, AlterContextAck, MarkWord, Mark, MarkAck, Restart, RestartAck, Give, Please, GiveConfirm, GiveAck, ActivityWord, Start, Resume, End, EndAck, Interrupt, InterruptAck, Discard, DiscardAck, Message, Transport, Session, value_of_item}
 use Rattle.end_model.specs.end_rules.Writing.{acse_value, session_connect, presentation_connect, connect_values}
 use Rattle.end_model.specs.end_rules.Connecting.{acceptance_message}

@@ -4,13 +4,14 @@ use Rattle.std.specs.Prelude.{Bool, ◌&&◌, ◌||◌, Option, Some, None, nat_
 use Rattle.std.proofs.lemmas.Bool.Decides.{nat_tests}
 use Rattle.osi_base.specs.declared.presentation_word.PdvContent.TheVariants as forms
 use Rattle.osi_base.specs.declared.acse_word.Acse.TheVariants as acse
+use Rattle.osi_base.specs.Syntax.{acse_name, rtse_name}
+use Rattle.asn1_types.proofs.OctetTests.{octets_by_test}
 use Rattle.dialogue.specs.declared.config.Config.{Config}
 use Rattle.dialogue.specs.declared.config.ConfigRefusal.TheVariants as refusals
 use Rattle.dialogue.specs.declared.config.ConfigRefusal.{ConfigRefusal}
 use Rattle.dialogue.specs.declared.config.Mode.TheVariants.{Direct, Reliable}
 use Rattle.end_laws.specs.end_config.Refusing.{config_refusal, early_refusal, or_refusal, is_too_long, has_connect}
 use Rattle.end_laws.specs.end_config.Connecting.{connect_octets, connection_data, transfer_request}
-use Rattle.end_rules.specs.Base.{acse_name, rtse_name}
 use Rattle.end_rules.specs.Cases.{calc, config_of}
 use Rattle.end_rules.specs.Writing.{proposal_in_ber, requirement_bits}
 use Rattle.transfer_spelling.specs.Laws.{IsModule}
@@ -78,15 +79,15 @@ of-module = (record { named = record { id = (omega arith, omega arith); name = r
 short : (recovers : Bool) → length (connect_octets own recovers) ≤ 10240
 short recovers =
     let f = asking-few in
-    let x = connect-few own.calling own.called (proposal_in_ber 1 acse_name) own.contexts (requirement_bits true) 1 (forms.SingleAsn1Type asking) (omega arith) refl (omega arith) (of-association, of-module) (omega arith) bits-true (omega arith, omega arith) asking-is (omega arith) in
+    let x = connect-few own.calling own.called (proposal_in_ber 1 acse_name) own.contexts (requirement_bits true) 1 (forms.SingleAsn1Type asking) (omega arith) (octets_by_test _ refl) (omega arith) (of-association, of-module) (omega arith) bits-true (omega arith, omega arith) asking-is (omega arith) in
     let y : length (connect_octets own recovers) ≤ 6350 + length asking = x in
     omega arith
 
 initiator-met : IsEndIn Direct own
-initiator-met = record { mode = refl; accepted = accepted-so own refl short; calling = refl; called = refl; references = tt; contexts = (refl, (refl, tt), tt) }
+initiator-met = record { mode = refl; accepted = accepted-so own refl short; calling = octets_by_test _ refl; called = octets_by_test _ refl; references = tt; contexts = (refl, (refl, tt), tt) }
 
 responder-met : IsEndIn Direct (config_of false Direct)
-responder-met = record { mode = refl; accepted = refl; calling = refl; called = refl; references = tt; contexts = (refl, (refl, tt), tt) }
+responder-met = record { mode = refl; accepted = refl; calling = octets_by_test _ refl; called = octets_by_test _ refl; references = tt; contexts = (refl, (refl, tt), tt) }
 
 -- ---- reliable mode: the same, and context 3 for reliable transfer, whose request the CP carries
 
@@ -95,7 +96,7 @@ own_r = config_of true Reliable
 
 connection-is : (recovers : Bool) → IsConnection (connection_data own_r recovers)
 connection-is false = refl
-connection-is true = ((refl, omega arith), (refl, omega arith))
+connection-is true = ((octets_by_test _ refl, omega arith), (octets_by_test _ refl, omega arith))
 
 request-is : (recovers : Bool) → Spelled (transfer_request own_r recovers) 150
 request-is recovers =
@@ -113,16 +114,16 @@ short-r : (recovers : Bool) → length (connect_octets own_r recovers) ≤ 10240
 short-r recovers =
     let s = asking-r recovers in
     let f : length (asking_r recovers) ≤ 400 = s.few in
-    let x = connect-few own_r.calling own_r.called (proposal_in_ber 1 acse_name) (proposal_in_ber 3 rtse_name ∷ own_r.contexts) (requirement_bits true) 1 (forms.SingleAsn1Type (asking_r recovers)) (omega arith) refl (omega arith)
+    let x = connect-few own_r.calling own_r.called (proposal_in_ber 1 acse_name) (proposal_in_ber 3 rtse_name ∷ own_r.contexts) (requirement_bits true) 1 (forms.SingleAsn1Type (asking_r recovers)) (omega arith) (octets_by_test _ refl) (omega arith)
     (of-association, (of-transfer, of-module)) (omega arith) bits-true (omega arith, omega arith) (s.is_whole_one, s.octets_are) (omega arith) in
     let y : length (connect_octets own_r recovers) ≤ 6350 + length (asking_r recovers) = x in
     omega arith
 
 initiator-met_r : IsEndIn Reliable own_r
-initiator-met_r = record { mode = refl; accepted = accepted-so own_r refl short-r; calling = refl; called = refl; references = (refl, refl); contexts = (refl, (refl, tt), tt) }
+initiator-met_r = record { mode = refl; accepted = accepted-so own_r refl short-r; calling = octets_by_test _ refl; called = octets_by_test _ refl; references = (octets_by_test _ refl, octets_by_test _ refl); contexts = (refl, (refl, tt), tt) }
 
 responder-met_r : IsEndIn Reliable (config_of false Reliable)
-responder-met_r = record { mode = refl; accepted = refl; calling = refl; called = refl; references = (refl, refl); contexts = (refl, (refl, tt), tt) }
+responder-met_r = record { mode = refl; accepted = refl; calling = octets_by_test _ refl; called = octets_by_test _ refl; references = (octets_by_test _ refl, octets_by_test _ refl); contexts = (refl, (refl, tt), tt) }
 
 pub ends-met : EndsAreMet
 ends-met = (

@@ -5,9 +5,10 @@ use Rattle.osi_base.specs.declared.acse_word.Acse.TheVariants as acse
 use Rattle.osi_base.specs.declared.acse_word.Diagnostic.TheVariants.{User}
 use Rattle.stub_tables.specs.declared.tables.Tables.{Tables}
 use Rattle.dialogue.specs.declared.config.Config.{Config}
-use Rattle.end_rules.specs.Base.{Base, Item, acse_name}
+use Rattle.end_rules.specs.Base.{Base, Item}
 use Rattle.end_rules.specs.Sets.{same_name, fit_proposals}
 use Rattle.osi_base.specs.SetPlaces.{pair_of}
+use Rattle.osi_base.specs.Syntax.{acse_name}
 use Rattle.end_rules.specs.State.{Body, is_carrying, is_joined}
 use Rattle.end_rules.specs.Messages.{Message, Transport, Session, DataValue, Word, OfAssociation, OfData, OfMarks, OfActivities, AssociationWord, Connect, Accept, Refuse, Finish, Disconnect, Abort, AbortAccept, Values, AlterContext, AlterContextAck, Mark, MarkAck, Restart, RestartAck, Give, Please, GiveConfirm, GiveAck, unit_of, value_of_item}
 use Rattle.end_rules.specs.Writing.{acse_context, proposals, session_connect, presentation_connect, connect_values}

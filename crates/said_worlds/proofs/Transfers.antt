@@ -8,9 +8,10 @@ use Rattle.stub_tables.specs.declared.tables.Tables.{Tables}
 use Rattle.dialogue.specs.declared.config.Config.{Config}
 use Rattle.dialogue.specs.declared.config.Mode.TheVariants.{Reliable}
 use Rattle.dialogue.specs.declared.indication.Indication.{Indication}
-use Rattle.end_rules.specs.Base.{Base, rtse_name}
+use Rattle.end_rules.specs.Base.{Base}
 use Rattle.end_rules.specs.Sets.{has_abstract, fit_proposals}
 use Rattle.osi_base.specs.SetPlaces.{pair_of}
+use Rattle.osi_base.specs.Syntax.{rtse_name}
 use Rattle.end_rules.specs.State.{Body, is_carrying, is_joined}
 use Rattle.end_rules.specs.Messages.{Message, Transport, Session, Transferring, Plea, Part, DataValue, Word, OfAssociation, OfData, OfMarks, OfActivities, AssociationWord, Connect, Accept, Refuse, Finish, Disconnect, Abort, AbortAccept, Values, AlterContext, AlterContextAck, Mark, MarkAck, Restart, RestartAck, Give, Please, GiveConfirm, GiveAck, unit_of}
 use Rattle.end_rules.specs.Writing.{acse_context, rtse_context, proposals, session_connect, presentation_connect, connect_values, connection_data}

@@ -3,7 +3,7 @@ use Rattle.std.proofs.Common.{◌≡◌, ℕ, Bool, true, false, ◌&&◌, None,
 use Rattle.std.specs.List.{list_all}
 use Rattle.std.proofs.lemmas.Bool.Decides.{nat_tests}
 use Rattle.osi_base.specs.declared.layer_words.Proposal.{Proposal}
-use Rattle.der_octets.specs.Laws.{AreOctets}
+use Rattle.osi_base.specs.Octets.{AreOctets}
 use Rattle.dialogue.specs.declared.call.Call.{Call}
 use Rattle.dialogue.specs.declared.call.Call.TheVariants as calls
 use Rattle.dialogue.specs.declared.config.Config.{Config}

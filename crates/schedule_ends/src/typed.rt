@@ -4,23 +4,17 @@
 ghost use Rattle.std.specs.Prelude.{◌≡◌, true, None};
 ghost use Rattle.std.specs.List.{list_all};
 ghost use Rattle.asn1_types.specs.Fits.{has_32_bits};
-ghost use Rattle.der_octets.specs.Laws.{AreOctets};
 ghost use Rattle.schedule_text.specs.end_config.Refusing.{config_refusal};
 ghost use Rattle.said_worlds.specs.said_spellings.Laws.{IsEndIn};
 ghost use Rattle.association_runs.specs.Laws.{AreEvents};
 ghost use Rattle.schedule_ends.specs.Fitting.{name_fits, proposal_fits, call_fits, event_fits};
 
 use dialogue::{Call, Config, Event, Events};
-use osi_base::{Oid, Proposal};
+use osi_base::{Oid, Proposal, hold_octets};
 
 /// Arcs have 32 bits.
 fn arcs_fit(arcs: &[u32])
     ensures { list_all has_32_bits arcs.now ≡ true }
-{}
-
-/// Octets are numbers below 256.
-fn octets_fit(octets: &[u8])
-    ensures { AreOctets octets.now }
 {}
 
 fn name_fits(name: &Oid)
@@ -98,9 +92,9 @@ pub fn events_are_calls(events: &Events)
 pub fn config_is_of_end(config: &Config)
     ensures { config_refusal config.now ≡ None → IsEndIn config.now.mode config.now }
 {
-    octets_fit(config.calling.as_slice());
-    octets_fit(config.called.as_slice());
-    octets_fit(config.reference.as_slice());
-    octets_fit(config.common.as_slice());
+    hold_octets(config.calling.as_slice());
+    hold_octets(config.called.as_slice());
+    hold_octets(config.reference.as_slice());
+    hold_octets(config.common.as_slice());
     proposals_fit(config.contexts.as_slice());
 }

@@ -3,6 +3,7 @@ use Rattle.std.specs.Prelude.{ℕ, nat_le, Bool, true, false, ◌||◌, if◌the
 use Rattle.osi_base.specs.declared.layer_words.Side.{Side}
 use Rattle.osi_base.specs.declared.layer_words.Side.TheVariants.{A, B}
 use Rattle.osi_base.specs.Limits.{event_most}
+use Rattle.dialogue.specs.Sides.{other}
 use Rattle.stub_tables.specs.declared.tables.Tables.{Tables}
 use Rattle.dialogue.specs.declared.event.Event.{Event}
 use Rattle.dialogue.specs.declared.event.Event.TheVariants as events
@@ -30,13 +31,9 @@ named_by o event = o
 abbrev pub with_event : Draft → Event → Draft
 with_event draft event = record draft { events = draft.events ++ event ∷ []; invoked = named_by draft.invoked event }
 
-abbrev pub peer_of : Side → Side
-peer_of A = B
-peer_of B = A
-
 -- what lines of the other end invoked so far
 abbrev pub peer_invoked : Draft → Side → List ℕ
-peer_invoked draft side = operations_of draft.invoked (peer_of side)
+peer_invoked draft side = operations_of draft.invoked (other side)
 
 -- ---- fields
 

@@ -2,9 +2,9 @@
 //! what is refused, what is passed over and what is out of place. What is expected of a step
 //! follows from X.225, in this project's profile, and is worked out by hand. A number in front of a
 //! comment is that of the section of X.225 that has the rule; 7 has one for each unit, in the order
-//! of 8.3: RESYNCHRONIZE has 7.24 and 8.3.24. 'Profile' there says that the rule stands so in this
-//! project's profile (`docs/DECISIONS.md`, and of the definitions of `session_subset` `Requests`,
-//! `Takings`, `Reading` and `Units`), and tells nothing of X.225.
+//! of 8.3: RESYNCHRONIZE has 7.24 and 8.3.24. Where a comment says 'profile', the rule is this
+//! project's own (`docs/DECISIONS.md`, and `Requests`, `Takings`, `Reading` and `Units` of
+//! `session_subset`), and not taken from X.225.
 #![tactic(auto)]
 
 #[cfg(test)]

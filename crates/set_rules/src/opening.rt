@@ -150,7 +150,7 @@ fn is_any_taken(initiates: bool, held: &[SetItem], add: &[Proposal]) -> bool
 }
 
 /// Whether what is proposed may not be: an identifier comes twice, is in the set, or is one of the
-/// other end (X.226 8.4.2).
+/// other end (X.226 8.2).
 pub fn is_faulty_proposal(initiates: bool, held: &[SetItem], add: &[Proposal]) -> bool
     ensures { result ≡ is_faulty_proposal initiates held.now add.now }
 {

@@ -5,6 +5,8 @@ use Rattle.std.proofs.lemmas.Bool.{cases_Bool, and_parts, or_parts}
 use Rattle.std.proofs.lemmas.List.{length-append}
 use Rattle.osi_base.specs.declared.layer_words.Kind.TheVariants as why
 use Rattle.osi_base.specs.declared.session_word.SessionWord.{SessionWord}
+use Rattle.osi_base.proofs.OctetLaws.{octets_right}
+use Rattle.osi_base.specs.Octets.{AreOctets}
 use Rattle.spdu_codec.specs.declared.fault.SFault.{SFault}
 use Rattle.spdu_codec.specs.declared.fault.SFault.TheVariants as faults
 use Rattle.spdu_codec.specs.declared.kind.SpduKind.{SpduKind}
@@ -13,10 +15,10 @@ use Rattle.spdu_codec.specs.declared.parameters.Parameters.{Parameters}
 use Rattle.spdu_codec.specs.Tables.{first_units, second_units}
 use Rattle.spdu_codec.specs.Words.{word_of, has_information, leads}
 use Rattle.spdu_codec.specs.Reading.{Gives, UnitFault, at, ◌>>=◌, front, unit_at, worded, last_word, is_first, second_at, behind_first, units_at}
-use Rattle.spdu_codec.specs.Wire.{IsOctets, AreUnits}
+use Rattle.spdu_codec.specs.Wire.{AreUnits}
 use Rattle.spdu_codec.specs.Faults.{HasUnitFault, EndFault, LastFault, SecondFault, FirstFault, IsFirstFault}
 use Rattle.spdu_codec.proofs.Results.{chosen}
-use Rattle.spdu_codec.proofs.WireLaws.{octets-behind, unit_found, unit_again, worded_found, other, all_found, all_again}
+use Rattle.spdu_codec.proofs.WireLaws.{unit_found, unit_again, worded_found, other, all_found, all_again}
 use Rattle.spdu_codec.proofs.FaultLaws.{bad, err_is, failed, outcome, unit_fault, unit_wrong}
 
 -- ---- the unit that stands last
@@ -55,7 +57,7 @@ last_wrong end kind p behind f (inr h) =
 
 -- ---- the unit that stands second
 
-second_fault : (end : ℕ) (xs : List ℕ) (f : UnitFault) → IsOctets xs → length xs ≤ end → second_at end xs ≡ Err f → LastFault second_units (front end xs) xs f
+second_fault : (end : ℕ) (xs : List ℕ) (f : UnitFault) → AreOctets xs → length xs ≤ end → second_at end xs ≡ Err f → LastFault second_units (front end xs) xs f
 second_fault end xs f fits le e =
     elim (failed (unit_at second_units end xs) (λ u. last_word end u.0 u.1 u.2) f e) [
       | inl h ↦ inl (unit_fault second_units end xs f fits le h)
@@ -74,7 +76,7 @@ second_fault end xs f fits le e =
           }))
     ]
 
-second_wrong : (end : ℕ) (xs : List ℕ) (f : UnitFault) → IsOctets xs → length xs ≤ end → LastFault second_units (front end xs) xs f → second_at end xs ≡ Err f
+second_wrong : (end : ℕ) (xs : List ℕ) (f : UnitFault) → AreOctets xs → length xs ≤ end → LastFault second_units (front end xs) xs f → second_at end xs ≡ Err f
 second_wrong end xs f fits le (inl w) = ap (λ r. r >>= λ u. last_word end u.0 u.1 u.2) (unit_wrong second_units end xs f fits le w)
 second_wrong end xs f fits le (inr w) =
     let place : front end xs + length w.unit ≡ front end w.behind = omega (arith, ap length w.parts, length-append w.unit w.behind) in
@@ -106,7 +108,7 @@ first_true b behind e = (let g = and_parts b (not (length behind == 0)) e in (g.
 abbrev failing : UnitFault → Result (List SessionWord) UnitFault
 failing f = Err f
 
-behind_fault : (end : ℕ) (kind : SpduKind) (p : Parameters) (behind : List ℕ) (f : UnitFault) → IsOctets behind → length behind ≤ end → behind_first end (kind, p, behind) ≡ Err f
+behind_fault : (end : ℕ) (kind : SpduKind) (p : Parameters) (behind : List ℕ) (f : UnitFault) → AreOctets behind → length behind ≤ end → behind_first end (kind, p, behind) ≡ Err f
     → SecondFault kind p (front end behind) behind f
 behind_fault end kind p behind f fits le e =
     elim (chosen (is_first kind behind) _ _ (Err f) e) [
@@ -129,7 +131,7 @@ behind_fault end kind p behind f fits le e =
           ])
     ]
 
-behind_wrong : (end : ℕ) (kind : SpduKind) (p : Parameters) (behind : List ℕ) (f : UnitFault) → IsOctets behind → length behind ≤ end → SecondFault kind p (front end behind) behind f
+behind_wrong : (end : ℕ) (kind : SpduKind) (p : Parameters) (behind : List ℕ) (f : UnitFault) → AreOctets behind → length behind ≤ end → SecondFault kind p (front end behind) behind f
     → behind_first end (kind, p, behind) ≡ Err f
 behind_wrong end kind p behind f fits le (inl w) =
     let some = are_some behind w.1 in
@@ -140,7 +142,7 @@ behind_wrong end kind p behind f fits le (inr w) =
     let alone : is_first kind behind ≡ false = not_lead (leads kind) behind w.0 in
     rw (alone, last_wrong end kind p behind f w.1) refl
 
-pub is_first_fault : (xs : List ℕ) (f : UnitFault) → IsOctets xs → units_at xs ≡ Err f → FirstFault xs f
+pub is_first_fault : (xs : List ℕ) (f : UnitFault) → AreOctets xs → units_at xs ≡ Err f → FirstFault xs f
 unfolding units_at
 is_first_fault xs f fits e =
     let end = length xs in
@@ -160,11 +162,11 @@ is_first_fault xs f fits e =
             behind = u.2;
             is = g.1;
             parts = g.2;
-            wrong = subst (λ (k : ℕ). SecondFault u.0 u.1 k u.2 f) place (behind_fault end u.0 u.1 u.2 f (octets-behind g.0 u.2 (subst IsOctets g.2 fits)) (omega (arith, n, m)) h.2);
+            wrong = subst (λ (k : ℕ). SecondFault u.0 u.1 k u.2 f) place (behind_fault end u.0 u.1 u.2 f (octets_right g.0 u.2 (subst AreOctets g.2 fits)) (omega (arith, n, m)) h.2);
           }))
     ]
 
-pub first_is_given : (xs : List ℕ) (f : UnitFault) → IsOctets xs → FirstFault xs f → units_at xs ≡ Err f
+pub first_is_given : (xs : List ℕ) (f : UnitFault) → AreOctets xs → FirstFault xs f → units_at xs ≡ Err f
 unfolding units_at
 first_is_given xs f fits (inl w) =
     let end = length xs in
@@ -177,24 +179,24 @@ first_is_given xs f fits (inr w) =
     let place : 0 + length w.unit ≡ front end w.behind = omega (arith, n, m) in
     ap (λ t. unit_at first_units end t >>= behind_first end) w.parts
     ∙ ap (λ r. r >>= behind_first end) (unit_again first_units end w.kind w.found w.unit w.behind w.is)
-    ∙ behind_wrong end w.kind w.found w.behind f (octets-behind w.unit w.behind (subst IsOctets w.parts fits)) (omega (arith, n, m)) (subst (λ (k : ℕ). SecondFault w.kind w.found k w.behind f) place w.wrong)
+    ∙ behind_wrong end w.kind w.found w.behind f (octets_right w.unit w.behind (subst AreOctets w.parts fits)) (omega (arith, n, m)) (subst (λ (k : ℕ). SecondFault w.kind w.found k w.behind f) place w.wrong)
 
 -- ---- what the laws say
 
-pub either : (xs : List ℕ) → IsOctets xs → ((words : List SessionWord) × AreUnits words xs) ⊎ ((f : UnitFault) × FirstFault xs f)
+pub either : (xs : List ℕ) → AreOctets xs → ((words : List SessionWord) × AreUnits words xs) ⊎ ((f : UnitFault) × FirstFault xs f)
 either xs fits = elim (outcome (units_at xs)) [ inl h ↦ inl (h.0, all_found xs h.0 fits h.1) | inr h ↦ inr (h.0, is_first_fault xs h.0 fits h.1) ]
 
 abbrev read : List SessionWord → Result (List SessionWord) UnitFault
 read words = Ok words
 
-pub never_both : (xs : List ℕ) (words : List SessionWord) (f : UnitFault) → IsOctets xs → AreUnits words xs → FirstFault xs f → ⊥
+pub never_both : (xs : List ℕ) (words : List SessionWord) (f : UnitFault) → AreOctets xs → AreUnits words xs → FirstFault xs f → ⊥
 never_both xs words f fits are is = (let e : read words ≡ failing f = sym (all_again xs words are) ∙ first_is_given xs f fits is in cc)
 
-pub one_first : (xs : List ℕ) (f g : UnitFault) → IsOctets xs → FirstFault xs f → FirstFault xs g → f ≡ g
+pub one_first : (xs : List ℕ) (f g : UnitFault) → AreOctets xs → FirstFault xs f → FirstFault xs g → f ≡ g
 one_first xs f g fits a b = err_is (List SessionWord) f g (sym (first_is_given xs f fits a) ∙ first_is_given xs g fits b)
 
 -- what a reader found, seen through its result
-pub fault_of : (r : Result (List SessionWord) SFault) (xs : List ℕ) → IsOctets xs → Gives r (units_at xs) → IfErr r (IsFirstFault xs)
+pub fault_of : (r : Result (List SessionWord) SFault) (xs : List ℕ) → AreOctets xs → Gives r (units_at xs) → IfErr r (IsFirstFault xs)
 fault_of (Ok words) xs fits e = tt
 fault_of (Err faults.NoMemory) xs fits e = tt
 fault_of (Err (faults.At place kind)) xs fits e = is_first_fault xs (at place kind) fits e

@@ -2,9 +2,11 @@
 use Rattle.std.proofs.Common.{◌≡◌, ℕ, zero, suc, ◌+◌, ◌*◌, ◌/◌, ◌%◌, ◌<◌, ◌≤◌, ◌==◌, Bool, true, false, ltb, List, [], ◌∷◌, ◌++◌, length, take, drop, Option, Some, None, Result, Ok, Err, refl, sym, ap, subst, ◌∙◌, append_assoc, inl, inr, arith}
 use Rattle.std.specs.Prelude.{◌⊎◌, ◌&&◌, ◌||◌, not}
 use Rattle.std.proofs.lemmas.Bool.{ltb-false, le-ltb, cases_Bool, and_parts, or_cases}
-use Rattle.std.proofs.lemmas.List.{take-append-drop, length-append, length-take, take_at, drop_at, get_or-append-add}
+use Rattle.std.proofs.lemmas.List.{take-append-drop, length-append, length-take, take_at, drop_at}
 use Rattle.osi_base.specs.declared.layer_words.Kind.TheVariants as why
 use Rattle.osi_base.specs.declared.session_word.SessionWord.{SessionWord}
+use Rattle.osi_base.proofs.OctetLaws.{octets_right, octets_left, octets_tail}
+use Rattle.osi_base.specs.Octets.{AreOctets}
 use Rattle.spdu_codec.specs.declared.kind.SpduKind.{SpduKind}
 use Rattle.spdu_codec.specs.declared.kind.SpduKind.TheVariants as kinds
 use Rattle.spdu_codec.specs.declared.parameters.Slot.{Slot}
@@ -15,22 +17,11 @@ use Rattle.spdu_codec.specs.Words.{word_of, has_information, leads}
 use Rattle.std.specs.Prelude.{IfOk}
 use Rattle.spdu_codec.specs.declared.fault.SFault.{SFault}
 use Rattle.spdu_codec.specs.Reading.{Gives, UnitFault, at, ◌>>=◌, front, length_at, value_at, checked_free, filled, item_taken, inside, group_inside, parameter_taken, parameters_at, scan, known, unit_at, worded, last_word, is_first, second_at, behind_first, units_at}
-use Rattle.spdu_codec.specs.Wire.{IsOctets, IsLength, AreParameters, IsFree, AllPut, ItemPut, IsInside, GroupPut, ParameterPut, IsUnit, IsLast, IsFront, AreUnits}
+use Rattle.spdu_codec.specs.Wire.{IsLength, AreParameters, IsFree, AllPut, ItemPut, IsInside, GroupPut, ParameterPut, IsUnit, IsLast, IsFront, AreUnits}
 use Rattle.spdu_codec.proofs.Results.{ok_is, refused, passed, chosen, bound}
 use Rattle.spdu_codec.proofs.ScanLoop.{Taker, value_less}
 
 -- ---- octets
-
-pub octets-behind : (xs ys : List ℕ) → IsOctets (xs ++ ys) → IsOctets ys
-octets-behind xs ys fits i = subst (λ (n : ℕ). n < 256) (get_or-append-add xs ys i 0) (fits (length xs + i))
-
-pub octets-before : (xs ys : List ℕ) → IsOctets (xs ++ ys) → IsOctets xs
-octets-before [] ys fits i = omega arith
-octets-before (x ∷ xs) ys fits zero = fits 0
-octets-before (x ∷ xs) ys fits (suc i) = octets-before xs ys (λ j. fits (suc j)) i
-
-pub octets-rest : (x : ℕ) (xs : List ℕ) → IsOctets (x ∷ xs) → IsOctets xs
-octets-rest x xs fits i = fits (suc i)
 
 -- ---- lengths and values
 
@@ -49,20 +40,20 @@ short_found : (a : ℕ) (rest : List ℕ) (n : ℕ × List ℕ) → a < 256 → 
 short_found a rest n fits e f =
     subst (λ (m : ℕ × List ℕ). LengthFound (a ∷ rest) m.0 m.1) f (record { len = a ∷ []; is = inl ((let ne = eq_not a 255 e in grind arith), refl); parts = refl })
 
-length_found : (place : ℕ) (xs : List ℕ) (n : ℕ × List ℕ) → IsOctets xs → length_at place xs ≡ Ok n → LengthFound xs n.0 n.1
+length_found : (place : ℕ) (xs : List ℕ) (n : ℕ × List ℕ) → AreOctets xs → length_at place xs ≡ Ok n → LengthFound xs n.0 n.1
 unfolding length_at
 length_found place [] n fits e = absurd cc
-length_found place (a ∷ []) n fits e = (let f = refused (a == 255) (at place why.Length) (Ok (a, [])) n e in short_found a [] n (fits 0) f.0 (ok_is (a, []) n f.1))
-length_found place (a ∷ b ∷ []) n fits e = (let f = refused (a == 255) (at place why.Length) (Ok (a, b ∷ [])) n e in short_found a (b ∷ []) n (fits 0) f.0 (ok_is (a, b ∷ []) n f.1))
+length_found place (a ∷ []) n fits e = (let f = refused (a == 255) (at place why.Length) (Ok (a, [])) n e in short_found a [] n (fits.each 0) f.0 (ok_is (a, []) n f.1))
+length_found place (a ∷ b ∷ []) n fits e = (let f = refused (a == 255) (at place why.Length) (Ok (a, b ∷ [])) n e in short_found a (b ∷ []) n (fits.each 0) f.0 (ok_is (a, b ∷ []) n f.1))
 length_found place (a ∷ b ∷ c ∷ xs) n fits e =
     elim (chosen (a == 255) (Ok (256 * b + c, xs)) (Ok (a, b ∷ c ∷ xs)) (Ok n) e) [
       | inl f ↦ subst (λ (m : ℕ × List ℕ). LengthFound (a ∷ b ∷ c ∷ xs) m.0 m.1) (ok_is (256 * b + c, xs) n f.1)
           (record {
             len = 255 ∷ (256 * b + c) / 256 ∷ (256 * b + c) % 256 ∷ [];
-            is = inr (omega (arith, fits 1, fits 2), refl);
-            parts = (let h : (256 * b + c) / 256 ≡ b = omega (arith, fits 2) in let l : (256 * b + c) % 256 ≡ c = omega (arith, fits 2) in rw (h, l, eq_is a 255 f.0) refl);
+            is = inr (omega (arith, fits.each 1, fits.each 2), refl);
+            parts = (let h : (256 * b + c) / 256 ≡ b = omega (arith, fits.each 2) in let l : (256 * b + c) % 256 ≡ c = omega (arith, fits.each 2) in rw (h, l, eq_is a 255 f.0) refl);
           })
-      | inr f ↦ short_found a (b ∷ c ∷ xs) n (fits 0) f.0 (ok_is (a, b ∷ c ∷ xs) n f.1)
+      | inr f ↦ short_found a (b ∷ c ∷ xs) n (fits.each 0) f.0 (ok_is (a, b ∷ c ∷ xs) n f.1)
     ]
 
 pub other : (a b : ℕ) → (a ≡ b → ⊥) → (a == b) ≡ false
@@ -85,7 +76,7 @@ pub length_again : (place n : ℕ) (len rest : List ℕ) → IsLength n len → 
 length_again place n len rest (inl p) = ap (λ (t : List ℕ). length_at place (t ++ rest)) p.1 ∙ short_again place n rest (other n 255 (λ e. (let lt : n < 255 = p.0 in omega arith)))
 length_again place n len rest (inr p) = ap (λ (t : List ℕ). length_at place (t ++ rest)) p.1 ∙ long_again place n rest
 
-pub value_found : (end : ℕ) (xs : List ℕ) (v : List ℕ × List ℕ) → IsOctets xs → value_at end xs ≡ Ok v → (len : List ℕ) × IsLength (length v.0) len × (xs ≡ len ++ (v.0 ++ v.1))
+pub value_found : (end : ℕ) (xs : List ℕ) (v : List ℕ × List ℕ) → AreOctets xs → value_at end xs ≡ Ok v → (len : List ℕ) × IsLength (length v.0) len × (xs ≡ len ++ (v.0 ++ v.1))
 unfolding value_at
 value_found end xs v fits e =
     let b = bound (length_at (front end xs) xs) _ v e in
@@ -117,8 +108,8 @@ abbrev fine : Parameters → Result Parameters UnitFault
 fine p = Ok p
 
 pub scan_found : (t : Taker) (One : Option Slot → List ℕ → Parameters → Parameters → Type 0)
-    → ((end : ℕ) (slot : Option Slot) (v : List ℕ) (p q : Parameters) → IsOctets v → t end slot v p ≡ Ok q → One slot v p q)
-    → (table : List (ℕ × Slot)) (fuel end : ℕ) (p q : Parameters) (xs : List ℕ) → length xs ≤ fuel → IsOctets xs → scan t table fuel end p xs ≡ Ok q
+    → ((end : ℕ) (slot : Option Slot) (v : List ℕ) (p q : Parameters) → AreOctets v → t end slot v p ≡ Ok q → One slot v p q)
+    → (table : List (ℕ × Slot)) (fuel end : ℕ) (p q : Parameters) (xs : List ℕ) → length xs ≤ fuel → AreOctets xs → scan t table fuel end p xs ≡ Ok q
     → (ps : List (ℕ × List ℕ)) × AreParameters ps xs × AllPut One table ps p q
 unfolding scan
 scan_found t One takes table fuel end p q [] le fits e = ([], refl, ok_is p q e)
@@ -130,10 +121,10 @@ scan_found t One takes table (suc fuel) end p q (x ∷ xs) le fits e =
     let c = bound (t (front end v.1) a.0 v.0 p) _ q b.2 in
     let free = free_found (front end (x ∷ xs)) (row_of x table) a.0 p a.1 in
     let less = value_less end xs v b.1 in
-    let w = value_found end xs v (octets-rest x xs fits) b.1 in
-    let behind = octets-behind w.0 (v.0 ++ v.1) (subst IsOctets w.2 (octets-rest x xs fits)) in
-    let one = takes (front end v.1) a.0 v.0 p c.0 (octets-before v.0 v.1 behind) c.1 in
-    let rest = scan_found t One takes table fuel end c.0 q v.1 (omega (arith, less)) (octets-behind v.0 v.1 behind) c.2 in
+    let w = value_found end xs v (octets_tail x xs fits) b.1 in
+    let behind = octets_right w.0 (v.0 ++ v.1) (subst AreOctets w.2 (octets_tail x xs fits)) in
+    let one = takes (front end v.1) a.0 v.0 p c.0 (octets_left v.0 v.1 behind) c.1 in
+    let rest = scan_found t One takes table fuel end c.0 q v.1 (omega (arith, less)) (octets_right v.0 v.1 behind) c.2 in
     let whole : x ∷ xs ≡ (x ∷ w.0 ++ v.0) ++ v.1 = ap (λ (l : List ℕ). x ∷ l) (w.2 ∙ sym (append_assoc w.0 v.0 v.1)) in (
       (x, v.0) ∷ rest.0,
       (x ∷ w.0 ++ v.0, v.1, (w.0, w.1, refl), rest.1, whole),
@@ -180,7 +171,7 @@ filled_found : (place : ℕ) (o : Option Parameters) (q : Parameters) → filled
 filled_found place None q e = absurd cc
 filled_found place (Some p) q e = ap some (ok_is p q e)
 
-pub item_found : (end : ℕ) (slot : Option Slot) (v : List ℕ) (p q : Parameters) → IsOctets v → item_taken end slot v p ≡ Ok q → ItemPut slot v p q
+pub item_found : (end : ℕ) (slot : Option Slot) (v : List ℕ) (p q : Parameters) → AreOctets v → item_taken end slot v p ≡ Ok q → ItemPut slot v p q
 item_found end None v p q fits e = ok_is p q e
 item_found end (Some slot) v p q fits e = filled_found (front end v) (put slot v p) q e
 
@@ -188,7 +179,7 @@ pub item_again : (end : ℕ) (slot : Option Slot) (v : List ℕ) (p q : Paramete
 item_again end None v p q e = ap fine e
 item_again end (Some slot) v p q e = ap (filled (front end v)) e
 
-inside_found : (o : Option (List (ℕ × Slot))) (end : ℕ) (v : List ℕ) (p q : Parameters) → IsOctets v → inside o end v p ≡ Ok q → IsInside o v p q
+inside_found : (o : Option (List (ℕ × Slot))) (end : ℕ) (v : List ℕ) (p q : Parameters) → AreOctets v → inside o end v p ≡ Ok q → IsInside o v p q
 inside_found None end v p q fits e = ok_is p q e
 inside_found (Some table) end v p q fits e = scan_found item_taken ItemPut item_found table (length v) end p q v (omega arith) fits e
 
@@ -196,7 +187,7 @@ inside_again : (o : Option (List (ℕ × Slot))) (end : ℕ) (v : List ℕ) (p q
 inside_again None end v p q e = ap fine e
 inside_again (Some table) end v p q e = scan_again item_taken ItemPut item_again table (length v) end p q v e.0 (omega arith) e.1 e.2
 
-group_found : (end : ℕ) (slot : Option Slot) (v : List ℕ) (p q : Parameters) → IsOctets v → group_inside end slot v p ≡ Ok q → GroupPut slot v p q
+group_found : (end : ℕ) (slot : Option Slot) (v : List ℕ) (p q : Parameters) → AreOctets v → group_inside end slot v p ≡ Ok q → GroupPut slot v p q
 group_found end None v p q fits e = ok_is p q e
 group_found end (Some slot) v p q fits e = inside_found (items_of slot) end v p q fits e
 
@@ -204,7 +195,7 @@ group_again : (end : ℕ) (slot : Option Slot) (v : List ℕ) (p q : Parameters)
 group_again end None v p q e = ap fine e
 group_again end (Some slot) v p q e = inside_again (items_of slot) end v p q e
 
-pub parameter_found : (end : ℕ) (slot : Option Slot) (v : List ℕ) (p q : Parameters) → IsOctets v → parameter_taken end slot v p ≡ Ok q → ParameterPut slot v p q
+pub parameter_found : (end : ℕ) (slot : Option Slot) (v : List ℕ) (p q : Parameters) → AreOctets v → parameter_taken end slot v p ≡ Ok q → ParameterPut slot v p q
 parameter_found end slot v p q fits e =
     let b = bound (item_taken end slot v p) (group_inside end slot v) q e in
     (b.0, item_found end slot v p b.0 fits b.1, group_found end slot v b.0 q fits b.2)
@@ -218,7 +209,7 @@ pub known_found : (place : ℕ) (o : Option SpduKind) (kind : SpduKind) → know
 known_found place None kind e = absurd cc
 known_found place (Some k) kind e = ap is_kind (ok_is k kind e)
 
-pub unit_found : (table : List (ℕ × SpduKind)) (end : ℕ) (xs : List ℕ) (u : SpduKind × Parameters × List ℕ) → IsOctets xs → unit_at table end xs ≡ Ok u
+pub unit_found : (table : List (ℕ × SpduKind)) (end : ℕ) (xs : List ℕ) (u : SpduKind × Parameters × List ℕ) → AreOctets xs → unit_at table end xs ≡ Ok u
     → (unit : List ℕ) × IsUnit table u.0 u.1 unit × (xs ≡ unit ++ u.2)
 unfolding unit_at
 unit_found table end [] u fits e = absurd cc
@@ -227,9 +218,9 @@ unit_found table end (x ∷ xs) u fits e =
     let b = bound (value_at end xs) _ u a.2 in
     let v = b.0 in
     let c = bound (parameters_at a.0 (front end v.1) v.0) _ u b.2 in
-    let w = value_found end xs v (octets-rest x xs fits) b.1 in
-    let behind = octets-behind w.0 (v.0 ++ v.1) (subst IsOctets w.2 (octets-rest x xs fits)) in
-    let f = scan_found parameter_taken ParameterPut parameter_found (parameters_of a.0) (length v.0) (front end v.1) none_yet c.0 v.0 (omega arith) (octets-before v.0 v.1 behind) c.1 in
+    let w = value_found end xs v (octets_tail x xs fits) b.1 in
+    let behind = octets_right w.0 (v.0 ++ v.1) (subst AreOctets w.2 (octets_tail x xs fits)) in
+    let f = scan_found parameter_taken ParameterPut parameter_found (parameters_of a.0) (length v.0) (front end v.1) none_yet c.0 v.0 (omega arith) (octets_left v.0 v.1 behind) c.1 in
     let is : IsUnit table a.0 c.0 (x ∷ w.0 ++ v.0) = record {
       code = x;
       value = v.0;
@@ -287,7 +278,7 @@ last_again table end word octets l =
     let allowed : (has_information l.kind || length l.behind == 0) ≡ true = allows (has_information l.kind) l.behind l.information in
     rw (l.means, allowed) refl
 
-second_found : (end : ℕ) (xs : List ℕ) (word : SessionWord) → IsOctets xs → second_at end xs ≡ Ok word → IsLast second_units word xs
+second_found : (end : ℕ) (xs : List ℕ) (word : SessionWord) → AreOctets xs → second_at end xs ≡ Ok word → IsLast second_units word xs
 second_found end xs word fits e =
     let b = bound (unit_at second_units end xs) (λ u. last_word end u.0 u.1 u.2) word e in
     let f = unit_found second_units end xs b.0 fits b.1 in
@@ -297,13 +288,13 @@ pub second_again : (end : ℕ) (xs : List ℕ) (word : SessionWord) → IsLast s
 second_again end xs word l =
     ap (λ t. unit_at second_units end t >>= λ u. last_word end u.0 u.1 u.2) l.parts ∙ ap (λ r. r >>= λ u. last_word end u.0 u.1 u.2) (unit_again second_units end l.kind l.found l.unit l.behind l.is) ∙ last_again second_units end word xs l
 
-pub all_found : (xs : List ℕ) (ws : List SessionWord) → IsOctets xs → units_at xs ≡ Ok ws → AreUnits ws xs
+pub all_found : (xs : List ℕ) (ws : List SessionWord) → AreOctets xs → units_at xs ≡ Ok ws → AreUnits ws xs
 unfolding units_at
 all_found xs ws fits e =
     let b = bound (unit_at first_units (length xs) xs) (behind_first (length xs)) ws e in
     let u = b.0 in
     let f = unit_found first_units (length xs) xs u fits b.1 in
-    let behind = octets-behind f.0 u.2 (subst IsOctets f.2 fits) in
+    let behind = octets_right f.0 u.2 (subst AreOctets f.2 fits) in
     elim (chosen (is_first u.0 u.2) _ _ (Ok ws) b.2) [
       | inl p ↦ (
           let c = bound (worded (front (length xs) u.2) (word_of u.0 false u.1 [])) _ ws p.1 in
@@ -352,6 +343,6 @@ all_again xs (w ∷ v ∷ []) a =
 all_again xs (w ∷ v ∷ u ∷ ws) a = absurd a
 
 -- what a reader found, seen through its result
-pub found_of : (r : Result (List SessionWord) SFault) (xs : List ℕ) → IsOctets xs → Gives r (units_at xs) → IfOk r (λ words. AreUnits words xs)
+pub found_of : (r : Result (List SessionWord) SFault) (xs : List ℕ) → AreOctets xs → Gives r (units_at xs) → IfOk r (λ words. AreUnits words xs)
 found_of (Ok words) xs fits e = all_found xs words fits e
 found_of (Err f) xs fits e = tt

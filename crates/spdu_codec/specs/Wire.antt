@@ -1,5 +1,5 @@
 -- Session units as octets (X.225 8.2, 8.3).
-use Rattle.std.specs.Prelude.{◌≡◌, ℕ, ◌/◌, ◌%◌, ◌<◌, ◌⊎◌, true, false, List, [], ◌∷◌, ◌++◌, length, slice_index, Option, Some, None}
+use Rattle.std.specs.Prelude.{◌≡◌, ℕ, ◌/◌, ◌%◌, ◌<◌, ◌⊎◌, true, false, List, [], ◌∷◌, ◌++◌, length, Option, Some, None}
 use Rattle.osi_base.specs.declared.session_word.SessionWord.{SessionWord}
 use Rattle.osi_base.specs.Limits.{past_two_octets}
 use Rattle.spdu_codec.specs.declared.kind.SpduKind.{SpduKind}
@@ -8,10 +8,6 @@ use Rattle.spdu_codec.specs.declared.parameters.Parameters.{Parameters}
 use Rattle.spdu_codec.specs.Tables.{row_of, first_units, second_units, parameters_of, items_of}
 use Rattle.spdu_codec.specs.Parameters.{none_yet, is_free, put}
 use Rattle.spdu_codec.specs.Words.{word_of, has_information, leads}
-
--- each number is an octet
-abbrev pub IsOctets : List ℕ → Type 0
-IsOctets xs = (i : ℕ) → slice_index xs i < 256
 
 -- a length: one octet up to 254, or FF and two octets, the higher first, for any (X.225 8.2.5)
 abbrev pub IsLength : ℕ → List ℕ → Type 0

@@ -3,8 +3,9 @@
 ghost use Rattle.std.specs.Prelude.{◌≡◌, ◌≢◌, ◌≤◌, ◌+◌, ◌++◌, ◌⊎◌, ℕ, List, length, Ok};
 ghost use Rattle.osi_base.specs.declared.layer_words.Kind.{Kind};
 ghost use Rattle.osi_base.specs.declared.session_word.SessionWord.{SessionWord};
+ghost use Rattle.osi_base.specs.Octets.{AreOctets};
 ghost use Rattle.spdu_codec.specs.Reading.{UnitFault, units_at};
-ghost use Rattle.spdu_codec.specs.Wire.{AreUnits, IsOctets};
+ghost use Rattle.spdu_codec.specs.Wire.{AreUnits};
 ghost use Rattle.spdu_codec.specs.Faults.{FirstFault};
 ghost use Rattle.spdu_codec.specs.Written.{spelled, parameters_written, units_written, AreFields, AreWritable, octets_in};
 
@@ -18,7 +19,7 @@ pub fn written_is_read()
 
 /// Octets are the units that are read from them, and no others.
 pub fn one_reading()
-    ensures found { (octets : List ℕ) (words : List SessionWord) → IsOctets octets
+    ensures found { (octets : List ℕ) (words : List SessionWord) → AreOctets octets
         → units_at octets ≡ Ok words → AreUnits words octets }
     ensures only { (octets : List ℕ) (words : List SessionWord) → AreUnits words octets
         → units_at octets ≡ Ok words }
@@ -28,12 +29,12 @@ pub fn one_reading()
 
 /// Octets are units or have a first fault, and not both, and they have one first fault at most.
 pub fn units_or_fault()
-    ensures either { (octets : List ℕ) → IsOctets octets
+    ensures either { (octets : List ℕ) → AreOctets octets
         → ((words : List SessionWord) × AreUnits words octets) ⊎ ((f : UnitFault)
         × FirstFault octets f) }
     ensures not_both { (octets : List ℕ) (words : List SessionWord) (f : UnitFault)
-        → IsOctets octets → AreUnits words octets → FirstFault octets f → ⊥ }
-    ensures one { (octets : List ℕ) (f g : UnitFault) → IsOctets octets → FirstFault octets f
+        → AreOctets octets → AreUnits words octets → FirstFault octets f → ⊥ }
+    ensures one { (octets : List ℕ) (f g : UnitFault) → AreOctets octets → FirstFault octets f
         → FirstFault octets g → f ≡ g }
 {}
 

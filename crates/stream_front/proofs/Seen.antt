@@ -13,7 +13,7 @@ use Rattle.ber_spelling.specs.Reading.{Spot, Opened, Reading, ◌>>=◌, within,
 use Rattle.ber_spelling.specs.Fields.{identifier_at, high_at, digits_at, is_lax, opened_at, definite_at, contents_at, look_at}
 use Rattle.asn1_types.specs.Tags.{capped}
 use Rattle.ber_spelling.specs.Rules.{whole_at, any_at, reads, plain, value_at, read_at, outermost as outermost_scope}
-use Rattle.stub_tables.specs.Heads.{head_rows, any_row}
+use Rattle.stub_tables.specs.AnyValue.{any_value_rows, any_value_row}
 use Rattle.stream_front.specs.declared.first_value.FirstValue.{FirstValue}
 use Rattle.stream_front.specs.declared.first_value.FirstValue.TheVariants.{Short, Whole, Faulty}
 use Rattle.stream_front.specs.declared.scanner.Scanner.{Scanner}
@@ -43,7 +43,7 @@ whole_lax : (strict : Bool) (o : Opened) (t : Spot) → whole_at 32 tt (outermos
 unfolding whole_at
 whole_lax strict o t = refl
 
-read_then : (strict : Bool) (x : Reading (Opened × Spot)) → front_of ((x >>= λ y. reads head_rows any_row plain (outermost_scope 262144 strict) y.0 y.1) >>= with_place)
+read_then : (strict : Bool) (x : Reading (Opened × Spot)) → front_of ((x >>= λ y. reads any_value_rows any_value_row plain (outermost_scope 262144 strict) y.0 y.1) >>= with_place)
     ≡ outcome (x >>= λ y. whole_at 32 tt (scope_in 0) y.0 y.1)
 unfolding reads any_at
 read_then strict (Ok y) = whole_outcome (whole_at 32 tt (outermost_scope 262144 strict) y.0 y.1) (λ w. any (take (length y.0.start.rest - length w.1.rest) y.0.start.rest)) ∙ ap outcome (whole_lax strict y.0 y.1)

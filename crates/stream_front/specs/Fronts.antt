@@ -5,7 +5,7 @@ use Rattle.asn1_types.specs.Value.{Value}
 use Rattle.ber_spelling.specs.declared.fault.ReadFault.{ReadFault}
 use Rattle.ber_spelling.specs.declared.fault.ReadFault.TheVariants as faults
 use Rattle.ber_spelling.specs.Rules.{read_at}
-use Rattle.stub_tables.specs.Heads.{head_rows, any_row}
+use Rattle.stub_tables.specs.AnyValue.{any_value_rows, any_value_row}
 use Rattle.stream_front.specs.declared.first_value.FirstValue.{FirstValue}
 use Rattle.stream_front.specs.declared.first_value.FirstValue.TheVariants.{Short, Whole, Faulty}
 
@@ -23,4 +23,4 @@ front_of (Err fault) = faulty fault
 
 -- What octets begin with, in BER or in DER alone. A value has at most 262,144 octets.
 unfoldable pub front_at : Bool → List ℕ → FirstValue
-front_at strict octets = front_of (read_at head_rows any_row strict most_octets octets)
+front_at strict octets = front_of (read_at any_value_rows any_value_row strict most_octets octets)

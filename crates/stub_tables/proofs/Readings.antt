@@ -1,8 +1,7 @@
 -- Whole values, read from the left.
-use Rattle.std.proofs.Common.{◌≡◌, ◌≢◌, ℕ, zero, suc, false, List, [], ◌∷◌, ◌++◌, length, take, Some, None, Result, Ok, Err, refl, sym, ap, subst, ◌∙◌, arith, slice_get, append_assoc}
-use Rattle.std.specs.List.{AllByRecursion}
-use Rattle.std.proofs.lemmas.List.{append-nil}
+use Rattle.std.proofs.Common.{◌≡◌, ◌≢◌, ℕ, zero, suc, false, List, [], ◌++◌, length, take, Some, None, Result, Ok, Err, refl, sym, ap, subst, ◌∙◌, slice_get}
 use Rattle.asn1_types.specs.declared.row.TypeRow.{TypeRow}
+use Rattle.asn1_types.specs.declared.row.TypeRow.TheVariants.{Any}
 use Rattle.asn1_types.specs.Rows.{nesting, openings}
 use Rattle.asn1_types.specs.Table.{HasShortTag, AreSoundRows, refusal}
 use Rattle.asn1_types.specs.Value.{Value, any}
@@ -11,45 +10,33 @@ use Rattle.ber_spelling.specs.declared.fault.ReadFault.TheVariants.{Short}
 use Rattle.ber_spelling.specs.Rules.{read_at, value_at}
 use Rattle.ber_spelling.specs.Fields.{identifier_at}
 use Rattle.ber_spelling.proofs.WholeValues.{spelled_is_read, none_begins, fault_stays}
-use Rattle.stub_tables.specs.Heads.{head_rows, any_row}
+use Rattle.stub_tables.specs.AnyValue.{any_value_rows, any_value_row}
 use Rattle.stub_tables.specs.Apdus.{IsWhole, IsShort, IsFaulty, place_of}
 
--- ---- the rows of the heads
-
--- each row can be added behind those before it
-abbrev AreAdded : List TypeRow → List TypeRow → Type 0
-AreAdded front [] = Unit {0}
-AreAdded front (row ∷ rows) = (refusal front row ≡ None) × AreAdded (front ++ row ∷ []) rows
+-- ---- the table of any value
 
 some_is : {X : Type 0} (a b : X) → Some a ≡ Some b → a ≡ b
 some_is a b h = cc
 
-added : (front rows : List TypeRow) → AreAdded front rows → (n : ℕ) (row : TypeRow) → slice_get rows n ≡ Some row → refusal (front ++ take n rows) row ≡ None
-added front [] h n row e = absurd cc
-added front (r ∷ rows) h zero row e =
-    subst (λ (x : TypeRow). refusal (front ++ []) x ≡ None) (some_is r row e) (ap (λ (x : List TypeRow). refusal x r) (append-nil front) ∙ h.0)
-added front (r ∷ rows) h (suc n) row e =
-    ap (λ (x : List TypeRow). refusal x row) (sym (append_assoc front (r ∷ []) (take n rows))) ∙ added (front ++ r ∷ []) rows h.1 n row e
-
-heads_added : AreAdded [] head_rows
+any_added : refusal [] Any ≡ None
 unfolding refusal nesting openings
-heads_added = (refl, (refl, (refl, (refl, (refl, (refl, (refl, (refl, (refl, (refl, (refl, (refl, (refl, (refl, tt))))))))))))))
+any_added = refl
 
-short_at : (rows : List TypeRow) → AllByRecursion HasShortTag rows → (n : ℕ) (row : TypeRow) → slice_get rows n ≡ Some row → HasShortTag row
-short_at [] h n row e = absurd cc
-short_at (r ∷ rows) h zero row e = subst HasShortTag (some_is r row e) h.0
-short_at (r ∷ rows) h (suc n) row e = short_at rows h.1 n row e
+any_each : (n : ℕ) (row : TypeRow) → slice_get any_value_rows n ≡ Some row → refusal (take n any_value_rows) row ≡ None
+any_each zero row e = subst (λ (x : TypeRow). refusal [] x ≡ None) (some_is Any row e) any_added
+any_each (suc n) row e = absurd cc
 
-heads_short : AllByRecursion HasShortTag head_rows
-heads_short = (tt, (tt, (tt, (tt, (omega arith, (tt, (tt, (omega arith, (tt, (tt, (omega arith, (tt, (omega arith, (tt, tt))))))))))))))
+any_short : (n : ℕ) (row : TypeRow) → slice_get any_value_rows n ≡ Some row → HasShortTag row
+any_short zero row e = subst HasShortTag (some_is Any row e) tt
+any_short (suc n) row e = absurd cc
 
-pub heads_sound : AreSoundRows head_rows
-heads_sound = record { each = added [] head_rows heads_added; short = short_at head_rows heads_short }
+pub any_value_sound : AreSoundRows any_value_rows
+any_value_sound = record { each = any_each; short = any_short }
 
 -- ---- whole values
 
 abbrev read_any : List ℕ → Result (Value × ℕ) ReadFault
-read_any text = read_at head_rows any_row false 262144 text
+read_any text = read_at any_value_rows any_value_row false 262144 text
 
 abbrev done : Value × ℕ → Result (Value × ℕ) ReadFault
 done x = Ok x
@@ -59,11 +46,11 @@ failed f = Err f
 
 pub whole_read : (whole more : List ℕ) → IsWhole whole → read_any (whole ++ more) ≡ done (any whole, length whole)
 unfolding IsWhole
-whole_read whole more w = spelled_is_read head_rows any_row false 262144 (any whole) whole more heads_sound w
+whole_read whole more w = spelled_is_read any_value_rows any_value_row false 262144 (any whole) whole more any_value_sound w
 
 pub one_whole : (a b x y : List ℕ) → IsWhole a → IsWhole b → a ++ x ≡ b ++ y → a ≡ b
 unfolding IsWhole
-one_whole a b x y p q e = (none_begins head_rows any_row false 262144 (any a) (any b) a b x y heads_sound p q e).0
+one_whole a b x y p q e = (none_begins any_value_rows any_value_row false 262144 (any a) (any b) a b x y any_value_sound p q e).0
 
 not_both : (x : Value × ℕ) (f : ReadFault) → done x ≡ failed f → ⊥
 not_both x f e = cc
@@ -74,7 +61,7 @@ not_none f place e s = let no : place_of Short ≡ Some place = ap place_of (sym
 pub no_fault : (front x whole y : List ℕ) (place : ℕ) → IsFaulty front place → IsWhole whole → front ++ x ≡ whole ++ y → ⊥
 unfolding IsFaulty
 no_fault front x whole y place f w e =
-    let stays : read_any (front ++ x) ≡ failed f.0 = fault_stays head_rows any_row false 262144 front x f.0 (not_none f.0 place f.2) f.1 in
+    let stays : read_any (front ++ x) ≡ failed f.0 = fault_stays any_value_rows any_value_row false 262144 front x f.0 (not_none f.0 place f.2) f.1 in
     not_both (any whole, length whole) f.0 (sym (whole_read whole y w) ∙ ap read_any (sym e) ∙ stays)
 
 pub not_short : (text whole y : List ℕ) → IsShort text → IsWhole whole → text ≡ whole ++ y → ⊥

@@ -16,18 +16,18 @@ use Rattle.stub_tables.specs.declared.operation.ErrorRow.{ErrorRow}
 use Rattle.stub_tables.specs.declared.apdu.Apdu.{Apdu}
 use Rattle.stub_tables.specs.declared.apdu.Apdu.TheVariants.{Invoke, Result, Error, Reject}
 use Rattle.stub_tables.specs.declared.apdu.Returned.{Returned}
-use Rattle.stub_tables.specs.Heads.{head_rows, any_row}
+use Rattle.stub_tables.specs.AnyValue.{any_value_rows, any_value_row}
 use Rattle.stub_tables.specs.Lookup.{operation_at, operation_with, error_at, error_with}
 
 -- ---- whole values
 
 -- The octets are one whole value, whatever its type (X.690 8.1).
 unfoldable pub IsWhole : List ℕ → Type 0
-IsWhole text = Ber head_rows any_row (any text) text
+IsWhole text = Ber any_value_rows any_value_row (any text) text
 
 -- They end before a value does.
 unfoldable pub IsShort : List ℕ → Type 0
-IsShort text = read_at head_rows any_row false most_octets text ≡ Err Short
+IsShort text = read_at any_value_rows any_value_row false most_octets text ≡ Err Short
 
 abbrev pub place_of : ReadFault → Option ℕ
 place_of (NotSpelled place kind) = Some place
@@ -37,7 +37,7 @@ place_of _ = None
 
 -- Their first field from the left that breaks the rules is at this place, however they go on.
 unfoldable pub IsFaulty : List ℕ → ℕ → Type 0
-IsFaulty text place = (fault : ReadFault) × (read_at head_rows any_row false most_octets text ≡ Err fault) × (place_of fault ≡ Some place)
+IsFaulty text place = (fault : ReadFault) × (read_at any_value_rows any_value_row false most_octets text ≡ Err fault) × (place_of fault ≡ Some place)
 
 -- ---- what an operation or an error carries
 

@@ -2,6 +2,6 @@ pub mod Codes
 pub mod Places
 pub mod Lookup
 pub mod Uses
-pub mod Heads
+pub mod AnyValue
 pub mod Apdus
 pub mod Readable

@@ -12,14 +12,16 @@ use Rattle.asn1_types.specs.Fits.{is_text, has_32_bits}
 use Rattle.asn1_types.specs.Value.{Value, boolean, integer, null, octets, bits, object_id, text, parts, list, chosen, any}
 use Rattle.packed_codec.specs.declared.fault.PackedFault.{PackedFault}
 use Rattle.packed_codec.specs.Laws.{packs}
-use Rattle.ber_spelling.specs.Octets.{AreOctets}
-use Rattle.packed_codec.specs.Rules.{read_at}
+use Rattle.osi_base.specs.Octets.{AreOctets}
+use Rattle.osi_base.proofs.OctetLaws.{octets_left}
+use Rattle.packed_codec.specs.Rules.{read_at, spent}
 use Rattle.packed_codec.specs.Writing.{counted, packed, items}
-use Rattle.packed_codec.proofs.Taking.{octets_left}
 use Rattle.packed_codec.proofs.WholeValues.{written_is_read, read_is_spelled}
+use Rattle.packed_codec.specs.Fields.{moved}
+use Rattle.packed_codec.specs.Reading.{Spot}
 use Rattle.table_file.specs.declared.fault.Stop.{Stop}
 use Rattle.table_file.specs.FieldTypes.{field_types}
-use Rattle.table_file.specs.Reading.{Spot, Reading, ◌>>=◌, moved, spent, refuse}
+use Rattle.table_file.specs.Reading.{Reading, ◌>>=◌, refuse}
 use Rattle.table_file.specs.Fields.{octets_at, octet_at, count_at, counted_at, truth_of, judged, truth_at, text_at, shifted, value_at, number_in, arcs_in, integer_at, object_id_at}
 use Rattle.table_file.specs.Files.{integer_file, oid_file, truth_file}
 use Rattle.table_file.specs.Sound.{IsNumber, AreArcs}

@@ -8,9 +8,10 @@ use Rattle.asn1_types.specs.declared.row.Part.{Part}
 use Rattle.asn1_types.specs.declared.row.TypeRow.{TypeRow}
 use Rattle.asn1_types.specs.declared.row.TypeRow.TheVariants as rows
 use Rattle.notation_tokens.specs.Words.{is_name_of_type}
-use Rattle.ber_spelling.specs.Octets.{AreOctets}
+use Rattle.osi_base.specs.Octets.{AreOctets}
+use Rattle.osi_base.proofs.OctetLaws.{octets_right}
 use Rattle.packed_codec.specs.Writing.{counted}
-use Rattle.packed_codec.proofs.Taking.{octets_right}
+use Rattle.packed_codec.specs.Reading.{Spot}
 use Rattle.stub_tables.specs.declared.operation.Operation.{Operation}
 use Rattle.stub_tables.specs.declared.operation.ErrorRow.{ErrorRow}
 use Rattle.table_file.specs.declared.fault.Stop.{Stop}
@@ -19,7 +20,7 @@ use Rattle.table_file.specs.declared.fault.LoadFault.{LoadFault}
 use Rattle.table_file.specs.declared.row_parts.Version.{Version}
 use Rattle.table_file.specs.declared.row_parts.Version.TheVariants as versions
 use Rattle.table_file.specs.Contents.{Contents}
-use Rattle.table_file.specs.Reading.{Spot, Reading, ◌>>=◌}
+use Rattle.table_file.specs.Reading.{Reading, ◌>>=◌}
 use Rattle.table_file.specs.Fields.{text_at, object_id_at}
 use Rattle.table_file.specs.Rows.{adds, rows_at}
 use Rattle.table_file.specs.Sections.{adds_error, errors_at, adds_operation, operations_at}

@@ -2,7 +2,8 @@
 use Rattle.std.proofs.Common.{◌≡◌, ℕ, zero, suc, ◌+◌, ◌-◌, ◌<◌, ◌≤◌, Ok, Err, refl, sym, ap, subst, ◌∙◌, arith}
 use Rattle.table_file.specs.declared.fault.Stop.{Stop}
 use Rattle.table_file.specs.declared.fault.Stop.TheVariants.{Cut, Bad, NoMemory}
-use Rattle.table_file.specs.Reading.{Spot, Reading, ◌>>=◌, FailsWith, fold_at}
+use Rattle.packed_codec.specs.Reading.{Spot}
+use Rattle.table_file.specs.Reading.{Reading, ◌>>=◌, FailsWith, fold_at}
 use Rattle.table_file.specs.Fields.{counted_at, many_at}
 
 -- a fault of the first is one of both

@@ -3,8 +3,9 @@ use Rattle.std.proofs.Common.{◌≡◌, ℕ, zero, suc, ◌+◌, ◌^◌, ◌�
 use Rattle.std.specs.List.{flat_map}
 use Rattle.std.proofs.lemmas.List.{append-nil}
 use Rattle.byteorder.specs.Endian.{big_bytes}
-use Rattle.ber_spelling.specs.Octets.{AreOctets}
-use Rattle.table_file.specs.Reading.{Spot, Reading, ◌>>=◌, fold_at}
+use Rattle.osi_base.specs.Octets.{AreOctets}
+use Rattle.packed_codec.specs.Reading.{Spot}
+use Rattle.table_file.specs.Reading.{Reading, ◌>>=◌, fold_at}
 use Rattle.table_file.specs.Fields.{counted_at, many_at}
 use Rattle.table_file.specs.RowParts.{joined, joins, list_at}
 use Rattle.table_file.specs.Files.{list_file}

@@ -15,13 +15,14 @@ use Rattle.asn1_types.specs.declared.refusal.RowRefusal.{RowRefusal}
 use Rattle.asn1_types.specs.Rows.{class_number}
 use Rattle.asn1_types.specs.Table.{refusal}
 use Rattle.notation_tokens.specs.Words.{is_name_of_value}
-use Rattle.ber_spelling.specs.Octets.{AreOctets}
+use Rattle.osi_base.specs.Octets.{AreOctets}
 use Rattle.packed_codec.specs.Writing.{counted}
+use Rattle.packed_codec.specs.Reading.{Spot}
 use Rattle.table_file.specs.declared.row_parts.Version.{Version}
 use Rattle.table_file.specs.declared.row_parts.Version.TheVariants as versions
 use Rattle.table_file.specs.declared.rows.Made.{Made}
 use Rattle.table_file.specs.declared.rows.Made.TheVariants as makes
-use Rattle.table_file.specs.Reading.{Spot, Reading, ◌>>=◌}
+use Rattle.table_file.specs.Reading.{Reading, ◌>>=◌}
 use Rattle.table_file.specs.Fields.{octet_at, truth_at, text_at, integer_at}
 use Rattle.table_file.specs.RowParts.{number_32, name_at, id_of, row_number_at, list_at, item_of, item_at, default_if, default_at, part_of, part_at, index_of, index_at}
 use Rattle.asn1_types.specs.Numbered.{kind_numbered, class_numbered}

@@ -4,14 +4,15 @@ use Rattle.std.specs.Prelude.{◌||◌, ℤ, pos, nat_lt, if◌then◌else◌}
 use Rattle.std.proofs.lemmas.Bool.{lt-ltb, ltb-true}
 use Rattle.asn1_types.specs.declared.row.TypeId.{TypeId}
 use Rattle.asn1_types.specs.declared.row.TypeRow.{TypeRow}
-use Rattle.ber_spelling.specs.Octets.{AreOctets}
+use Rattle.osi_base.specs.Octets.{AreOctets}
 use Rattle.packed_codec.specs.Writing.{counted}
+use Rattle.packed_codec.specs.Reading.{Spot}
 use Rattle.stub_tables.specs.declared.operation.Use.{Use}
 use Rattle.stub_tables.specs.declared.operation.Code.{Code}
 use Rattle.stub_tables.specs.declared.operation.Code.TheVariants.{Local, Global}
 use Rattle.stub_tables.specs.declared.operation.Operation.{Operation}
 use Rattle.stub_tables.specs.declared.operation.ErrorRow.{ErrorRow}
-use Rattle.table_file.specs.Reading.{Spot, Reading, ◌>>=◌}
+use Rattle.table_file.specs.Reading.{Reading, ◌>>=◌}
 use Rattle.table_file.specs.Fields.{octet_at, truth_at, integer_at, object_id_at}
 use Rattle.table_file.specs.RowParts.{name_at, row_number_at, list_at, index_at}
 use Rattle.table_file.specs.Sections.{code_behind, code_at, known_row, some_type, type_if, type_at, use_of, use_at, error_of, error_at, error_named, error_coded, unless, error_added, adds_error, both, operation_of, operation_at, operation_named, operation_coded, operation_added, adds_operation}

@@ -1,9 +1,10 @@
 -- Reading from a spot: what comes of octets that are known, and where reading went.
 use Rattle.std.proofs.Common.{◌≡◌, ℕ, ◌+◌, List, ◌++◌, Result, Ok, Err, refl, sym, ap, subst, ◌∙◌, append_assoc, arith}
-use Rattle.ber_spelling.specs.Octets.{AreOctets}
-use Rattle.packed_codec.proofs.Taking.{octets_right}
+use Rattle.osi_base.specs.Octets.{AreOctets}
+use Rattle.osi_base.proofs.OctetLaws.{octets_right}
 use Rattle.table_file.specs.declared.fault.Stop.{Stop}
-use Rattle.table_file.specs.Reading.{Spot, Reading, ◌>>=◌}
+use Rattle.packed_codec.specs.Reading.{Spot}
+use Rattle.table_file.specs.Reading.{Reading, ◌>>=◌}
 
 abbrev pub at : ℕ → List ℕ → ℕ → Spot
 at place rest left = record { place = place; rest = rest; left = left }

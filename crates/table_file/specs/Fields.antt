@@ -7,11 +7,13 @@ use Rattle.asn1_types.specs.Fits.{is_text}
 use Rattle.asn1_types.specs.Value.{Value, integer, object_id}
 use Rattle.packed_codec.specs.declared.fault.PackedFault.{PackedFault}
 use Rattle.packed_codec.specs.declared.fault.PackedFault.TheVariants as packed
-use Rattle.packed_codec.specs.Rules.{read_at}
+use Rattle.packed_codec.specs.Rules.{read_at, spent}
+use Rattle.packed_codec.specs.Fields.{moved}
+use Rattle.packed_codec.specs.Reading.{Spot}
 use Rattle.table_file.specs.declared.fault.Stop.{Stop}
 use Rattle.table_file.specs.declared.fault.Stop.TheVariants.{Cut, Bad, NoMemory}
 use Rattle.table_file.specs.FieldTypes.{field_types}
-use Rattle.table_file.specs.Reading.{Spot, Reading, ◌>>=◌, moved, spent, refuse, fold_at}
+use Rattle.table_file.specs.Reading.{Reading, ◌>>=◌, refuse, fold_at}
 
 unfoldable pub octets_at : ℕ → Spot → Reading (List ℕ × Spot)
 octets_at n s = if nat_lt (length s.rest) n then Err Cut else Ok (take n s.rest, moved n s)

@@ -1,7 +1,7 @@
 -- What table files are, apart from how they are read.
 use Rattle.std.specs.Prelude.{◌≡◌, ℕ, ◌≤◌, List, length, Ok}
 use Rattle.osi_base.specs.Limits.{text_most, most_items}
-use Rattle.ber_spelling.specs.Octets.{AreOctets}
+use Rattle.osi_base.specs.Octets.{AreOctets}
 use Rattle.table_file.specs.declared.row_parts.Version.{Version}
 use Rattle.table_file.specs.declared.row_parts.Version.TheVariants as versions
 use Rattle.table_file.specs.Contents.{Contents}

@@ -12,7 +12,8 @@ use Rattle.table_file.specs.declared.row_parts.Version.{Version}
 use Rattle.table_file.specs.declared.row_parts.Version.TheVariants as versions
 use Rattle.table_file.specs.Contents.{Contents, contents_of}
 use Rattle.table_file.specs.Files.{file_of}
-use Rattle.table_file.specs.Reading.{Spot, Reading, ◌>>=◌, refuse}
+use Rattle.packed_codec.specs.Reading.{Spot}
+use Rattle.table_file.specs.Reading.{Reading, ◌>>=◌, refuse}
 use Rattle.table_file.specs.Fields.{text_at, object_id_at}
 use Rattle.table_file.specs.Rows.{rows_at}
 use Rattle.table_file.specs.Sections.{errors_at, operations_at}

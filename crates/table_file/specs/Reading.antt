@@ -1,24 +1,13 @@
 -- Reading from the left: what the readers give is a function of the octets.
-use Rattle.std.specs.Prelude.{◌≡◌, ℕ, zero, suc, ◌+◌, ◌-◌, List, drop, Result, Ok, Err}
+use Rattle.std.specs.Prelude.{◌≡◌, ℕ, zero, suc, Result, Ok, Err}
+use Rattle.packed_codec.specs.Reading.{Spot}
 use Rattle.table_file.specs.declared.fault.Stop.{Stop}
 use Rattle.table_file.specs.declared.fault.Stop.TheVariants as stops
 use Rattle.table_file.specs.declared.spot.Spot as code
 
--- a place, the octets from there on, and how many items of lists may still be counted
-pub record Spot : Type 0 where
-  pub place : ℕ
-  pub rest : List ℕ
-  pub left : ℕ
-
+-- where the code stands, as a spot of the packed syntax
 abbrev pub spot_of : code.Spot → Spot
 spot_of s = record { place = s.place; rest = s.rest.now; left = s.left }
-
-abbrev pub moved : ℕ → Spot → Spot
-moved n s = record { place = s.place + n; rest = drop n s.rest; left = s.left }
-
--- the spot, once that many more items are counted
-abbrev pub spent : ℕ → Spot → Spot
-spent n s = record { place = s.place; rest = s.rest; left = s.left - n }
 
 abbrev pub Reading : Type 0 → Type 0
 Reading A = Result A Stop

@@ -8,7 +8,8 @@ use Rattle.asn1_types.specs.declared.row.TypeId.{TypeId}
 use Rattle.notation_tokens.specs.Words.{is_name_of_value}
 use Rattle.table_file.specs.declared.row_parts.Version.{Version}
 use Rattle.table_file.specs.declared.row_parts.Version.TheVariants as versions
-use Rattle.table_file.specs.Reading.{Spot, Reading, ◌>>=◌}
+use Rattle.packed_codec.specs.Reading.{Spot}
+use Rattle.table_file.specs.Reading.{Reading, ◌>>=◌}
 use Rattle.table_file.specs.Fields.{many_at, truth_at, text_at, integer_at}
 
 -- a number of 32 bits

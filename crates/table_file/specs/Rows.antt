@@ -12,7 +12,8 @@ use Rattle.table_file.specs.declared.row_parts.Version.{Version}
 use Rattle.table_file.specs.declared.row_parts.Version.TheVariants as versions
 use Rattle.table_file.specs.declared.rows.Made.{Made}
 use Rattle.table_file.specs.declared.rows.Made.TheVariants as makes
-use Rattle.table_file.specs.Reading.{Spot, Reading, ◌>>=◌, refuse}
+use Rattle.packed_codec.specs.Reading.{Spot}
+use Rattle.table_file.specs.Reading.{Reading, ◌>>=◌, refuse}
 use Rattle.table_file.specs.Fields.{octet_at, many_at, truth_at, integer_at}
 use Rattle.table_file.specs.RowParts.{number_32, row_number_at, list_at, item_at, part_at}
 

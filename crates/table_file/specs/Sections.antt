@@ -11,7 +11,8 @@ use Rattle.stub_tables.specs.declared.operation.Code.TheVariants.{Local, Global}
 use Rattle.stub_tables.specs.declared.operation.Operation.{Operation}
 use Rattle.stub_tables.specs.declared.operation.ErrorRow.{ErrorRow}
 use Rattle.stub_tables.specs.Codes.{same_code}
-use Rattle.table_file.specs.Reading.{Spot, Reading, ◌>>=◌, refuse}
+use Rattle.packed_codec.specs.Reading.{Spot}
+use Rattle.table_file.specs.Reading.{Reading, ◌>>=◌, refuse}
 use Rattle.table_file.specs.Fields.{octet_at, many_at, truth_at, integer_at, object_id_at}
 use Rattle.table_file.specs.RowParts.{name_at, row_number_at, list_at, index_at}
 

@@ -6,6 +6,8 @@ use Rattle.std.proofs.lemmas.Bool.{lt-leb, ltb-false, le-ltb, leb-true, leb-fals
 use Rattle.std.proofs.lemmas.List.{take-append-drop, length-append, length-take}
 use Rattle.osi_base.specs.declared.layer_words.Kind.TheVariants as kinds
 use Rattle.osi_base.specs.Limits.{tsdu_limit}
+use Rattle.osi_base.specs.Octets.{AreOctets}
+use Rattle.osi_base.proofs.OctetLaws.{octets_right}
 use Rattle.tpkt.specs.declared.packet.ConnectionFields.{ConnectionFields}
 use Rattle.tpkt.specs.declared.packet.Packet.{Packet}
 use Rattle.tpkt.specs.declared.packet.Packet.TheVariants.{Connect, Confirm, Disconnect, Problem, Tsdu}
@@ -15,7 +17,6 @@ use Rattle.tpkt.specs.declared.parameters.Seen.{Seen}
 use Rattle.tpkt.specs.declared.header_stops.Stop.{Stop}
 use Rattle.tpkt.specs.declared.header_stops.Stop.TheVariants.{Short, At}
 use Rattle.tpkt.specs.Wire.{two, packet, header, mark, parameter, values, Whole, Spells, IsConnection, IsDisconnect, IsProblem, IsUnit, IsSize, IsSelector}
-use Rattle.tpkt.specs.Stream.{IsOctets}
 use Rattle.tpkt.specs.Header.{◌>>=◌, nothing_seen, or_empty, parameters_at, ends_at, passed_at, mark_at, data_at, fills, code_at, indicator_at, length_at, header_at}
 use Rattle.tpkt.proofs.Results.{ok_is, refused, passed, chosen, bound}
 use Rattle.tpkt.proofs.ParameterLaws.{Adds, sizes, selectors, eq_is, all_found, all_again}
@@ -179,27 +180,27 @@ pub record DataFound (begun : ℕ) (xs : List ℕ) (left : ℕ) (last : Bool) : 
 part_is : (li code : ℕ) (rest more : List ℕ) (a last : Bool) → li ≡ 2 → code ≡ 240 → rest ≡ mark a ∷ more → a ≡ last → li ∷ code ∷ rest ≡ 2 ∷ 240 ∷ mark last ∷ more
 part_is li code rest more a last e f g h = cc
 
-part_found : (begun : ℕ) (xs : List ℕ) (left : ℕ) (last : Bool) → IsOctets xs → (o : Opens begun xs (Data left last))
+part_found : (begun : ℕ) (xs : List ℕ) (left : ℕ) (last : Bool) → AreOctets xs → (o : Opens begun xs (Data left last))
     → Case begun (256 * o.high + o.low - 5) o.li o.code o.rest (Data left last) → DataFound begun xs left last
 part_found begun xs left last fits o (IsPart code li reads) =
     let d = data_found begun (256 * o.high + o.low - 5 - 2) o.rest (Data left last) reads in
     let s = same_data (256 * o.high + o.low - 5 - 2) left d.1.0 last d.1.3 in
     let at_least = o.at_least in
-    let low : o.low < 256 = (let f : get_or xs 3 0 < 256 = fits 3 in let w = subst IsOctets o.octets fits in omega (arith, w 3)) in
+    let low : o.low < 256 = (let f : get_or xs 3 0 < 256 = fits.each 3 in let w = subst AreOctets o.octets fits in omega (arith, w.each 3)) in
     let n : 256 * o.high + o.low ≡ left + 7 = omega (arith, s.0) in
     let t : o.high ∷ o.low ∷ [] ≡ two (left + 7) = sym (two_is o.high o.low low) ∙ ap two n in
     record {
       more = d.1.1;
       octets = o.octets ∙ ap (λ (f : List ℕ). 3 ∷ 0 ∷ f ++ o.li ∷ o.code ∷ o.rest) t ∙ ap (λ (f : List ℕ). 3 ∷ 0 ∷ two (left + 7) ++ f) (part_is o.li o.code o.rest d.1.1 d.1.0 last li code d.1.2 s.1);
       within = omega (arith, d.0, s.0);
-      size = (let w = subst IsOctets o.octets fits in omega (arith, n, low, w 2));
+      size = (let w = subst AreOctets o.octets fits in omega (arith, n, low, w.each 2));
     }
 part_found begun xs left last fits o (IsRequest code li six ends reads e) = absurd cc
 part_found begun xs left last fits o (IsAnswer code li six ends reads e) = absurd cc
 part_found begun xs left last fits o (IsEnd code li six reads) = absurd (not_data _ _ _ _ _ reads)
 part_found begun xs left last fits o (IsError code li reads) = absurd (not_data _ _ _ _ _ reads)
 
-pub found_data : (begun : ℕ) (xs : List ℕ) (left : ℕ) (last : Bool) → IsOctets xs → header_at begun xs ≡ Ok (Data left last) → DataFound begun xs left last
+pub found_data : (begun : ℕ) (xs : List ℕ) (left : ℕ) (last : Bool) → AreOctets xs → header_at begun xs ≡ Ok (Data left last) → DataFound begun xs left last
 found_data begun xs left last fits e =
     let o = opens begun xs (Data left last) e in
     part_found begun xs left last fits o (code_found begun (256 * o.high + o.low - 5) o.li o.code o.rest (Data left last) o.reads)
@@ -249,12 +250,12 @@ ends_of a b c d seen = record {
 same_fields : (a b c d class value : ℕ) (flat : List ℕ) (x y : List ℕ) → x ≡ a ∷ b ∷ [] → y ≡ c ∷ d ∷ [] → class ≡ value → a ∷ b ∷ c ∷ d ∷ class ∷ flat ≡ x ++ y ++ value ∷ flat
 same_fields a b c d class value flat x y e f g = rw (e, f, g) refl
 
-found_as : (code li a b c d class : ℕ) (seen : Seen) (rest : List ℕ) (ps : List (ℕ × List ℕ)) (more : List ℕ) → 6 ≤ li → IsOctets (a ∷ b ∷ c ∷ d ∷ class ∷ rest) → class ≡ 0
+found_as : (code li a b c d class : ℕ) (seen : Seen) (rest : List ℕ) (ps : List (ℕ × List ℕ)) (more : List ℕ) → 6 ≤ li → AreOctets (a ∷ b ∷ c ∷ d ∷ class ∷ rest) → class ≡ 0
     → rest ≡ flat_map parameter ps ++ more → length (flat_map parameter ps) ≡ li - 6 → Adds nothing_seen ps seen
     → EndsFound code li (ends_of a b c d seen) (a ∷ b ∷ c ∷ d ∷ class ∷ rest)
 found_as code li a b c d class seen rest ps more six fits zero_class parts len adds =
-    let to = two_is a b (fits 1) in
-    let from = two_is c d (fits 3) in
+    let to = two_is a b (fits.each 1) in
+    let from = two_is c d (fits.each 3) in
     let fields = a ∷ b ∷ c ∷ d ∷ class ∷ flat_map parameter ps in
     let same : fields ≡ two (256 * a + b) ++ two (256 * c + d) ++ 0 ∷ flat_map parameter ps = same_fields a b c d class 0 (flat_map parameter ps) (two (256 * a + b)) (two (256 * c + d)) to from zero_class in
     let n : li ≡ length (code ∷ fields) = omega arith in
@@ -264,8 +265,8 @@ found_as code li a b c d class seen rest ps more six fits zero_class parts len a
       parts = ap (λ (r : List ℕ). a ∷ b ∷ c ∷ d ∷ class ∷ r) parts;
       len = omega arith;
       whole = record {
-        destination = omega (arith, fits 0, fits 1);
-        source = omega (arith, fits 2, fits 3);
+        destination = omega (arith, fits.each 0, fits.each 1);
+        source = omega (arith, fits.each 2, fits.each 3);
         parameters = ps;
         whole = ap (λ k. k ∷ code ∷ fields) n ∙ ap (λ (f : List ℕ). header (code ∷ f)) same;
         size = is_size seen.size (values 192 ps) adds.size;
@@ -274,7 +275,7 @@ found_as code li a b c d class seen rest ps more six fits zero_class parts len a
       };
     }
 
-ends_found : (code li : ℕ) (ends : ConnectionFields) (rest : List ℕ) → 6 ≤ li → IsOctets rest → ends_at li rest ≡ Ok ends → EndsFound code li ends rest
+ends_found : (code li : ℕ) (ends : ConnectionFields) (rest : List ℕ) → 6 ≤ li → AreOctets rest → ends_at li rest ≡ Ok ends → EndsFound code li ends rest
 unfolding ends_at
 ends_found code li ends [] six fits e = absurd cc
 ends_found code li ends (a ∷ []) six fits e = absurd cc
@@ -296,30 +297,30 @@ pub record ControlFound (xs : List ℕ) (p : Packet) : Type 0 where
   pub octets : xs ≡ packet unit ++ more
   pub is : (tsdu : List ℕ) → IsUnit tsdu (Whole p) unit
 
-control_is : (begun : ℕ) (xs : List ℕ) (p : Packet) (h : Header) (o : Opens begun xs h) (fields more : List ℕ) → IsOctets xs → o.rest ≡ fields ++ more → length fields + 1 ≡ o.li
+control_is : (begun : ℕ) (xs : List ℕ) (p : Packet) (h : Header) (o : Opens begun xs h) (fields more : List ℕ) → AreOctets xs → o.rest ≡ fields ++ more → length fields + 1 ≡ o.li
     → o.li ≡ 256 * o.high + o.low - 5 → (length (o.li ∷ o.code ∷ fields) ≤ 255 → Spells (Whole p) (o.li ∷ o.code ∷ fields)) → ControlFound xs p
 control_is begun xs p h o fields more fits parts len full spells =
-    let w = subst IsOctets o.octets fits in
+    let w = subst AreOctets o.octets fits in
     let at_least = o.at_least in
     let short : o.li ≤ 254 = o.short in
     let n : 256 * o.high + o.low ≡ length (o.li ∷ o.code ∷ fields) + 4 = omega arith in
-    let t : o.high ∷ o.low ∷ [] ≡ two (length (o.li ∷ o.code ∷ fields) + 4) = sym (two_is o.high o.low (w 3)) ∙ ap two n in
+    let t : o.high ∷ o.low ∷ [] ≡ two (length (o.li ∷ o.code ∷ fields) + 4) = sym (two_is o.high o.low (w.each 3)) ∙ ap two n in
     record {
       unit = o.li ∷ o.code ∷ fields;
       more = more;
       octets = o.octets ∙ ap (λ (r : List ℕ). 3 ∷ 0 ∷ o.high ∷ o.low ∷ o.li ∷ o.code ∷ r) parts ∙ ap (λ (f : List ℕ). 3 ∷ 0 ∷ f ++ o.li ∷ o.code ∷ fields ++ more) t;
-      is = λ tsdu. record { spells = spells (omega (arith, w 4)); at_least = omega arith; at_most = omega (arith, w 2, w 3); within = tt };
+      is = λ tsdu. record { spells = spells (omega (arith, w.each 4)); at_least = omega arith; at_most = omega (arith, w.each 2, w.each 3); within = tt };
     }
 
-disconnect_is : (li : ℕ) (rest : List ℕ) → IsOctets rest → 6 ≤ li → li - 1 ≤ length rest → IsDisconnect (li ∷ 128 ∷ take (li - 1) rest)
+disconnect_is : (li : ℕ) (rest : List ℕ) → AreOctets rest → 6 ≤ li → li - 1 ≤ length rest → IsDisconnect (li ∷ 128 ∷ take (li - 1) rest)
 disconnect_is li [] fits six there = absurd (omega arith)
 disconnect_is li (a ∷ []) fits six there = absurd (omega arith)
 disconnect_is li (a ∷ b ∷ []) fits six there = absurd (omega arith)
 disconnect_is li (a ∷ b ∷ c ∷ []) fits six there = absurd (omega arith)
 disconnect_is li (a ∷ b ∷ c ∷ d ∷ []) fits six there = absurd (omega arith)
 disconnect_is li (a ∷ b ∷ c ∷ d ∷ reason ∷ rest) fits six there =
-    let to = two_is a b (fits 1) in
-    let from = two_is c d (fits 3) in
+    let to = two_is a b (fits.each 1) in
+    let from = two_is c d (fits.each 3) in
     let five : li - 1 ≡ suc (suc (suc (suc (suc (li - 6))))) = omega arith in
     let cut : take (li - 1) (a ∷ b ∷ c ∷ d ∷ reason ∷ rest) ≡ a ∷ b ∷ c ∷ d ∷ reason ∷ take (li - 6) rest = rw five refl in
     let same : a ∷ b ∷ c ∷ d ∷ reason ∷ take (li - 6) rest ≡ two (256 * a + b) ++ two (256 * c + d) ++ reason ∷ take (li - 6) rest = same_fields a b c d reason reason (take (li - 6) rest) (two (256 * a + b)) (two (256 * c + d)) to from refl in
@@ -329,8 +330,8 @@ disconnect_is li (a ∷ b ∷ c ∷ d ∷ reason ∷ rest) fits six there =
       source = 256 * c + d;
       reason = reason;
       parameters = take (li - 6) rest;
-      to = omega (arith, fits 0, fits 1);
-      by_source = omega (arith, fits 2, fits 3);
+      to = omega (arith, fits.each 0, fits.each 1);
+      by_source = omega (arith, fits.each 2, fits.each 3);
       whole = ap (λ (f : List ℕ). li ∷ 128 ∷ f) cut ∙ ap (λ k. k ∷ 128 ∷ a ∷ b ∷ c ∷ d ∷ reason ∷ take (li - 6) rest) n ∙ ap (λ (f : List ℕ). header (128 ∷ f)) same;
     }
 
@@ -342,24 +343,24 @@ problem_is li rest some there =
 same_packet : (p q : Packet) → Control p ≡ Control q → p ≡ q
 same_packet p q e = cc
 
-IsOctets-rest : (begun : ℕ) (xs : List ℕ) (h : Header) (o : Opens begun xs h) → IsOctets xs → IsOctets o.rest
-IsOctets-rest begun xs h o fits i = subst IsOctets o.octets fits (suc (suc (suc (suc (suc (suc i))))))
+rest_octets : (begun : ℕ) (xs : List ℕ) (h : Header) (o : Opens begun xs h) → AreOctets xs → AreOctets o.rest
+rest_octets begun xs h o fits = octets_right (3 ∷ 0 ∷ o.high ∷ o.low ∷ o.li ∷ o.code ∷ []) o.rest (subst AreOctets o.octets fits)
 
-case_found : (begun : ℕ) (xs : List ℕ) (p : Packet) → IsOctets xs → (o : Opens begun xs (Control p)) → Case begun (256 * o.high + o.low - 5) o.li o.code o.rest (Control p) → ControlFound xs p
+case_found : (begun : ℕ) (xs : List ℕ) (p : Packet) → AreOctets xs → (o : Opens begun xs (Control p)) → Case begun (256 * o.high + o.low - 5) o.li o.code o.rest (Control p) → ControlFound xs p
 case_found begun xs p fits o (IsPart code li reads) =
     absurd (let d = data_found begun (256 * o.high + o.low - 5 - 2) o.rest (Control p) reads in let e = d.1.3 in cc)
 case_found begun xs p fits o (IsRequest code li six ends reads e) =
-    let f = ends_found o.code o.li ends o.rest six (IsOctets-rest begun xs (Control p) o fits) reads in
+    let f = ends_found o.code o.li ends o.rest six (rest_octets begun xs (Control p) o fits) reads in
     let q : Connect ends ≡ p = same_packet (Connect ends) p e in
     control_is begun xs p (Control p) o f.fields f.more fits f.parts f.len li (λ short. subst (λ (r : Packet). Spells (Whole r) (o.li ∷ o.code ∷ f.fields)) q (subst (λ (c : ℕ). IsConnection c ends (o.li ∷ o.code ∷ f.fields)) code f.whole, short))
 case_found begun xs p fits o (IsAnswer code li six ends reads e) =
-    let f = ends_found o.code o.li ends o.rest six (IsOctets-rest begun xs (Control p) o fits) reads in
+    let f = ends_found o.code o.li ends o.rest six (rest_octets begun xs (Control p) o fits) reads in
     let q : Confirm ends ≡ p = same_packet (Confirm ends) p e in
     control_is begun xs p (Control p) o f.fields f.more fits f.parts f.len li (λ short. subst (λ (r : Packet). Spells (Whole r) (o.li ∷ o.code ∷ f.fields)) q (subst (λ (c : ℕ). IsConnection c ends (o.li ∷ o.code ∷ f.fields)) code f.whole, short))
 case_found begun xs p fits o (IsEnd code li six reads) =
     let f = passed_found (o.li - 1) Disconnect o.rest (Control p) reads in
     let q : Disconnect ≡ p = same_packet Disconnect p f.1 in
-    let whole = disconnect_is o.li o.rest (IsOctets-rest begun xs (Control p) o fits) six f.0 in
+    let whole = disconnect_is o.li o.rest (rest_octets begun xs (Control p) o fits) six f.0 in
     control_is begun xs p (Control p) o (take (o.li - 1) o.rest) (drop (o.li - 1) o.rest) fits (sym (take-append-drop (o.li - 1) o.rest)) (omega (arith, f.0, length-take (o.li - 1) o.rest)) li
     (λ short. subst (λ (r : Packet). Spells (Whole r) (o.li ∷ o.code ∷ take (o.li - 1) o.rest)) q (subst (λ (c : ℕ). IsDisconnect (o.li ∷ c ∷ take (o.li - 1) o.rest)) (sym code) whole, short))
 case_found begun xs p fits o (IsError code li reads) =
@@ -370,7 +371,7 @@ case_found begun xs p fits o (IsError code li reads) =
     control_is begun xs p (Control p) o (take (o.li - 1) o.rest) (drop (o.li - 1) o.rest) fits (sym (take-append-drop (o.li - 1) o.rest)) (omega (arith, f.0, length-take (o.li - 1) o.rest)) li
     (λ short. subst (λ (r : Packet). Spells (Whole r) (o.li ∷ o.code ∷ take (o.li - 1) o.rest)) q (subst (λ (c : ℕ). IsProblem (o.li ∷ c ∷ take (o.li - 1) o.rest)) (sym code) whole, short))
 
-pub found_control : (begun : ℕ) (xs : List ℕ) (p : Packet) → IsOctets xs → header_at begun xs ≡ Ok (Control p) → ControlFound xs p
+pub found_control : (begun : ℕ) (xs : List ℕ) (p : Packet) → AreOctets xs → header_at begun xs ≡ Ok (Control p) → ControlFound xs p
 found_control begun xs p fits e =
     let o = opens begun xs (Control p) e in
     case_found begun xs p fits o (code_found begun (256 * o.high + o.low - 5) o.li o.code o.rest (Control p) o.reads)

@@ -1,7 +1,7 @@
 -- What a reader makes of a stream is what the stream's units say.
 use Rattle.std.proofs.Common.{◌≡◌, ℕ, zero, suc, ◌+◌, ◌-◌, ◌<◌, ◌≤◌, ◌==◌, Bool, true, false, cond, List, [], ◌∷◌, ◌++◌, length, Option, Some, None, Result, Ok, Err, refl, sym, ap, subst, ◌∙◌, append_assoc, zero-add, inl, inr, arith}
 use Rattle.std.specs.Prelude.{◌⊎◌}
-use Rattle.std.proofs.lemmas.List.{append-nil, length-append, get_or-append-add}
+use Rattle.std.proofs.lemmas.List.{append-nil, length-append}
 use Rattle.tpkt.specs.declared.packet.Packet.{Packet}
 use Rattle.tpkt.specs.declared.packet.Packet.TheVariants.{Tsdu}
 use Rattle.tpkt.specs.declared.packet.TFault.{TFault}
@@ -14,13 +14,15 @@ use Rattle.tpkt.specs.declared.header_stops.Stop.TheVariants.{Short, At}
 use Rattle.tpkt.specs.Wire.{packet, Tpdu, Whole, Part, IsUnit, Splits, begun_after, begun_by, handed_for, handed}
 use Rattle.tpkt.specs.Header.{header_at}
 use Rattle.tpkt.specs.Reader.{ReaderProgress, on, between, closed, opened, judged, taken, after, reading, nothing}
-use Rattle.tpkt.specs.Stream.{IsOctets, unit_at, IsInFront, OneHolds, IsStop, ReadsAsPackets, HasRead}
+use Rattle.tpkt.specs.Stream.{unit_at, IsInFront, OneHolds, IsStop, ReadsAsPackets, HasRead}
 use Rattle.tpkt.proofs.HeaderLaws.{front, found_data, found_control, again_data, again_control}
 use Rattle.tpkt.proofs.UnitLaws.{part_packet, part_unit, unit_found, unit_again, unit_stays, faulty, short_yet, data_yet}
 use Rattle.tpkt.proofs.ReaderLaws.{short_empty, still_open, after-append, after_fault}
 use Rattle.tpkt.proofs.Results.{ok_is}
 use Rattle.osi_base.specs.declared.layer_words.Kind.{Kind}
 use Rattle.osi_base.specs.Limits.{tsdu_limit}
+use Rattle.osi_base.proofs.OctetLaws.{octets_right, octets_left, octets_join}
+use Rattle.osi_base.specs.Octets.{AreOctets}
 
 abbrev pub fed : List Packet → ReaderState → ReaderProgress
 fed packets held = record { packets = packets; held = held }
@@ -152,7 +154,7 @@ opened_stands stream units start rest (suc left) last octets packets tsdu place 
 -- ---- one more octet
 
 judged_stands : (stream : List ℕ) (units : List Tpdu) (start : ℕ) (rest : List ℕ) (x : ℕ) (packets : List Packet) (place : ℕ) (read : Result Header Stop)
-    → IsOctets (rest ++ x ∷ []) → Splits [] stream units (rest ++ x ∷ []) → start + length (rest ++ x ∷ []) ≡ length stream → packets ≡ handed [] units
+    → AreOctets (rest ++ x ∷ []) → Splits [] stream units (rest ++ x ∷ []) → start + length (rest ++ x ∷ []) ≡ length stream → packets ≡ handed [] units
     → header_at (length (begun_by [] units)) rest ≡ Err Short → header_at (length (begun_by [] units)) (rest ++ x ∷ []) ≡ read → place ≡ on 0 start
     → Stands stream (judged read packets (begun_by [] units) place (rest ++ x ∷ []))
 judged_stands stream units start rest x packets place (Err Short) fits splits starts handed_up short e at =
@@ -179,7 +181,7 @@ judged_stands stream units start rest x packets place (Ok (Data left last)) fits
     (d.octets ∙ ap (λ (t : List ℕ). front left last ++ t) none ∙ ap (λ n. front n last ++ []) (sym (zero-add left))) (omega (arith, d.within)) (omega (arith, d.size)) (sym (append-nil (begun_by [] units))) (omega (arith, at, starts))
 
 next_stands : (stream : List ℕ) (units : List Tpdu) (start : ℕ) (rest : List ℕ) (packets : List Packet) (held : ReaderState) (x : ℕ)
-    → IsOctets (rest ++ x ∷ []) → Splits [] stream units rest → start + length rest ≡ length stream → packets ≡ handed [] units → IsState (begun_by [] units) rest start held
+    → AreOctets (rest ++ x ∷ []) → Splits [] stream units rest → start + length rest ≡ length stream → packets ≡ handed [] units → IsState (begun_by [] units) rest start held
     → Stands (stream ++ x ∷ []) (taken held.fault held.coming (record { packets = packets; held = held }) x)
 next_stands stream units start rest packets held x fits splits starts handed_up (Idle place short at) =
     judged_stands (stream ++ x ∷ []) units start rest x packets place _ fits (Splits-more [] stream units rest (x ∷ []) splits) (omega (arith, starts, length-append rest (x ∷ []), length-append stream (x ∷ []))) handed_up short refl at
@@ -202,25 +204,17 @@ next_stands stream units start rest packets held x fits splits starts handed_up 
 
 -- ---- a whole stream
 
-octets-rest : (xs ys : List ℕ) → IsOctets (xs ++ ys) → IsOctets ys
-octets-rest xs ys fits i = subst (λ (n : ℕ). n < 256) (get_or-append-add xs ys i 0) (fits (length xs + i))
+octets-left : (begun stream : List ℕ) (us : List Tpdu) (rest : List ℕ) → Splits begun stream us rest → AreOctets stream → AreOctets rest
+octets-left begun stream [] rest s fits = subst AreOctets s fits
+octets-left begun stream (u ∷ us) rest s fits = octets-left (begun_after begun u) s.1 us rest s.4 (octets_right (packet s.0) s.1 (subst AreOctets s.3 fits))
 
-octets-left : (begun stream : List ℕ) (us : List Tpdu) (rest : List ℕ) → Splits begun stream us rest → IsOctets stream → IsOctets rest
-octets-left begun stream [] rest s fits = subst IsOctets s fits
-octets-left begun stream (u ∷ us) rest s fits = octets-left (begun_after begun u) s.1 us rest s.4 (octets-rest (packet s.0) s.1 (subst IsOctets s.3 fits))
-
-octets-front : (xs ys : List ℕ) → IsOctets (xs ++ ys) → IsOctets xs
-octets-front [] ys fits i = omega arith
-octets-front (x ∷ xs) ys fits zero = fits 0
-octets-front (x ∷ xs) ys fits (suc i) = octets-front xs ys (λ j. fits (suc j)) i
-
-after_stands : (stream xs : List ℕ) (f : ReaderProgress) → IsOctets (stream ++ xs) → Stands stream f → Stands (stream ++ xs) (after f xs)
+after_stands : (stream xs : List ℕ) (f : ReaderProgress) → AreOctets (stream ++ xs) → Stands stream f → Stands (stream ++ xs) (after f xs)
 unfolding after
 after_stands stream [] f fits s = subst (λ (t : List ℕ). Stands t f) (sym (append-nil stream)) s
 after_stands stream (x ∷ xs) f fits s =
     let joined : (stream ++ x ∷ []) ++ xs ≡ stream ++ x ∷ xs = append_assoc stream (x ∷ []) xs in
-    let all : IsOctets ((stream ++ x ∷ []) ++ xs) = subst IsOctets (sym joined) fits in
-    let here = octets-left [] (stream ++ x ∷ []) s.units (s.rest ++ x ∷ []) (Splits-more [] stream s.units s.rest (x ∷ []) s.splits) (octets-front (stream ++ x ∷ []) xs all) in
+    let all : AreOctets ((stream ++ x ∷ []) ++ xs) = subst AreOctets (sym joined) fits in
+    let here = octets-left [] (stream ++ x ∷ []) s.units (s.rest ++ x ∷ []) (Splits-more [] stream s.units s.rest (x ∷ []) s.splits) (octets_left (stream ++ x ∷ []) xs all) in
     subst (λ (t : List ℕ). Stands t (after (taken f.held.fault f.held.coming f x) xs)) joined
     (after_stands (stream ++ x ∷ []) xs (taken f.held.fault f.held.coming f x) all
     (next_stands stream s.units s.start s.rest f.packets f.held x here s.splits s.starts s.packets s.state))
@@ -233,7 +227,7 @@ stops begun rest start held (Comes left place last octets some within size whole
 stops begun rest start held (Bad unread tsdu coming place fault o e at) = subst (λ r. IsStop r start (Some fault)) (sym e) (at, refl)
 
 -- what a new reader makes of a stream
-pub stream_read : (stream : List ℕ) → IsOctets stream → ReadsAsPackets stream (reading nothing stream).packets (reading nothing stream).held.fault
+pub stream_read : (stream : List ℕ) → AreOctets stream → ReadsAsPackets stream (reading nothing stream).packets (reading nothing stream).held.fault
 stream_read stream fits =
     let new : Stands [] (record { packets = []; held = nothing }) = record {
       units = [];
@@ -284,7 +278,7 @@ front_stopped s = Err s
 in_front_is_read : (begun xs : List ℕ) (s : Stop) → IsInFront begun xs → unit_at begun xs ≡ Err s → ⊥
 in_front_is_read begun xs s f e = (let h : front_read (f.0, f.1.1) ≡ front_stopped s = sym (ap (unit_at begun) f.1.3 ∙ unit_again begun f.0 f.1.0 f.1.1 f.1.2) ∙ e in cc)
 
-pub one_of_three : (begun xs : List ℕ) → IsOctets xs → OneHolds begun xs
+pub one_of_three : (begun xs : List ℕ) → AreOctets xs → OneHolds begun xs
 one_of_three begun xs fits = go (unit_at begun xs) refl
   where
     go : (r : Result (Tpdu × List ℕ) Stop) → unit_at begun xs ≡ r → OneHolds begun xs
@@ -347,11 +341,6 @@ goes_on stream more given packets old new a b =
     ∙ ap (λ (f : ReaderProgress). fed (f.packets ++ (reading f.held more).packets) (reading f.held more).held) a
     ∙ ap (λ (f : ReaderProgress). fed (given ++ f.packets) f.held) b
 
-pub octets_join : (xs ys : List ℕ) → IsOctets xs → IsOctets ys → IsOctets (xs ++ ys)
-octets_join [] ys p q i = q i
-octets_join (x ∷ xs) ys p q zero = p 0
-octets_join (x ∷ xs) ys p q (suc i) = octets_join xs ys (λ j. p (suc j)) q i
-
 -- ---- one feed
 
 -- all feeds together give the packets of the stream, and its fault
@@ -359,7 +348,7 @@ pub feed_goes_on : (came bytes : List ℕ) (given packets : List Packet) (old : 
     → reading nothing (came ++ bytes) ≡ fed (given ++ packets) new
 feed_goes_on came bytes given packets old held new is now came_so = goes_on came bytes given packets held new (subst (HasRead came given) is came_so) now
 
-pub feed_all : (came bytes : List ℕ) (given packets : List Packet) (old : Option ReaderState) (held new : ReaderState) → IsOctets came → IsOctets bytes → old ≡ Some held → reading held bytes ≡ fed packets new
+pub feed_all : (came bytes : List ℕ) (given packets : List Packet) (old : Option ReaderState) (held new : ReaderState) → AreOctets came → AreOctets bytes → old ≡ Some held → reading held bytes ≡ fed packets new
     → HasRead came given old → ReadsAsPackets (came ++ bytes) (given ++ packets) new.fault
 feed_all came bytes given packets old held new fits more is now came_so =
     subst (λ (f : ReaderProgress). ReadsAsPackets (came ++ bytes) f.packets f.held.fault) (feed_goes_on came bytes given packets old held new is now came_so)
@@ -389,7 +378,7 @@ quiet (Err Short) start (Some f) e s = absurd s
 quiet (Err (At o k)) start fault e s = absurd cc
 
 -- a stream that is split, with less than a unit left, is read so
-pub split_read : (stream : List ℕ) (us : List Tpdu) (rest : List ℕ) → IsOctets stream → Splits [] stream us rest → unit_at (begun_by [] us) rest ≡ Err Short
+pub split_read : (stream : List ℕ) (us : List Tpdu) (rest : List ℕ) → AreOctets stream → Splits [] stream us rest → unit_at (begun_by [] us) rest ≡ Err Short
     → ((reading nothing stream).packets ≡ handed [] us) × ((reading nothing stream).held.fault ≡ None)
 split_read stream us rest fits s short =
     let r = stream_read stream fits in
@@ -409,7 +398,7 @@ unfolding rest_of
 nothing_left u v more e = ap (λ r. length (rest_of r)) (sym e)
 
 -- a beginning of a packet is less than one
-pub less_than_a_packet : (begun : List ℕ) (u : Tpdu) (unit xs ys : List ℕ) → IsOctets xs → IsUnit begun u unit → packet unit ≡ xs ++ ys → 0 < length ys → unit_at begun xs ≡ Err Short
+pub less_than_a_packet : (begun : List ℕ) (u : Tpdu) (unit xs ys : List ℕ) → AreOctets xs → IsUnit begun u unit → packet unit ≡ xs ++ ys → 0 < length ys → unit_at begun xs ≡ Err Short
 less_than_a_packet begun u unit xs ys fits is whole some = go (unit_at begun xs) refl
   where
     go : (r : Result (Tpdu × List ℕ) Stop) → unit_at begun xs ≡ r → unit_at begun xs ≡ Err Short
@@ -422,11 +411,11 @@ less_than_a_packet begun u unit xs ys fits is whole some = go (unit_at begun xs)
         let none : length (p.1 ++ ys) ≡ 0 = nothing_left u p.0 (p.1 ++ ys) (sym one ∙ other) in
         absurd (omega (arith, none, length-append p.1 ys, some))
 
-pub up_with_its_last_octet : (came bytes : List ℕ) (us : List Tpdu) (rest : List ℕ) (u : Tpdu) (unit : List ℕ) → IsOctets (came ++ bytes) → Splits [] came us rest → IsUnit (begun_by [] us) u unit
+pub up_with_its_last_octet : (came bytes : List ℕ) (us : List Tpdu) (rest : List ℕ) (u : Tpdu) (unit : List ℕ) → AreOctets (came ++ bytes) → Splits [] came us rest → IsUnit (begun_by [] us) u unit
     → packet unit ≡ rest ++ bytes → 0 < length bytes
     → ((reading nothing came).packets ≡ handed [] us) × ((reading nothing (came ++ bytes)).packets ≡ handed [] us ++ handed_for (begun_by [] us) u)
 up_with_its_last_octet came bytes us rest u unit fits s is whole some =
-    let here = octets-front came bytes fits in
+    let here = octets_left came bytes fits in
     let yet = less_than_a_packet (begun_by [] us) u unit rest bytes (octets-left [] came us rest s here) is whole some in
     let more : Splits [] (came ++ bytes) (us ++ u ∷ []) [] = Splits-snoc [] (came ++ bytes) us (rest ++ bytes) u unit [] (Splits-more [] came us rest bytes s) is (sym whole ∙ sym (append-nil (packet unit))) in
     let all = split_read (came ++ bytes) (us ++ u ∷ []) [] fits more (short_yet (begun_by [] (us ++ u ∷ [])) [] (short_empty _)) in

@@ -4,13 +4,14 @@ use Rattle.std.proofs.lemmas.Bool.{ltb-false, le-ltb, lt-ltb}
 use Rattle.std.proofs.lemmas.List.{take-append-drop, length-append, length-take, take_at, drop_at}
 use Rattle.osi_base.specs.declared.layer_words.Kind.{Kind}
 use Rattle.osi_base.specs.Limits.{tsdu_limit}
+use Rattle.osi_base.specs.Octets.{AreOctets}
 use Rattle.tpkt.specs.declared.header.Header.{Header}
 use Rattle.tpkt.specs.declared.header.Header.TheVariants.{Control, Data}
 use Rattle.tpkt.specs.declared.header_stops.Stop.{Stop}
 use Rattle.tpkt.specs.declared.header_stops.Stop.TheVariants.{Short, At}
 use Rattle.tpkt.specs.Wire.{two, packet, mark, Tpdu, Whole, Part, IsUnit}
 use Rattle.tpkt.specs.Header.{◌>>=◌, header_at}
-use Rattle.tpkt.specs.Stream.{IsOctets, stated_length, unit_behind, unit_at}
+use Rattle.tpkt.specs.Stream.{stated_length, unit_behind, unit_at}
 use Rattle.tpkt.proofs.Results.{ok_is, refused, bound}
 use Rattle.tpkt.proofs.HeaderLaws.{front, two_again, found_data, found_control, again_data, again_control}
 use Rattle.tpkt.proofs.StaysLaws.{fault_stays, header_stays}
@@ -37,7 +38,7 @@ part_packet left last octets more e =
 pub part_unit : (begun : List ℕ) (left : ℕ) (last : Bool) (octets : List ℕ) → length octets ≡ left → length begun + left ≤ tsdu_limit → left + 7 < 65536 → IsUnit begun (Part last octets) (2 ∷ 240 ∷ mark last ∷ octets)
 part_unit begun left last octets e within size = record { spells = refl; at_least = omega arith; at_most = omega arith; within = omega arith }
 
-behind : (begun xs : List ℕ) (r : Tpdu × List ℕ) → IsOctets xs → (h : Header) → header_at (length begun) xs ≡ Ok h → unit_behind xs h ≡ Ok r → (unit : List ℕ) × IsUnit begun r.0 unit × (xs ≡ packet unit ++ r.1)
+behind : (begun xs : List ℕ) (r : Tpdu × List ℕ) → AreOctets xs → (h : Header) → header_at (length begun) xs ≡ Ok h → unit_behind xs h ≡ Ok r → (unit : List ℕ) × IsUnit begun r.0 unit × (xs ≡ packet unit ++ r.1)
 behind begun xs r fits (Control p) e f =
     let c = found_control (length begun) xs p fits e in
     let n : stated_length xs ≡ length c.unit + 4 = ap stated_length c.octets ∙ stated_again c.unit c.more in
@@ -55,7 +56,7 @@ behind begun xs r fits (Data left last) e f =
     subst (λ (q : Tpdu × List ℕ). (unit : List ℕ) × IsUnit begun q.0 unit × (xs ≡ packet unit ++ q.1)) (ok_is (Part last (take left (drop 7 xs)), drop left (drop 7 xs)) r a.1)
     (2 ∷ 240 ∷ mark last ∷ take left (drop 7 xs), part_unit begun left last (take left (drop 7 xs)) len d.within d.size, whole)
 
-pub unit_found : (begun xs : List ℕ) (u : Tpdu) (rest : List ℕ) → IsOctets xs → unit_at begun xs ≡ Ok (u, rest) → (unit : List ℕ) × IsUnit begun u unit × (xs ≡ packet unit ++ rest)
+pub unit_found : (begun xs : List ℕ) (u : Tpdu) (rest : List ℕ) → AreOctets xs → unit_at begun xs ≡ Ok (u, rest) → (unit : List ℕ) × IsUnit begun u unit × (xs ≡ packet unit ++ rest)
 unfolding unit_at
 unit_found begun xs u rest fits e =
     let b = bound (header_at (length begun) xs) (unit_behind xs) (u, rest) e in

@@ -1,17 +1,17 @@
 -- What is written is the packets of its units, and is read back.
 use Rattle.std.proofs.Common.{◌≡◌, ℕ, zero, suc, ◌+◌, ◌-◌, ◌<◌, ◌≤◌, Bool, true, false, List, [], ◌∷◌, ◌++◌, length, take, drop, map, Option, Some, None, refl, sym, ap, subst, ◌∙◌, append_assoc, inl, inr, arith}
-use Rattle.std.specs.Prelude.{nat_le}
+use Rattle.std.specs.Prelude.{slice_index, nat_le}
 use Rattle.std.specs.List.{flat_map}
 use Rattle.std.proofs.lemmas.Bool.{le-leb, lt-leb, cases_lt}
 use Rattle.std.proofs.lemmas.Grind.{flat_map-append}
 use Rattle.std.proofs.lemmas.List.{append-nil, take-append-drop, length-append, length-take, length-drop}
 use Rattle.osi_base.specs.Limits.{tsdu_limit}
+use Rattle.osi_base.proofs.OctetLaws.{octets_join, octets_left, octets_right}
+use Rattle.osi_base.specs.Octets.{AreOctets}
 use Rattle.tpkt.specs.declared.packet.ConnectionFields.{ConnectionFields}
 use Rattle.tpkt.specs.declared.packet.Packet.TheVariants.{Connect, Confirm, Disconnect, Problem, Tsdu}
 use Rattle.tpkt.specs.Wire.{parameter, two, header, mark, values, Tpdu, Whole, Part, IsUnit, IsTwo, IsConnection, IsSize, IsSelector, Splits, handed}
-use Rattle.tpkt.specs.Stream.{IsOctets}
 use Rattle.tpkt.specs.Written.{cut, parts_of, part_packet, written_tsdu, size_parameter, selector_parameter, parameters_of, connection_fields, HasRoom}
-use Rattle.tpkt.proofs.StreamLaws.{octets_join}
 
 -- ---- a TSDU is cut into DTs
 
@@ -188,42 +188,40 @@ mark_octet : (last : Bool) → mark last < 256
 mark_octet true = omega arith
 mark_octet false = omega arith
 
-part_octets : (last : Bool) (xs : List ℕ) → length xs ≤ 65528 → IsOctets xs → IsOctets (part_packet (last, xs))
-part_octets last xs short fits zero = omega arith
-part_octets last xs short fits (suc zero) = omega arith
-part_octets last xs short fits (suc (suc zero)) = omega arith
-part_octets last xs short fits (suc (suc (suc zero))) = omega arith
-part_octets last xs short fits (suc (suc (suc (suc zero)))) = omega arith
-part_octets last xs short fits (suc (suc (suc (suc (suc zero))))) = omega arith
-part_octets last xs short fits (suc (suc (suc (suc (suc (suc zero)))))) = mark_octet last
-part_octets last xs short fits (suc (suc (suc (suc (suc (suc (suc i))))))) = fits i
+part_octets : (last : Bool) (xs : List ℕ) → length xs ≤ 65528 → AreOctets xs → AreOctets (part_packet (last, xs))
+part_octets last xs short fits = record { each = at }
+  where
+    at : (i : ℕ) → slice_index (part_packet (last, xs)) i < 256
+    at zero = omega arith
+    at (suc zero) = omega arith
+    at (suc (suc zero)) = omega arith
+    at (suc (suc (suc zero))) = omega arith
+    at (suc (suc (suc (suc zero)))) = omega arith
+    at (suc (suc (suc (suc (suc zero))))) = omega arith
+    at (suc (suc (suc (suc (suc (suc zero)))))) = mark_octet last
+    at (suc (suc (suc (suc (suc (suc (suc i))))))) = fits.each i
 
-take_octets : (n : ℕ) (xs : List ℕ) → IsOctets xs → IsOctets (take n xs)
-take_octets zero xs fits i = omega arith
-take_octets (suc n) [] fits i = omega arith
-take_octets (suc n) (x ∷ xs) fits zero = fits 0
-take_octets (suc n) (x ∷ xs) fits (suc i) = take_octets n xs (λ j. fits (suc j)) i
+take_octets : (n : ℕ) (xs : List ℕ) → AreOctets xs → AreOctets (take n xs)
+take_octets n xs fits = octets_left (take n xs) (drop n xs) (subst AreOctets (sym (take-append-drop n xs)) fits)
 
-drop_octets : (n : ℕ) (xs : List ℕ) → IsOctets xs → IsOctets (drop n xs)
-drop_octets zero xs fits = fits
-drop_octets (suc n) [] fits = fits
-drop_octets (suc n) (x ∷ xs) fits = drop_octets n xs (λ j. fits (suc j))
+drop_octets : (n : ℕ) (xs : List ℕ) → AreOctets xs → AreOctets (drop n xs)
+drop_octets n xs fits = octets_right (take n xs) (drop n xs) (subst AreOctets (sym (take-append-drop n xs)) fits)
 
-last_octets : (fuel most : ℕ) (xs : List ℕ) → most ≤ 65528 → length xs ≤ most → IsOctets xs → IsOctets (flat_map part_packet (cut fuel most xs))
+last_octets : (fuel most : ℕ) (xs : List ℕ) → most ≤ 65528 → length xs ≤ most → AreOctets xs → AreOctets (flat_map part_packet (cut fuel most xs))
 last_octets fuel most xs small short fits =
-    subst (λ ps. IsOctets (flat_map part_packet ps)) (sym (cut_last fuel most xs short)) (subst IsOctets (sym (append-nil (part_packet (true, xs)))) (part_octets true xs (omega arith) fits))
+    subst (λ ps. AreOctets (flat_map part_packet ps)) (sym (cut_last fuel most xs short)) (subst AreOctets (sym (append-nil (part_packet (true, xs)))) (part_octets true xs (omega arith) fits))
 
-cut_octets : (fuel most : ℕ) (xs : List ℕ) → most ≤ 65528 → 0 < most → length xs ≤ fuel → IsOctets xs → IsOctets (flat_map part_packet (cut fuel most xs))
+cut_octets : (fuel most : ℕ) (xs : List ℕ) → most ≤ 65528 → 0 < most → length xs ≤ fuel → AreOctets xs → AreOctets (flat_map part_packet (cut fuel most xs))
 cut_octets zero most xs small some le fits = last_octets zero most xs small (omega arith) fits
 cut_octets (suc fuel) most xs small some le fits =
     elim (cases_lt most (length xs)) [
-      | inl long ↦ subst (λ ps. IsOctets (flat_map part_packet ps)) (sym (cut_step fuel most xs long))
+      | inl long ↦ subst (λ ps. AreOctets (flat_map part_packet ps)) (sym (cut_step fuel most xs long))
           (octets_join (part_packet (false, take most xs)) (flat_map part_packet (cut fuel most (drop most xs)))
           (part_octets false (take most xs) (omega (arith, length-take most xs)) (take_octets most xs fits))
           (cut_octets fuel most (drop most xs) small some (omega (arith, length-drop most xs)) (drop_octets most xs fits)))
       | inr short ↦ last_octets (suc fuel) most xs small short fits
     ]
 
-pub written_octets : (size : ℕ) (tsdu : List ℕ) → 128 ≤ size → size ≤ 65531 → IsOctets tsdu → IsOctets (written_tsdu size tsdu)
+pub written_octets : (size : ℕ) (tsdu : List ℕ) → 128 ≤ size → size ≤ 65531 → AreOctets tsdu → AreOctets (written_tsdu size tsdu)
 unfolding parts_of
 written_octets size tsdu least most fits = cut_octets (length tsdu) (size - 3) tsdu (omega arith) (omega arith) (omega arith) fits

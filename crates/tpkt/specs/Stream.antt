@@ -12,10 +12,6 @@ use Rattle.tpkt.specs.Wire.{packet, Tpdu, Whole, Part, IsUnit, Splits, begun_by,
 use Rattle.tpkt.specs.Header.{◌>>=◌, header_at}
 use Rattle.tpkt.specs.Reader.{on, reading, nothing}
 
--- each number is an octet
-abbrev pub IsOctets : List ℕ → Type 0
-IsOctets xs = (i : ℕ) → slice_index xs i < 256
-
 -- how many octets a packet says that it has
 abbrev pub stated_length : List ℕ → ℕ
 stated_length xs = 256 * slice_index xs 2 + slice_index xs 3

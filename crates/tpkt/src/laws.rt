@@ -3,6 +3,7 @@
 ghost use Rattle.std.specs.Prelude.{◌≡◌, ℕ, ◌<◌, ◌≤◌, ◌++◌, ◌∷◌, List, [], length, take, Option, Some, None, Err, Ok};
 ghost use Rattle.osi_base.specs.declared.layer_words.Kind.{Kind};
 ghost use Rattle.osi_base.specs.Limits.{tsdu_limit, unit_least, unit_most};
+ghost use Rattle.osi_base.specs.Octets.{AreOctets};
 ghost use Rattle.tpkt.specs.declared.reader_state.ReaderState.{ReaderState};
 ghost use Rattle.tpkt.specs.declared.packet.TFault.{TFault};
 ghost use Rattle.tpkt.specs.declared.header_stops.Stop.{Stop};
@@ -12,19 +13,19 @@ ghost use Rattle.tpkt.specs.declared.packet.Packet.TheVariants.{Connect, Confirm
 ghost use Rattle.tpkt.specs.Wire.{packet, header, two, Tpdu, Whole, IsTwo, IsUnit, Splits, begun_by, handed_for, handed};
 ghost use Rattle.tpkt.specs.Written.{written_tsdu, connection_fields, control_packet, HasRoom};
 ghost use Rattle.tpkt.specs.Reader.{reading, nothing};
-ghost use Rattle.tpkt.specs.Stream.{IsOctets, unit_at, OneHolds, ReadsAsPackets, HasRead, IsReadAs};
+ghost use Rattle.tpkt.specs.Stream.{unit_at, OneHolds, ReadsAsPackets, HasRead, IsReadAs};
 
 /// What a reader made of a stream, in whatever pieces it came: the packets of its units, and its
 /// first fault with the place counted from the first octet of the stream.
 pub fn stream_is_read()
-    ensures { (stream : List ℕ) (packets : List Packet) (held : ReaderState) → IsOctets stream
+    ensures { (stream : List ℕ) (packets : List Packet) (held : ReaderState) → AreOctets stream
         → HasRead stream packets (Some held) → ReadsAsPackets stream packets held.fault }
 {}
 
 /// A packet is handed up with its last octet, and not before.
 pub fn up_with_its_last_octet()
     ensures { (came bytes : List ℕ) (us : List Tpdu) (rest : List ℕ) (u : Tpdu) (unit : List ℕ)
-        → IsOctets (came ++ bytes) → Splits [] came us rest → IsUnit (begun_by [] us) u unit
+        → AreOctets (came ++ bytes) → Splits [] came us rest → IsUnit (begun_by [] us) u unit
         → packet unit ≡ rest ++ bytes → 0 < length bytes
         → ((reading nothing came).packets ≡ handed [] us)
         × ((reading nothing (came ++ bytes)).packets
@@ -54,7 +55,7 @@ pub fn one_split()
 
 /// The unit that is read at the front of a stream is spelled there.
 pub fn unit_is_spelled()
-    ensures { (begun xs : List ℕ) (u : Tpdu) (rest : List ℕ) → IsOctets xs
+    ensures { (begun xs : List ℕ) (u : Tpdu) (rest : List ℕ) → AreOctets xs
         → unit_at begun xs ≡ Ok (u, rest)
         → (unit : List ℕ) × IsUnit begun u unit × (xs ≡ packet unit ++ rest) }
 {}
@@ -79,7 +80,7 @@ pub fn right_before_a_fault()
 
 /// A beginning of a packet is right so far, and less than a packet.
 pub fn less_than_a_packet()
-    ensures { (begun : List ℕ) (u : Tpdu) (unit xs ys : List ℕ) → IsOctets xs
+    ensures { (begun : List ℕ) (u : Tpdu) (unit xs ys : List ℕ) → AreOctets xs
         → IsUnit begun u unit → packet unit ≡ xs ++ ys → 0 < length ys
         → unit_at begun xs ≡ Err Stop.Short }
 {}
@@ -94,7 +95,7 @@ pub fn faulty_begins_no_packet()
 /// Of all octets one holds and no other: a unit stands in front, there is a first fault, or nothing
 /// is wrong yet and more must come.
 pub fn one_of_three()
-    ensures { (begun xs : List ℕ) → IsOctets xs → OneHolds begun xs }
+    ensures { (begun xs : List ℕ) → AreOctets xs → OneHolds begun xs }
 {}
 
 /// A TSDU that is written stands in front of other units, and is handed up as it is.
@@ -108,7 +109,7 @@ pub fn written_tsdu_is_split()
 /// A TSDU that is written is read back by a new reader, with nothing left.
 pub fn written_tsdu_is_read()
     ensures { (size : ℕ) (tsdu : List ℕ) → unit_least ≤ size
-        → size ≤ unit_most → length tsdu ≤ tsdu_limit → IsOctets tsdu
+        → size ≤ unit_most → length tsdu ≤ tsdu_limit → AreOctets tsdu
         → let f = reading nothing (written_tsdu size tsdu) in (f.packets ≡ Tsdu tsdu ∷ [])
         × (f.held.fault ≡ None) }
 {}
@@ -132,17 +133,19 @@ pub fn written_units()
 /// A unit that is written is read back by a new reader as the packet that it is, with its fields.
 pub fn written_units_are_read()
     ensures connect { (ends : ConnectionFields) → IsTwo ends.destination → IsTwo ends.source
-        → HasRoom ends → let octets = control_packet (connection_fields 224 ends) in IsOctets octets
+        → HasRoom ends
+        → let octets = control_packet (connection_fields 224 ends) in AreOctets octets
         → IsReadAs (Connect ends) octets }
     ensures confirm { (ends : ConnectionFields) → IsTwo ends.destination → IsTwo ends.source
-        → HasRoom ends → let octets = control_packet (connection_fields 208 ends) in IsOctets octets
+        → HasRoom ends
+        → let octets = control_packet (connection_fields 208 ends) in AreOctets octets
         → IsReadAs (Confirm ends) octets }
     ensures disconnect { (destination source reason : ℕ) → IsTwo destination → IsTwo source
         → let octets = control_packet (128 ∷ two destination ++ two source ++ reason ∷ []) in
-        IsOctets octets → IsReadAs Disconnect octets }
+        AreOctets octets → IsReadAs Disconnect octets }
     ensures problem { (destination cause : ℕ)
         → let octets = control_packet (112 ∷ two destination ++ cause ∷ []) in
-        IsOctets octets → IsReadAs Problem octets }
+        AreOctets octets → IsReadAs Problem octets }
 {}
 
 /// The units of two streams, one after the other, and what is handed up for them.
@@ -156,7 +159,7 @@ pub fn streams_join()
 
 /// A stream that is split with less than a unit left is read so, without a fault.
 pub fn split_is_read()
-    ensures { (stream : List ℕ) (us : List Tpdu) (rest : List ℕ) → IsOctets stream
+    ensures { (stream : List ℕ) (us : List Tpdu) (rest : List ℕ) → AreOctets stream
         → Splits [] stream us rest → unit_at (begun_by [] us) rest ≡ Err Stop.Short
         → let f = reading nothing stream in (f.packets ≡ handed [] us) × (f.held.fault ≡ None) }
 {}

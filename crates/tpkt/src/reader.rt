@@ -1,11 +1,12 @@
 //! Reads the packets of a stream, in whatever pieces it comes.
 
 ghost use Rattle.std.specs.Prelude.{◌≡◌, ℕ, ◌++◌, List, [], Some, None, IfSome, IfOk, OnErr};
+ghost use Rattle.osi_base.specs.Octets.{AreOctets};
 ghost use Rattle.tpkt.specs.declared.packet.Packet.{Packet};
 ghost use Rattle.tpkt.specs.declared.packet.TFault.{TFault};
 ghost use Rattle.tpkt.specs.declared.reader_state.ReaderState.{ReaderState};
 ghost use Rattle.tpkt.specs.Reader.{nothing, IsFed, IsKept};
-ghost use Rattle.tpkt.specs.Stream.{IsOctets, ReadsAsPackets, HasRead};
+ghost use Rattle.tpkt.specs.Stream.{ReadsAsPackets, HasRead};
 
 use crate::packet::{Packets, TFed};
 use crate::reader_state::{ReaderState, all_taken, between};
@@ -56,7 +57,7 @@ impl TReader {
     /// this and each later feed answers `NoMemory`.
     pub fn feed(&mut self, bytes: &[u8]) -> Result<TFed, NoMemory>
         // All feeds together give the packets of the stream and its first fault.
-        ensures all { (came : List ℕ) (given : List Packet) → IsOctets came
+        ensures all { (came : List ℕ) (given : List Packet) → AreOctets came
             → HasRead came given self.old
             → IfOk result (λ fed.
             ReadsAsPackets (came ++ bytes.now) (given ++ fed.packets) fed.fault) }

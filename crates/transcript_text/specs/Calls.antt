@@ -6,6 +6,7 @@ use Rattle.osi_base.specs.declared.layer_words.Side.{Side}
 use Rattle.osi_base.specs.declared.layer_words.Proposal.{Proposal}
 use Rattle.osi_base.specs.declared.syntax.Syntax.TheVariants.{Ber, Der, Packed}
 use Rattle.osi_base.specs.Syntax.{name_of}
+use Rattle.dialogue.specs.Sides.{other}
 use Rattle.stub_tables.specs.declared.tables.Tables.{Tables}
 use Rattle.stub_tables.specs.declared.operation.Operation.{Operation}
 use Rattle.stub_tables.specs.declared.operation.ErrorRow.{ErrorRow}
@@ -19,7 +20,7 @@ use Rattle.dialogue.specs.declared.event.Event.TheVariants as events
 use Rattle.value_text.specs.Values.{oid_text}
 use Rattle.script_lines.specs.Operations.{Operations}
 use Rattle.script_lines.specs.Invoked.{operations_of, result_type}
-use Rattle.transcript_text.specs.Words.{side_word, peer_of}
+use Rattle.transcript_text.specs.Words.{side_word}
 use Rattle.transcript_text.specs.Typed.{field_by, argument_type, parameter_type}
 
 abbrev pub operation_text : Option Operation → List ℕ
@@ -102,7 +103,7 @@ carry_text side most = codes "carry " ++ side_word side ++ codes " " ++ amount_t
 
 -- an event, behind others that named these operations
 abbrev pub event_text : Tables → Operations → Event → List ℕ
-event_text tables o (events.Call side call) = side_word side ++ codes " " ++ call_text tables (operations_of o (peer_of side)) call
+event_text tables o (events.Call side call) = side_word side ++ codes " " ++ call_text tables (operations_of o (other side)) call
 event_text tables o (events.Carry side most) = carry_text side most
 event_text tables o events.Break = codes "break"
 

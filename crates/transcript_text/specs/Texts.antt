@@ -2,6 +2,7 @@
 use Rattle.std.specs.Prelude.{ℕ, ℤ, ◌+◌, List, [], ◌∷◌, ◌++◌, Option, None, Some, Result, Ok, Err, codes, decimal, flat_map}
 use Rattle.osi_base.specs.declared.layer_words.Side.{Side}
 use Rattle.osi_base.specs.declared.layer_words.Side.TheVariants.{A, B}
+use Rattle.dialogue.specs.Sides.{other}
 use Rattle.stub_tables.specs.declared.tables.Tables.{Tables}
 use Rattle.dialogue.specs.declared.call.Call.{Call}
 use Rattle.dialogue.specs.declared.call.Call.TheVariants.{Invoke}
@@ -16,7 +17,7 @@ use Rattle.value_text.specs.Values.{hex_octet}
 use Rattle.script_lines.specs.Operations.{Operations}
 use Rattle.script_lines.specs.Invoked.{no_operations, operations_of, named_in, accepted}
 use Rattle.transcript_text.specs.declared.transcript.SoFar.{SoFar}
-use Rattle.transcript_text.specs.Words.{side_word, peer_of, mode_word, phase_word}
+use Rattle.transcript_text.specs.Words.{side_word, mode_word, phase_word}
 use Rattle.transcript_text.specs.Calls.{event_text, answer_text}
 use Rattle.transcript_text.specs.Indications.{indication_text}
 
@@ -29,7 +30,7 @@ octet_field octet = codes " " ++ hex_octet octet
 
 -- the octets that a carry from this side moved
 abbrev pub octets_line : Side → List ℕ → List ℕ
-octets_line side octets = line (codes "  " ++ side_word side ++ codes ">" ++ side_word (peer_of side) ++ flat_map octet_field octets)
+octets_line side octets = line (codes "  " ++ side_word side ++ codes ">" ++ side_word (other side) ++ flat_map octet_field octets)
 
 -- an indication at this side, whose accepted invocations named these operations
 abbrev pub indication_line : Tables → List ℕ → Side → Indication → List ℕ
@@ -61,7 +62,7 @@ entry_text tables s number (entries.Call side call answer) =
     line (decimal number ++ codes " " ++ event_text tables s.named (events.Call side call)) ++ line (codes "  " ++ answer_text answer)
 entry_text tables s number (entries.Carry side most carried) =
     line (decimal number ++ codes " " ++ event_text tables s.named (events.Carry side most))
-    ++ octets_line side carried.octets ++ flat_map (indication_line tables (operations_of s.taken (peer_of side)) (peer_of side)) carried.shown
+    ++ octets_line side carried.octets ++ flat_map (indication_line tables (operations_of s.taken (other side)) (other side)) carried.shown
 entry_text tables s number entries.Break = line (decimal number ++ codes " " ++ event_text tables s.named events.Break)
 
 -- the entries, the first of which has this number

@@ -11,11 +11,6 @@ abbrev pub side_word : Side → List ℕ
 side_word A = codes "A"
 side_word B = codes "B"
 
--- the other end
-abbrev pub peer_of : Side → Side
-peer_of A = B
-peer_of B = A
-
 abbrev pub mode_word : Mode → List ℕ
 mode_word Bare = codes "bare"
 mode_word Direct = codes "direct"

@@ -9,7 +9,7 @@ ghost use Rattle.transcript_text.specs.Words.{side_word};
 ghost use Rattle.dialogue.specs.declared.event.Event.TheVariants as events;
 
 use crate::typed::{put_argument, put_parameter, put_result};
-use crate::words::{peer_of, side_word};
+use crate::words::{other, side_word};
 use asn1_types::Val;
 use dialogue::{Call, CallRefusal, Event};
 use osi_base::{NoMemory, Oid, Proposal, Side, Syntax};
@@ -234,7 +234,7 @@ pub(crate) fn put_call_event(
 {
     text.put(side_word(side))?;
     text.put(" ")?;
-    put_call(text, tables, invoked.of(peer_of(side)), call)
+    put_call(text, tables, invoked.of(other(side)), call)
 }
 
 /// An event, with single spaces between its fields, behind others whose calls named these

@@ -2,11 +2,11 @@
 
 ghost use Rattle.std.specs.Prelude.{◌≡◌, ◌++◌, ◌∷◌, ◌<◌, ◌+◌, ◌^◌, ℕ, [], List, OnOk, IfOk, decimal, flat_map, codes};
 ghost use Rattle.transcript_text.specs.Texts.{octet_field, octets_line, indication_line, entry_text, entries_text, end_line, text_of, line, nothing_yet, taken_with, taken_in, behind};
-ghost use Rattle.transcript_text.specs.Words.{peer_of, mode_word};
+ghost use Rattle.transcript_text.specs.Words.{mode_word};
 
 use crate::call::{put_answer, put_call_event, put_carry};
 use crate::indication::put_indication;
-use crate::words::{mode_word, peer_of, phase_word, side_word};
+use crate::words::{mode_word, other, phase_word, side_word};
 use dialogue::{Call, CallRefusal, Entry, Indication, Mode, Phase, Transcript};
 use osi_base::{NoMemory, Octets, Side};
 use script_lines::InvokedOperations;
@@ -21,7 +21,7 @@ fn put_octets_line(text: &mut Text, side: Side, octets: &[u8]) -> Result<(), NoM
     text.put("  ")?;
     text.put(side_word(side))?;
     text.put(">")?;
-    text.put(side_word(peer_of(side)))?;
+    text.put(side_word(other(side)))?;
     put_octet_fields(text, octets)?;
     text.end_line()
 }
@@ -166,7 +166,7 @@ fn put_entry(
             put_carry(text, *side, *most)?;
             text.end_line()?;
             put_octets_line(text, *side, carried.octets.as_slice())?;
-            let peer = peer_of(*side);
+            let peer = other(*side);
             let own = before.taken.of(peer);
             put_indication_lines(text, tables, own, peer, carried.shown.as_slice())
         }

@@ -1,7 +1,8 @@
 //! The words of sides, modes and phases in texts.
 
 ghost use Rattle.std.specs.Prelude.{◌≡◌};
-ghost use Rattle.transcript_text.specs.Words.{side_word, peer_of, mode_word, phase_word};
+ghost use Rattle.dialogue.specs.Sides.{other};
+ghost use Rattle.transcript_text.specs.Words.{side_word, mode_word, phase_word};
 
 use dialogue::{Mode, Phase};
 use osi_base::Side;
@@ -17,8 +18,8 @@ pub fn side_word(side: Side) -> &'static str
 }
 
 /// The other end.
-pub fn peer_of(side: Side) -> Side
-    ensures { result ≡ peer_of side }
+pub fn other(side: Side) -> Side
+    ensures { result ≡ other side }
 {
     match side {
         Side::A => Side::B,

@@ -1,5 +1,5 @@
-//! A law: the codec of transfers that the model of `agreement` presumes exists, with this project's
-//! spellings. So the laws of two ends of reliable mode don't presume what there isn't.
+//! A law: there is a codec of transfers as the model of `agreement` presumes one, with this
+//! project's spellings. So what the laws of two ends of reliable mode presume can be met.
 #![tactic(auto)]
 
 mod laws;

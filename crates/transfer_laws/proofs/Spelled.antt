@@ -18,9 +18,10 @@ use Rattle.apdu_spelling.specs.Writing.{written_apdu, IsWritable}
 use Rattle.apdu_spelling.proofs.Written.{written_spelled}
 use Rattle.dialogue.specs.declared.config.Config.{Config}
 use Rattle.dialogue.specs.declared.config.Mode.{Mode}
-use Rattle.end_rules.specs.Base.{Base, HeardHead, Item, Fault, Whole, acse_name}
+use Rattle.end_rules.specs.Base.{Base, HeardHead, Item, Fault, Whole}
 use Rattle.end_rules.specs.Sets.{same_name}
 use Rattle.osi_base.specs.SetPlaces.{pair_of}
+use Rattle.osi_base.specs.Syntax.{acse_name}
 use Rattle.end_rules.specs.Faults.{fault_if, or_fault}
 use Rattle.end_rules.specs.Messages.{ValueContent, Remote}
 use Rattle.end_rules.specs.Hearing.{head_of_apdu}

@@ -10,6 +10,7 @@ use Rattle.end_rules.specs.Cases.{calc, config_of}
 use Rattle.end_rules.specs.Messages.{Message}
 use Rattle.end_rules.specs.State.{Body, holds_turn}
 use Rattle.osi_base.specs.SetPlaces.{pair_of}
+use Rattle.end_rules.specs.Encodings.{item_of, IsOf, Encoding, IsNewest}
 use Rattle.end_rules.specs.TakesActivities.{arrived_now}
 use Rattle.end_rules.specs.Reacting.{Fails, react}
 use Rattle.end_config.specs.Refusing.{config_refusal, early_refusal}
@@ -21,9 +22,9 @@ use Rattle.end_model.specs.BothEnds.{Common, base_at, Two, body_at, coming_to}
 use Rattle.end_model.specs.DirectEnds.{RunOf}
 use Rattle.association_reading.specs.Transfers.{association_spellings}
 use Rattle.reliable_model.specs.Codecs.{Carries}
-use Rattle.reliable_model.specs.Ledgers.{Encoding, transfer_log_of, Ledger, ReachedWithLedger}
+use Rattle.reliable_model.specs.Ledgers.{transfer_log_of, Ledger, ReachedWithLedger}
 use Rattle.reliable_model.specs.ReliableEnds.{reliable_common}
-use Rattle.reliable_model.specs.Transfers.{TakesTransferEnd, IsNewest, ArrivesWhole, item_of, IsOf}
+use Rattle.reliable_model.specs.Transfers.{TakesTransferEnd, ArrivesWhole}
 use Rattle.outcome_laws.specs.Exchanges.{Exchanges, exchange_of, ReachedWithExchanges}
 use Rattle.outcome_laws.specs.Outcomes.{AreAnswers}
 use Rattle.transfer_spelling.specs.Laws.{IsModule}

@@ -1,5 +1,5 @@
-//! Tests of `rtse`: worked transfers over its public calls. They stand in a crate of their own, so
-//! that the layer is proved once.
+//! Tests of `rtse`: worked transfers over its public calls. They stand in a crate of their own,
+//! since a crate with tests inside is proved twice.
 #![tactic(auto)]
 
 #[cfg(test)]

@@ -2,7 +2,7 @@
 use Rattle.std.proofs.Common.{ℕ, List, inl, inr}
 use Rattle.stub_tables.specs.declared.tables.Tables.{Tables}
 use Rattle.packed_codec.specs.Laws.{HasNoAny}
-use Rattle.ber_spelling.specs.Octets.{AreOctets}
+use Rattle.osi_base.specs.Octets.{AreOctets}
 use Rattle.table_file.specs.Contents.{contents_of}
 use Rattle.table_file.specs.Laws.{LoadedAreFiles}
 use Rattle.module_reading.specs.Modules.{HasTables}

@@ -1,6 +1,6 @@
 use Rattle.std.proofs.Common.{◌≡◌, drop}
+use Rattle.osi_base.specs.Syntax.{acse_name}
 use Rattle.association_meaning.specs.Steps as steps
-use Rattle.end_rules.specs.Base.{acse_name}
 use Rattle.association_meaning.proofs.association.first_wrong_unless_left.Given as goal
 
 abbrev pub invariant-loop-which : goal.invariant-loop-which

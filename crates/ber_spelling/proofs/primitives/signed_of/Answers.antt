@@ -1,6 +1,6 @@
 use Rattle.std.proofs.Common.{◌+◌, ◌∙◌, ap, arith}
 use Rattle.asn1_types.specs.Whole.{number_256}
-use Rattle.ber_spelling.specs.Octets.{AreOctets}
+use Rattle.osi_base.specs.Octets.{AreOctets}
 use Rattle.ber_spelling.proofs.Numbers.{number_high, signed_low, signed_high, again}
 use Rattle.ber_spelling.proofs.primitives.signed_of.Goals as goal
 

@@ -1,5 +1,5 @@
 use Rattle.std.proofs.Common.{◌≡◌, map, take}
-use Rattle.fixed_tables.specs.Rows.{part}
+use Rattle.asn1_types.specs.FixedRows.{part}
 use Rattle.fixed_tables.proofs.building.parts.Given as goal
 
 abbrev pub invariant-loop-name : goal.invariant-loop-name

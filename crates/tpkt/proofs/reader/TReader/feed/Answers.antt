@@ -8,7 +8,7 @@ pub returns-clause-all : goal.returns-clause-all
 returns-clause-all c = λ came given fits came_so.
     let is : c.args.self.now ≡ Some c.in-Some.held = search rules in
     let now : reading c.in-Some.held c.args.bytes.now ≡ fed c.all_taken.new.packets c.in_ok-held.held = search rules in
-    feed_all came c.args.bytes.now given c.all_taken.new.packets c.args.self.now c.in-Some.held c.in_ok-held.held fits (λ i. omega (arith, c.type_inv.bytes i)) is now came_so
+    feed_all came c.args.bytes.now given c.all_taken.new.packets c.args.self.now c.in-Some.held c.in_ok-held.held fits (record { each = λ i. omega (arith, c.type_inv.bytes i) }) is now came_so
 
 pub returns-clause-goes_on : goal.returns-clause-goes_on
 returns-clause-goes_on c = λ came given came_so.
