@@ -15,7 +15,7 @@ use Rattle.agreement.specs.Takings.{taken, hears, handed_up, marked_from, broken
 use Rattle.agreement.specs.Worlds.{Step, World, state_of, shared_at, IsRun, after}
 use Rattle.agreement.specs.Worlds.Step.{Acts, Takes, Passes}
 use Rattle.agreement.specs.Worlds.Moment.{By, Break}
-use Rattle.agreement.specs.Laws.{NoAbortOfItself, Encoding, encoding_of, encoded_by, encodings, IsNewest, first_of, started_after, items_started, item_of, IsOf, ItemsOfActivities}
+use Rattle.agreement.specs.Laws.{NoAbortOfItself, Encoding, encoding_of, encoded_by, encodings, IsNewest, next_queued, started_after, items_started, item_of, IsOf, ItemsOfActivities}
 use Rattle.agreement.proofs.Mail.{by-mode}
 use Rattle.agreement.proofs.BareWorlds.{bare}
 use Rattle.agreement.proofs.Views.{direct}
@@ -89,7 +89,7 @@ newest-more : (es : List Encoding) (item : Handed) (items : List Handed) → New
 newest-more [] item items h = tt
 newest-more (e ∷ es) item items h = of-more e.apdu e.activity item items h
 
-starts-kept : (es : List Encoding) (items queue : List Handed) (c : ℕ) (t : Option Transfer) → (queue ≡ [] → ⊥) → ItemsKept es items c t → ItemsKept es (first_of queue ++ items) (suc c) (started (record { started = c; transfer = t; queue = queue })).transfer
+starts-kept : (es : List Encoding) (items queue : List Handed) (c : ℕ) (t : Option Transfer) → (queue ≡ [] → ⊥) → ItemsKept es items c t → ItemsKept es (next_queued queue ++ items) (suc c) (started (record { started = c; transfer = t; queue = queue })).transfer
 starts-kept es items [] c t h k = absurd (h refl)
 starts-kept es items (item ∷ queue) c t h k =
     record {

@@ -281,12 +281,12 @@ ArriveWhole setup =
     IsNewest (record { activity = (state_of setup role world).incoming.last; apdu = value.apdu; identifier = value.identifier; pair = Some value.pair }) (encodings setup (other role) world)
 
 -- the items that an end started since its association began, the newest first: the k-th is that of its activity k
-abbrev pub first_of : List Handed → List Handed
-first_of [] = []
-first_of (item ∷ items) = item ∷ []
+abbrev pub next_queued : List Handed → List Handed
+next_queued [] = []
+next_queued (item ∷ items) = item ∷ []
 
 abbrev pub started_after : State → Step → List Handed → List Handed
-started_after state (Acts Starts) items = first_of state.outgoing.queue ++ items
+started_after state (Acts Starts) items = next_queued state.outgoing.queue ++ items
 started_after state (Takes Connect (Accepting set)) items = []
 started_after state step items = items
 

@@ -21,7 +21,7 @@ use dialogue::Indications;
 use osi_base::NoMemory;
 
 /// Takes off what stands first in what came, where it is looked at.
-fn first_of(intake: &mut Option<Intake>) -> Front
+fn next_front(intake: &mut Option<Intake>) -> Front
     ensures takes { TakesFirst (came_in intake.old) result (came_in intake.new) }
     ensures placed { IsPlaced result }
 {
@@ -46,7 +46,7 @@ impl<'t> End<'t> {
         ensures placed { IsPlaced result }
         ensures messages { HasMessages self.old.end.line.came }
     {
-        first_of(&mut self.intake)
+        next_front(&mut self.intake)
     }
 
     /// The size once what stands first is taken.

@@ -32,13 +32,13 @@ guard false x y h = cc
 some_is : {X : Type 0} (x y : X) → Some x ≡ Some y → x ≡ y
 some_is x y h = cc
 
-first_of : (a b : Bool) → (a && b) ≡ true → a ≡ true
-first_of true b h = refl
-first_of false b h = h
+left_true : (a b : Bool) → (a && b) ≡ true → a ≡ true
+left_true true b h = refl
+left_true false b h = h
 
 -- an end that leads is of reliable mode
 reliable : (base : Base) (body : Body) → leads base body ≡ true → base.mode ≡ Reliable
-reliable base body h = mode_is base.mode (first_of _ _ (first_of _ _ (first_of _ _ (first_of _ _ h))))
+reliable base body h = mode_is base.mode (left_true _ _ (left_true _ _ (left_true _ _ (left_true _ _ h))))
   where
     mode_is : (m : Mode) → is_reliable m ≡ true → m ≡ Reliable
     mode_is Reliable e = refl
@@ -72,7 +72,7 @@ carried : (name : List ℕ) (held : List SetItem) (own : List Alteration) (k c :
 carried name held own k c h = go (may_send held own k) refl h
   where
     go : (b : Bool) → may_send held own k ≡ b → (if b then Some k else lowest_with name own held) ≡ Some c → is_some (pair_of held c) ≡ true
-    go true m e = subst (λ (n : ℕ). is_some (pair_of held n) ≡ true) (some_is k c e) (first_of _ _ m)
+    go true m e = subst (λ (n : ℕ). is_some (pair_of held n) ≡ true) (some_is k c e) (left_true _ _ m)
     go false m e = lowest_in name own held c e
 
 -- ---- each thing leaves less

@@ -7,9 +7,9 @@ use Rattle.std.specs.Prelude.{slice_get}
 use Rattle.osi_base.specs.declared.layer_words.SetItem.{SetItem}
 use Rattle.association_sets.specs.end_rules.Sets.{Saved, below, newest}
 use Rattle.association_sets.specs.end_rules.State.{Piece, Octets, Marked, joined, from_mark, highest}
-use Rattle.association_pieces.specs.NewestEnd.{first_of, rest, starts_below, starts_at, front_octets}
+use Rattle.association_pieces.specs.NewestEnd.{top_of, rest, starts_below, starts_at, front_octets}
 
-pub first_got : {X : Type 0} (xs : List X) → slice_get xs 0 ≡ first_of xs
+pub first_got : {X : Type 0} (xs : List X) → slice_get xs 0 ≡ top_of xs
 first_got [] = refl
 first_got (x ∷ xs) = refl
 

@@ -3,9 +3,9 @@ use Rattle.std.specs.Prelude.{ℕ, List, [], ◌∷◌, Bool, true, false, nat_e
 use Rattle.association_sets.specs.end_rules.Sets.{Saved}
 use Rattle.association_sets.specs.end_rules.State.{Piece, Octets, Marked}
 
-abbrev pub first_of : {X : Type 0} → List X → Option X
-first_of [] = None
-first_of (x ∷ xs) = Some x
+abbrev pub top_of : {X : Type 0} → List X → Option X
+top_of [] = None
+top_of (x ∷ xs) = Some x
 
 abbrev pub rest : {X : Type 0} → List X → List X
 rest [] = []

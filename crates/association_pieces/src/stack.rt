@@ -2,7 +2,7 @@
 
 ghost use Rattle.std.specs.Prelude.{◌≡◌, ◌<◌, Some, List, [], ◌∷◌, reverse, length, slice_get, OnOk, OnErr, MatchOption};
 ghost use Rattle.std.specs.Option.{option_copied};
-ghost use Rattle.association_pieces.specs.NewestEnd.{first_of, rest};
+ghost use Rattle.association_pieces.specs.NewestEnd.{top_of, rest};
 
 use osi_base::NoMemory;
 use std::alloc::Global;
@@ -68,7 +68,7 @@ impl<T> Stack<T> {
     /// The newest item.
     #[tactic(auto, using(crate::proofs::NewestEnd::first_got))]
     pub fn first(&self) -> Option<&T>
-        ensures { option_copied result ≡ first_of self.now }
+        ensures { option_copied result ≡ top_of self.now }
     {
         self.get(0)
     }

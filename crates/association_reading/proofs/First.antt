@@ -37,8 +37,8 @@ handed_up size tsdu least most within fits =
     r.0 ∙ s.2
 
 -- the fronts of what was read with these packets
-abbrev first_of : ReaderState → List Packet → Front
-first_of held packets = first_front held (all_fronts packets)
+abbrev front_read : ReaderState → List Packet → Front
+front_read held packets = first_front held (all_fronts packets)
 
 -- a unit that can't stand alone stands behind an empty GT, which says nothing
 placed_first : (at : UserPlaces) (unit : SessionWord) (held : ReaderState) (more : List Front) → (start : ℕ) × (first_front held (fronts_of_units at (Ok (in_its_place unit)) ++ more) ≡ OfSession unit start)
@@ -59,8 +59,8 @@ stands_first tables size word more least most sendable =
     let read : units_at tsdu ≡ Ok (session_units tables word) = all_again tsdu (session_units tables word) (written_are (session_units tables word) sendable.units) in
     let p = placed_first (user_places tsdu) unit b.held (all_fronts b.packets) in (
       p.0,
-      ap (λ (f : ReaderProgress). first_of f.held f.packets) (any_cut nothing octets more)
-          ∙ ap (λ (ps : List Packet). first_of b.held (ps ++ b.packets)) one
+      ap (λ (f : ReaderProgress). front_read f.held f.packets) (any_cut nothing octets more)
+          ∙ ap (λ (ps : List Packet). front_read b.held (ps ++ b.packets)) one
           ∙ ap (λ (r : Result (List SessionWord) UnitFault). first_front b.held (fronts_of_units (user_places tsdu) r ++ all_fronts b.packets)) read
           ∙ p.1,
     )
@@ -74,8 +74,8 @@ whole_first : (p : Packet) (unit : List ℕ) (front : Front) (more : List ℕ) �
 whole_first p unit front more is fits brings =
     let a : ReaderProgress = reading nothing (packet unit) in
     let b : ReaderProgress = reading a.held more in
-    ap (λ (f : ReaderProgress). first_of f.held f.packets) (any_cut nothing (packet unit) more)
-    ∙ ap (λ (ps : List Packet). first_of b.held (ps ++ b.packets)) (one_is_read p unit is fits)
+    ap (λ (f : ReaderProgress). front_read f.held f.packets) (any_cut nothing (packet unit) more)
+    ∙ ap (λ (ps : List Packet). front_read b.held (ps ++ b.packets)) (one_is_read p unit is fits)
     ∙ ap (λ (fs : List Front). first_front b.held (fs ++ all_fronts b.packets)) brings
 
 pub units_first : TransportUnitsStandFirst

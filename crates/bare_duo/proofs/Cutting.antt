@@ -24,7 +24,7 @@ use Rattle.end_rules.specs.Hearing.{Rejecting, Heard, hear, head_of, with_reject
 use Rattle.osi_base.specs.SetPlaces.{pair_of}
 use Rattle.end_rules.specs.History.{Step, fed, took, answered, fault, feed_end, after_taken}
 use Rattle.bare_end.specs.end_wire.Values.{IsContent}
-use Rattle.bare_end.specs.end_wire.Bare.{Whole, first_of, first_at, front, behind, bare_base, bare_value, bare_message}
+use Rattle.bare_end.specs.end_wire.Bare.{Whole, beginning_of, first_at, front, behind, bare_base, bare_value, bare_message}
 use Rattle.bare_end.specs.end_wire.Line.{End, after, after_all}
 use Rattle.bare_end.specs.end_wire.Feeding.{Reads, passes, waits, takes, fails, taking, Feeds}
 use Rattle.bare_end.specs.end_wire.Laws.{OneContent}
@@ -54,7 +54,7 @@ whole_within_text text used e =
 pub whole_stays : (text more : List ℕ) (used : ℕ) → first_at text ≡ Whole used → first_at (text ++ more) ≡ Whole used
 unfolding first_at
 whole_stays text more used e =
-    let r = read_of text used e in ap first_of (read_stays any_value_rows any_value_row false 262144 text more r.value used r.read)
+    let r = read_of text used e in ap beginning_of (read_stays any_value_rows any_value_row false 262144 text more r.value used r.read)
 
 -- ---- one end
 

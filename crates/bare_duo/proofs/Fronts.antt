@@ -13,7 +13,7 @@ use Rattle.ber_spelling.proofs.WholeValues.{read_stays, fault_stays}
 use Rattle.stub_tables.specs.AnyValue.{any_value_rows, any_value_row}
 use Rattle.stub_tables.specs.Apdus.{IsWhole, IsShort}
 use Rattle.stub_tables.proofs.Readings.{whole_read, nothing_short}
-use Rattle.bare_end.specs.end_wire.Bare.{Short, Whole, Faulty, first_of, first_at}
+use Rattle.bare_end.specs.end_wire.Bare.{Short, Whole, Faulty, beginning_of, first_at}
 
 abbrev read_any : List ℕ → Result (Value × ℕ) ReadFault
 read_any text = read_at any_value_rows any_value_row false 262144 text
@@ -31,7 +31,7 @@ pub read_of : (text : List ℕ) (used : ℕ) → first_at text ≡ Whole used �
 unfolding first_at
 read_of text used e = go (read_any text) refl e
   where
-    go : (r : Result (Value × ℕ) ReadFault) → read_any text ≡ r → first_of r ≡ Whole used → IsRead text used
+    go : (r : Result (Value × ℕ) ReadFault) → read_any text ≡ r → beginning_of r ≡ Whole used → IsRead text used
     go (Ok x) is e =
         let n : x.1 ≡ used = cc in
         record { value = x.0; read = is ∙ ap (λ (k : ℕ). done (x.0, k)) n }
@@ -45,17 +45,17 @@ pub faulty_stays : (text more : List ℕ) (place : ℕ) → first_at text ≡ Fa
 unfolding first_at
 faulty_stays text more place e = go (read_any text) refl e
   where
-    go : (r : Result (Value × ℕ) ReadFault) → read_any text ≡ r → first_of r ≡ Faulty place → first_of (read_any (text ++ more)) ≡ Faulty place
+    go : (r : Result (Value × ℕ) ReadFault) → read_any text ≡ r → beginning_of r ≡ Faulty place → beginning_of (read_any (text ++ more)) ≡ Faulty place
     go (Ok x) is e = absurd cc
     go (Err faults.Short) is e = absurd cc
-    go (Err (faults.NotSpelled at kind)) is e = ap first_of (fault_stays any_value_rows any_value_row false 262144 text more (faults.NotSpelled at kind) (λ s. cc) is) ∙ e
-    go (Err (faults.TooDeep at)) is e = ap first_of (fault_stays any_value_rows any_value_row false 262144 text more (faults.TooDeep at) (λ s. cc) is) ∙ e
-    go (Err (faults.TooLong at)) is e = ap first_of (fault_stays any_value_rows any_value_row false 262144 text more (faults.TooLong at) (λ s. cc) is) ∙ e
+    go (Err (faults.NotSpelled at kind)) is e = ap beginning_of (fault_stays any_value_rows any_value_row false 262144 text more (faults.NotSpelled at kind) (λ s. cc) is) ∙ e
+    go (Err (faults.TooDeep at)) is e = ap beginning_of (fault_stays any_value_rows any_value_row false 262144 text more (faults.TooDeep at) (λ s. cc) is) ∙ e
+    go (Err (faults.TooLong at)) is e = ap beginning_of (fault_stays any_value_rows any_value_row false 262144 text more (faults.TooLong at) (λ s. cc) is) ∙ e
     go (Err faults.NoMemory) is e = absurd cc
 
 pub nothing_first : first_at [] ≡ Short
 unfolding first_at IsShort
-nothing_first = ap first_of nothing_short
+nothing_first = ap beginning_of nothing_short
 
 -- ---- what is read is part of what came
 
@@ -124,7 +124,7 @@ whole_came text more whole rest used e w first =
 pub whole_faultless : (text more whole rest : List ℕ) (place : ℕ) → text ++ more ≡ whole ++ rest → IsWhole whole → first_at text ≡ Faulty place → ⊥
 unfolding first_at
 whole_faultless text more whole rest place e w f =
-    no (ap first_of (sym (whole_read whole rest w)) ∙ ap first_at (sym e) ∙ faulty_stays text more place f)
+    no (ap beginning_of (sym (whole_read whole rest w)) ∙ ap first_at (sym e) ∙ faulty_stays text more place f)
   where
     no : Whole (length whole) ≡ Faulty place → ⊥
     no k = cc

@@ -14,7 +14,7 @@ use Rattle.stub_tables.specs.Apdus.{IsShort}
 use Rattle.stub_tables.proofs.Readings.{any_value_sound, nothing_short}
 use Rattle.stream_front.specs.declared.first_value.FirstValue.{FirstValue}
 use Rattle.stream_front.specs.Fronts.{front_at, front_of}
-use Rattle.end_wire.specs.Bare.{first_of, first_at}
+use Rattle.end_wire.specs.Bare.{beginning_of, first_at}
 use Rattle.bare_end.specs.First.{IsFirst}
 
 abbrev Read : Type 0
@@ -48,11 +48,11 @@ module _ (octets : List ℕ) (are : AreOctets octets) where
   unfolding first_at
   by_read (Ok x) e =
       let found = read_is_spelled any_value_rows any_value_row false 262144 octets x.0 x.1 are e in
-      record { first = ap first_of e; some = some_used octets x.0 x.1 found.1; within = found.0 }
-  by_read (Err faults.Short) e = record { first = ap first_of e; few = short_is_within any_value_rows any_value_row false 262144 octets e }
-  by_read (Err (faults.NotSpelled place kind)) e = ap first_of e
-  by_read (Err (faults.TooDeep place)) e = ap first_of e
-  by_read (Err (faults.TooLong place)) e = ap first_of e
+      record { first = ap beginning_of e; some = some_used octets x.0 x.1 found.1; within = found.0 }
+  by_read (Err faults.Short) e = record { first = ap beginning_of e; few = short_is_within any_value_rows any_value_row false 262144 octets e }
+  by_read (Err (faults.NotSpelled place kind)) e = ap beginning_of e
+  by_read (Err (faults.TooDeep place)) e = ap beginning_of e
+  by_read (Err (faults.TooLong place)) e = ap beginning_of e
   by_read (Err faults.NoMemory) e = absurd (fault_is_first any_value_rows any_value_row false 262144 octets faults.NoMemory (λ q. cc) e).1
 
   -- what the scanner says of octets is what stands first in them

@@ -12,7 +12,7 @@ use Rattle.ber_spelling.specs.declared.spot.Scope.{Scope}
 use Rattle.osi_base.specs.Octets.{AreOctets}
 use Rattle.ber_spelling.specs.Reading.{Spot, Opened, Ahead, ended, begun, Reading, ◌>>=◌, refuse}
 use Rattle.ber_spelling.specs.Fields.{identifier_at, look_at}
-use Rattle.ber_spelling.specs.Rules.{Reader, form_at, plain, all_items_at, list_item_at, list_done, set_item_at, set_of_done, first_of, last_of, close_at, explicit_at}
+use Rattle.ber_spelling.specs.Rules.{Reader, form_at, plain, all_items_at, list_item_at, list_done, set_item_at, set_of_done, value_ahead, end_ahead, close_at, explicit_at}
 use Rattle.ber_spelling.specs.Spelling.{Spelled, ListStep, SetItemStep}
 use Rattle.ber_spelling.proofs.Identifiers.{IsIn, bind_ok, ok_is, done}
 use Rattle.ber_spelling.proofs.Steady.{Run, Relation, ReadAs, Found, Only, form_ok, form_passes, taken_octets}
@@ -169,12 +169,12 @@ module _ (spell : Value → List ℕ) (inner : Reader) (rel : Spelled) (W : Wron
 close_err : (x : Scope) (to : Spot) (f : ReadFault) → (f ≡ Short → ⊥) → AreOctets to.rest → IsIn x to.place → close_at x to ≡ Err f → CloseFault x to f
 unfolding close_at
 close_err x to f ne are here e =
-    elim (bind_err (look_at x to.place to.rest) last_of f e) [
+    elim (bind_err (look_at x to.place to.rest) end_ahead f e) [
       | inl t ↦ inl (look_err x to.place to.rest f ne are t)
       | inr t ↦ by_ahead t.0 t.1 t.2
     ]
   where
-    by_ahead : (a : Ahead) → look_at x to.place to.rest ≡ Ok a → last_of a ≡ Err f → CloseFault x to f
+    by_ahead : (a : Ahead) → look_at x to.place to.rest ≡ Ok a → end_ahead a ≡ Err f → CloseFault x to f
     by_ahead (ended p b) look g = absurd (not_err b f g)
     by_ahead (begun o s) look g =
         let begins = begins_found x to o s are here look in
@@ -182,10 +182,10 @@ close_err x to f ne are here e =
 
 close_fails : (x : Scope) (to : Spot) (f : ReadFault) → CloseFault x to f → close_at x to ≡ Err f
 unfolding close_at
-close_fails x to f (inl c) = bind_fails (look_at x to.place to.rest) last_of f (look_fails x to.place to.rest f c)
+close_fails x to f (inl c) = bind_fails (look_at x to.place to.rest) end_ahead f (look_fails x to.place to.rest f c)
 close_fails x to f (inr c) =
     let begins = c.2 in
-    bind_goes (look_at x to.place to.rest) last_of (begun c.0 c.1) (failed f) (begins_read x to c.0 c.1 begins)
+    bind_goes (look_at x to.place to.rest) end_ahead (begun c.0 c.1) (failed f) (begins_read x to c.0 c.1 begins)
     (refused {A = Spot} c.0.start.place Extra f (subst (λ (y : Spot). IsAt y.place Extra f) (sym begins.opens.starts) c.3))
 
 module _ (run : Run) (P : Relation) (W : Wrong) where
@@ -193,7 +193,7 @@ module _ (run : Run) (P : Relation) (W : Wrong) where
   closed x v = close_at x v.1 >>= λ after. done {A = Value × Spot} (v.0, after)
 
   abbrev opened : Scope → Ahead → Reading (Value × Spot)
-  opened x a = first_of a >>= λ f. run x f.0 f.1 >>= closed x
+  opened x a = value_ahead a >>= λ f. run x f.0 f.1 >>= closed x
 
   one_err : Found run P → Finds run W → (x : Scope) (b : Spot) (f : ReadFault) → (f ≡ Short → ⊥) → AreOctets b.rest → IsIn x b.place → (a : Ahead) → look_at x b.place b.rest ≡ Ok a → opened x a ≡ Err f → OneFault P W x b f
   one_err found h x b f ne are here (ended p after) look e =

@@ -13,7 +13,7 @@ use Rattle.ber_spelling.specs.declared.spot.Scope.{Scope}
 use Rattle.asn1_types.specs.declared.row.Tag as tags
 use Rattle.ber_spelling.specs.Reading.{Spot, Opened, Ahead, ended, begun, Reading, ◌>>=◌, FailsWith, refuse}
 use Rattle.ber_spelling.specs.Fields.{look_at, extent_at}
-use Rattle.ber_spelling.specs.Rules.{Reader, part_at, parts_at, present_at, last_of, close_at, expect_at, sequence_at, bare}
+use Rattle.ber_spelling.specs.Rules.{Reader, part_at, parts_at, present_at, end_ahead, close_at, expect_at, sequence_at, bare}
 use Rattle.ber_spelling.proofs.Steps.{FailsWith-bind, FailsWith-same}
 use Rattle.ber_reading.specs.Parts.{taken_at, absent_at, found_at, part_from, parts_from, parts_behind}
 
@@ -107,7 +107,7 @@ module _ (begins : ℕ → Class → ℕ → Bool) (inner : ℕ → Reader) (sco
 abbrev nothing_before : Spot → Parts
 nothing_before after = Ok ([], after)
 
-closes : (read : Reading Ahead) → (read >>= λ a. last_of a >>= nothing_before) ≡ ((read >>= last_of) >>= nothing_before)
+closes : (read : Reading Ahead) → (read >>= λ a. end_ahead a >>= nothing_before) ≡ ((read >>= end_ahead) >>= nothing_before)
 closes (Ok (ended place after)) = refl
 closes (Ok (begun opened after)) = refl
 closes (Err e) = refl

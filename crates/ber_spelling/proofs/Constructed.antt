@@ -10,7 +10,7 @@ use Rattle.asn1_types.specs.declared.row.Tag as tags
 use Rattle.osi_base.specs.Octets.{AreOctets}
 use Rattle.ber_spelling.specs.Reading.{Spot, Opened, Ahead, ended, begun, Reading, ◌>>=◌}
 use Rattle.ber_spelling.specs.Fields.{identifier_at, inside, inside_until, extent_at, look_at}
-use Rattle.ber_spelling.specs.Rules.{expect_at, constructed_at, first_of, last_of, open_at, close_at, explicit_at}
+use Rattle.ber_spelling.specs.Rules.{expect_at, constructed_at, value_ahead, end_ahead, open_at, close_at, explicit_at}
 use Rattle.ber_spelling.specs.Spelling.{IsIdentifier, IsDefinite, IsIndefinite, IsConstructed}
 use Rattle.ber_spelling.proofs.Identifiers.{IsIn, in_before, Taken, bind_ok, ok_is, identifier_found}
 use Rattle.ber_spelling.proofs.Lengths.{Until, Marked, extent_found, extent_until, extent_marked}
@@ -188,10 +188,10 @@ constructed_only body tag Q tagged h = record {
 
 abbrev pub explicit_body : Run → Body
 explicit_body run scope s =
-    look_at scope s.place s.rest >>= λ a. first_of a >>= λ f. run scope f.0 f.1 >>= λ v. close_at scope v.1 >>= λ after. Ok (v.0, after)
+    look_at scope s.place s.rest >>= λ a. value_ahead a >>= λ f. run scope f.0 f.1 >>= λ v. close_at scope v.1 >>= λ after. Ok (v.0, after)
 
 abbrev opening : Scope × Spot → Ahead → Reading (Scope × Opened × Spot)
-opening x a = first_of a >>= λ f. Ok (x.0, f.0, f.1)
+opening x a = value_ahead a >>= λ f. Ok (x.0, f.0, f.1)
 
 abbrev holding : Run → Scope × Opened × Spot → Reading (Value × Spot)
 holding run o = run o.0 o.1 o.2 >>= λ v. close_at o.0 v.1 >>= λ after. Ok (v.0, after)
@@ -199,7 +199,7 @@ holding run o = run o.0 o.1 o.2 >>= λ v. close_at o.0 v.1 >>= λ after. Ok (v.0
 abbrev looking : Scope × Spot → Reading (Scope × Opened × Spot)
 looking x = look_at x.0 x.1.place x.1.rest >>= opening x
 
-by_look : (run : Run) (x : Scope × Spot) (a : Reading Ahead) → ((a >>= opening x) >>= holding run) ≡ (a >>= λ a. first_of a >>= λ f. run x.0 f.0 f.1 >>= λ v. close_at x.0 v.1 >>= λ after. Ok (v.0, after))
+by_look : (run : Run) (x : Scope × Spot) (a : Reading Ahead) → ((a >>= opening x) >>= holding run) ≡ (a >>= λ a. value_ahead a >>= λ f. run x.0 f.0 f.1 >>= λ v. close_at x.0 v.1 >>= λ after. Ok (v.0, after))
 by_look run x (Ok (ended place after)) = refl
 by_look run x (Ok (begun opened after)) = refl
 by_look run x (Err e) = refl
@@ -219,18 +219,18 @@ explicit_is run tag scope o s = by_expect run scope s (expect_at tag true o)
 pub explicit_same : (run : Run) (tag : tags.Tag) → ◌≡◌ {A = Run} (constructed_at (explicit_body run) tag) (explicit_at run tag)
 explicit_same run tag = λ i scope o s. sym (explicit_is run tag scope o s) i
 
-pub first_begun : (a : Ahead) (f : Opened × Spot) → first_of a ≡ Ok f → a ≡ begun f.0 f.1
+pub first_begun : (a : Ahead) (f : Opened × Spot) → value_ahead a ≡ Ok f → a ≡ begun f.0 f.1
 first_begun (ended place after) f e = absurd cc
 first_begun (begun o s) f e = ap (λ (x : Opened × Spot). begun x.0 x.1) (ok_is (o, s) f e)
 
-pub last_ended : (a : Ahead) (t : Spot) → last_of a ≡ Ok t → (place : ℕ) × (a ≡ ended place t)
+pub last_ended : (a : Ahead) (t : Spot) → end_ahead a ≡ Ok t → (place : ℕ) × (a ≡ ended place t)
 last_ended (ended place after) t e = (place, ap (ended place) (ok_is after t e))
 last_ended (begun o s) t e = absurd cc
 
 pub close_found : (scope : Scope) (s to : Spot) → IsIn scope s.place → close_at scope s ≡ Ok to → EndFound scope s.place s.rest s.place to
 unfolding close_at
 close_found scope s to here e =
-    let b = bind_ok (look_at scope s.place s.rest) last_of to e in
+    let b = bind_ok (look_at scope s.place s.rest) end_ahead to e in
     let l = last_ended b.0 to b.2 in
     let f = look_found scope s.place s.rest b.0 here b.1 in
     let g : EndFound scope s.place s.rest l.0 to = subst (AheadFound scope s.place s.rest) l.1 f in
@@ -240,7 +240,7 @@ pub explicit_found : (run : Run) (P : Relation) → Found run P → BodyFound (e
 explicit_found run P h = record {
   found = λ scope s v to octets here e.
       let b1 = bind_ok (look_at scope s.place s.rest) _ (v, to) e in
-      let b2 = bind_ok (first_of b1.0) _ (v, to) b1.2 in
+      let b2 = bind_ok (value_ahead b1.0) _ (v, to) b1.2 in
       let a-is = first_begun b1.0 b2.0 b2.1 in
       let f : BeginFound scope s.place s.rest b2.0.0 b2.0.1 = subst (AheadFound scope s.place s.rest) a-is (look_found scope s.place s.rest b1.0 here b1.1) in
       let b3 = bind_ok (run scope b2.0.0 b2.0.1) _ (v, to) b2.2 in

@@ -16,7 +16,7 @@ use Rattle.asn1_types.specs.Tags.{tag_or}
 use Rattle.ber_spelling.specs.declared.spot.StringKind.TheVariants.{OfOctets, OfBits}
 use Rattle.ber_spelling.specs.Reading.{Spot, Opened, Ahead, ended, begun, Reading}
 use Rattle.ber_spelling.specs.Fields.{extent_at, look_at}
-use Rattle.ber_spelling.specs.Rules.{Reader, expect_at, first_of, last_of, open_at, close_at, explicit_at, present_at, part_at, parts_at, sequence_at, choice_at, whole_at, any_at, dead, or_explicit, all_items_at, slot_at, set_done, nothing_filled, read_by, always, boolean_rule, is_strict_boolean, integer_rule, enumerated_rule, null_rule, object_id_rule, whole_octets, whole_text, whole_bits, has_zero_bits, Guise, bare, plain, under, is_other}
+use Rattle.ber_spelling.specs.Rules.{Reader, expect_at, value_ahead, end_ahead, open_at, close_at, explicit_at, present_at, part_at, parts_at, sequence_at, choice_at, whole_at, any_at, dead, or_explicit, all_items_at, slot_at, set_done, nothing_filled, read_by, always, boolean_rule, is_strict_boolean, integer_rule, enumerated_rule, null_rule, object_id_rule, whole_octets, whole_text, whole_bits, has_zero_bits, Guise, bare, plain, under, is_other}
 use Rattle.ber_spelling.proofs.Growing.{grown, grown_opened, grown_ahead, Grows, Grows-bind, Grows-same, Grows-cond, with_spot, with_opened, extent_grows, look_grows}
 use Rattle.ber_spelling.proofs.Steady.{Run}
 use Rattle.ber_spelling.proofs.Items.{GrowsRun, constructed_grows}
@@ -25,11 +25,11 @@ use Rattle.ber_spelling.proofs.Sets.{set_grows}
 use Rattle.ber_spelling.proofs.Segments.{prim_grows, string_grows, list_grows, set_of_grows}
 use Rattle.asn1_types.specs.Writing.{written}
 
-first_grows : (a : Ahead) (more : List ℕ) → Grows (with_opened more) (first_of a) (first_of (grown_ahead more a))
+first_grows : (a : Ahead) (more : List ℕ) → Grows (with_opened more) (value_ahead a) (value_ahead (grown_ahead more a))
 first_grows (ended place after) more = refl
 first_grows (begun o s) more = refl
 
-last_grows : (a : Ahead) (more : List ℕ) → Grows (grown more) (last_of a) (last_of (grown_ahead more a))
+last_grows : (a : Ahead) (more : List ℕ) → Grows (grown more) (end_ahead a) (end_ahead (grown_ahead more a))
 last_grows (ended place after) more = refl
 last_grows (begun o s) more = refl
 
@@ -42,12 +42,12 @@ open_grows tag scope o s more =
     Grows-same (with_open more) (expect_at tag true o) _ _ (λ u e.
     Grows-bind (with_spot more) (with_open more) (extent_at scope s.place s.rest) (extent_at scope s.place (s.rest ++ more)) _ _ (extent_grows scope s.place s.rest more) (λ x e.
     Grows-bind (grown_ahead more) (with_open more) (look_at x.0 x.1.place x.1.rest) (look_at x.0 x.1.place (x.1.rest ++ more)) _ _ (look_grows x.0 x.1.place x.1.rest more) (λ a e.
-    Grows-bind (with_opened more) (with_open more) (first_of a) (first_of (grown_ahead more a)) _ _ (first_grows a more) (λ f e. refl))))
+    Grows-bind (with_opened more) (with_open more) (value_ahead a) (value_ahead (grown_ahead more a)) _ _ (first_grows a more) (λ f e. refl))))
 
 close_grows : (scope : Scope) (s : Spot) (more : List ℕ) → Grows (grown more) (close_at scope s) (close_at scope (grown more s))
 unfolding close_at
 close_grows scope s more =
-    Grows-bind (grown_ahead more) (grown more) (look_at scope s.place s.rest) (look_at scope s.place (s.rest ++ more)) last_of last_of (look_grows scope s.place s.rest more) (λ a e. last_grows a more)
+    Grows-bind (grown_ahead more) (grown more) (look_at scope s.place s.rest) (look_at scope s.place (s.rest ++ more)) end_ahead end_ahead (look_grows scope s.place s.rest more) (λ a e. last_grows a more)
 
 pub explicit_grows : (run : Run) (tag : tags.Tag) → GrowsRun run → GrowsRun (explicit_at run tag)
 unfolding explicit_at
@@ -95,7 +95,7 @@ module _ (begins : ℕ → Class → ℕ → Bool) (inner : ℕ → Reader) (h :
 
   parts_grow : (ps : List Part) (scope : Scope) (a : Ahead) (more : List ℕ) → Grows (with_parts more) (parts_at begins inner scope a ps) (parts_at begins inner scope (grown_ahead more a) ps)
   unfolding parts_at
-  parts_grow [] scope a more = Grows-bind (grown more) (with_parts more) (last_of a) (last_of (grown_ahead more a)) _ _ (last_grows a more) (λ t e. refl)
+  parts_grow [] scope a more = Grows-bind (grown more) (with_parts more) (end_ahead a) (end_ahead (grown_ahead more a)) _ _ (last_grows a more) (λ t e. refl)
   parts_grow (p ∷ ps) scope a more =
       Grows-bind (with_ahead more) (with_parts more) (part_at begins (inner p.inner.0) p scope a) (part_at begins (inner p.inner.0) p scope (grown_ahead more a)) _ _ (part_grows p scope a more) (λ x e.
       Grows-bind (with_parts more) (with_parts more) (parts_at begins inner scope x.1 ps) (parts_at begins inner scope (grown_ahead more x.1) ps) _ _ (parts_grow ps scope x.1 more) (λ y e. refl))

@@ -20,7 +20,7 @@ use Rattle.ber_spelling.specs.declared.spot.Gathered.{Gathered}
 use Rattle.ber_spelling.specs.Order.{Filled}
 use Rattle.ber_spelling.specs.Reading.{Spot, Opened, Ahead, ended, begun, Reading, ◌>>=◌}
 use Rattle.ber_spelling.specs.Fields.{extent_at, contents_at, look_at}
-use Rattle.ber_spelling.specs.Rules.{Reader, is_opened, expect_at, some_or_refuse, form_at, primitive_at, always, boolean_rule, is_strict_boolean, integer_rule, enumerated_rule, null_rule, object_id_rule, constructed_at, finish, item_at, items_at, all_items_at, segment_tag, nothing, segment_rule, segment_at, segmented_at, string_rule, string_at, whole_octets, whole_text, whole_bits, has_zero_bits, list_item_at, list_done, list_at, first_of, last_of, open_at, close_at, explicit_at, present_at, part_at, parts_at, sequence_at, nothing_filled, set_done, ordered_at, is_free, fill_at, slot_at, choice_at, anew, sized_at, marked_at, whole_at, any_at, dead, or_explicit, read_by, Guise, bare, plain, under, is_other, set_item_at, set_of_done, set_of_at}
+use Rattle.ber_spelling.specs.Rules.{Reader, is_opened, expect_at, some_or_refuse, form_at, primitive_at, always, boolean_rule, is_strict_boolean, integer_rule, enumerated_rule, null_rule, object_id_rule, constructed_at, finish, item_at, items_at, all_items_at, segment_tag, nothing, segment_rule, segment_at, segmented_at, string_rule, string_at, whole_octets, whole_text, whole_bits, has_zero_bits, list_item_at, list_done, list_at, value_ahead, end_ahead, open_at, close_at, explicit_at, present_at, part_at, parts_at, sequence_at, nothing_filled, set_done, ordered_at, is_free, fill_at, slot_at, choice_at, anew, sized_at, marked_at, whole_at, any_at, dead, or_explicit, read_by, Guise, bare, plain, under, is_other, set_item_at, set_of_done, set_of_at}
 use Rattle.ber_spelling.proofs.Steady.{Run, RunOf}
 use Rattle.ber_spelling.proofs.Constructed.{BodyOf}
 use Rattle.ber_spelling.proofs.Inside.{EndsAt, Inside, Inside-bind, Inside-cond, nowhere, second, Begun, Contained, Looked, extent_inside, contents_inside, look_inside}
@@ -146,11 +146,11 @@ set_of_inside spell inner tag h = constructed_inside (all_items_at (set_item_at 
 abbrev Open : ℕ → Scope × Opened × Spot → Type 0
 Open end x = (x.1.start.place ≤ end) × EndsAt end x.2
 
-first_inside : (a : Ahead) (end : ℕ) → Looked end a → Inside (Begun end) end (first_of a)
+first_inside : (a : Ahead) (end : ℕ) → Looked end a → Inside (Begun end) end (value_ahead a)
 first_inside (ended place after) end k = k.0
 first_inside (begun o s) end k = k
 
-last_inside : (a : Ahead) (end : ℕ) → Looked end a → Inside (EndsAt end) end (last_of a)
+last_inside : (a : Ahead) (end : ℕ) → Looked end a → Inside (EndsAt end) end (end_ahead a)
 last_inside (ended place after) end k = k.1
 last_inside (begun o s) end k = k.0
 
@@ -160,11 +160,11 @@ open_inside tag scope o s end le e =
     expected (Open end) tag true o end _ le
     (Inside-bind (second end) (Open end) end (extent_at scope s.place s.rest) _ (extent_inside scope s.place s.rest end e) (λ x k.
     Inside-bind (Looked end) (Open end) end (look_at x.0 x.1.place x.1.rest) _ (look_inside x.0 x.1.place x.1.rest end k) (λ a l.
-    Inside-bind (Begun end) (Open end) end (first_of a) _ (first_inside a end l) (λ f m. m))))
+    Inside-bind (Begun end) (Open end) end (value_ahead a) _ (first_inside a end l) (λ f m. m))))
 
 close_inside : (scope : Scope) (s : Spot) (end : ℕ) → EndsAt end s → Inside (EndsAt end) end (close_at scope s)
 unfolding close_at
-close_inside scope s end e = Inside-bind (Looked end) (EndsAt end) end (look_at scope s.place s.rest) last_of (look_inside scope s.place s.rest end e) (λ a k. last_inside a end k)
+close_inside scope s end e = Inside-bind (Looked end) (EndsAt end) end (look_at scope s.place s.rest) end_ahead (look_inside scope s.place s.rest end e) (λ a k. last_inside a end k)
 
 explicit_inside : (run : Run) (tag : tags.Tag) → InsideRun run → InsideRun (explicit_at run tag)
 unfolding explicit_at
@@ -200,7 +200,7 @@ module _ (begins : ℕ → Class → ℕ → Bool) (inner : ℕ → Reader) (h :
 
   parts_inside : (ps : List Part) (scope : Scope) (a : Ahead) (end : ℕ) → Looked end a → Inside (second end) end (parts_at begins inner scope a ps)
   unfolding parts_at
-  parts_inside [] scope a end k = Inside-bind (EndsAt end) (second end) end (last_of a) _ (last_inside a end k) (λ t m. m)
+  parts_inside [] scope a end k = Inside-bind (EndsAt end) (second end) end (end_ahead a) _ (last_inside a end k) (λ t m. m)
   parts_inside (p ∷ ps) scope a end k =
       Inside-bind (ahead_of end) (second end) end (part_at begins (inner p.inner.0) p scope a) _ (part_inside p scope a end k) (λ x l.
       Inside-bind (second end) (second end) end (parts_at begins inner scope x.1 ps) _ (parts_inside ps scope x.1 end l) (λ y m. m))

@@ -24,7 +24,7 @@ use Rattle.ber_spelling.specs.declared.spot.Gathered.{Gathered}
 use Rattle.ber_spelling.specs.Order.{Filled}
 use Rattle.ber_spelling.specs.Reading.{Spot, Opened, Ahead, ended, begun, Reading, ◌>>=◌}
 use Rattle.ber_spelling.specs.Fields.{extent_at, contents_at, look_at}
-use Rattle.ber_spelling.specs.Rules.{Reader, is_opened, expect_at, some_or_refuse, form_at, primitive_at, always, boolean_rule, is_strict_boolean, integer_rule, enumerated_rule, null_rule, object_id_rule, constructed_at, finish, item_at, items_at, all_items_at, segment_tag, nothing, segment_rule, segment_at, segmented_at, string_rule, string_at, whole_octets, whole_text, whole_bits, has_zero_bits, list_item_at, list_done, list_at, first_of, last_of, open_at, close_at, explicit_at, present_at, part_at, parts_at, sequence_at, nothing_filled, set_done, ordered_at, is_free, fill_at, slot_at, choice_at, anew, sized_at, marked_at, whole_at, any_at, dead, or_explicit, read_by, Guise, bare, plain, under, is_other, set_item_at, set_of_done, set_of_at}
+use Rattle.ber_spelling.specs.Rules.{Reader, is_opened, expect_at, some_or_refuse, form_at, primitive_at, always, boolean_rule, is_strict_boolean, integer_rule, enumerated_rule, null_rule, object_id_rule, constructed_at, finish, item_at, items_at, all_items_at, segment_tag, nothing, segment_rule, segment_at, segmented_at, string_rule, string_at, whole_octets, whole_text, whole_bits, has_zero_bits, list_item_at, list_done, list_at, value_ahead, end_ahead, open_at, close_at, explicit_at, present_at, part_at, parts_at, sequence_at, nothing_filled, set_done, ordered_at, is_free, fill_at, slot_at, choice_at, anew, sized_at, marked_at, whole_at, any_at, dead, or_explicit, read_by, Guise, bare, plain, under, is_other, set_item_at, set_of_done, set_of_at}
 use Rattle.ber_spelling.proofs.Steady.{Run, RunOf}
 use Rattle.ber_spelling.proofs.Constructed.{BodyOf}
 use Rattle.ber_spelling.proofs.Reach.{Bounded, Bounded-bind, Bounded-cond, Stands, later, StandsIn, second, third, Looked, extent_bounded, contents_bounded, look_bounded}
@@ -195,11 +195,11 @@ record Open (limit end from : ℕ) (x : Scope × Opened × Spot) : Type 0 where
   same : x.0.limit ≡ limit
   spot : Stands limit end from x.2
 
-first_bounded : (a : Ahead) (limit end from : ℕ) → Looked limit end from a → Bounded (second limit end from) limit end (first_of a)
+first_bounded : (a : Ahead) (limit end from : ℕ) → Looked limit end from a → Bounded (second limit end from) limit end (value_ahead a)
 first_bounded (ended place after) limit end from k = tt
 first_bounded (begun o s) limit end from k = later limit end from (from + 1) s (omega arith) k
 
-last_bounded : (a : Ahead) (limit end from : ℕ) → Looked limit end from a → Bounded (Stands limit end from) limit end (last_of a)
+last_bounded : (a : Ahead) (limit end from : ℕ) → Looked limit end from a → Bounded (Stands limit end from) limit end (end_ahead a)
 last_bounded (ended place after) limit end from k = k
 last_bounded (begun o s) limit end from k = tt
 
@@ -210,12 +210,12 @@ open_bounded tag scope o s limit end same k =
     surely Q limit end (expect_at tag true o) _ (expect_sure tag true o) (λ u.
     Bounded-bind (StandsIn limit end s.place) Q limit end (extent_at scope s.place s.rest) _ (extent_bounded limit end scope s.place s.rest same k.short k.ends) (λ x l.
     Bounded-bind (Looked limit end x.1.place) Q limit end (look_at x.0 x.1.place x.1.rest) _ (look_bounded limit end x.0 x.1.place x.1.rest l.same l.spot.short l.spot.ends) (λ a m.
-    Bounded-bind (second limit end x.1.place) Q limit end (first_of a) _ (first_bounded a limit end x.1.place m) (λ f n. record { same = l.same; spot = later limit end s.place x.1.place f.1 l.spot.onward n }))))
+    Bounded-bind (second limit end x.1.place) Q limit end (value_ahead a) _ (first_bounded a limit end x.1.place m) (λ f n. record { same = l.same; spot = later limit end s.place x.1.place f.1 l.spot.onward n }))))
 
 close_bounded : (scope : Scope) (s : Spot) (limit end : ℕ) → scope.limit ≡ limit → Stands limit end s.place s → Bounded (Stands limit end s.place) limit end (close_at scope s)
 unfolding close_at
 close_bounded scope s limit end same k =
-    Bounded-bind (Looked limit end s.place) (Stands limit end s.place) limit end (look_at scope s.place s.rest) last_of (look_bounded limit end scope s.place s.rest same k.short k.ends) (λ a l. last_bounded a limit end s.place l)
+    Bounded-bind (Looked limit end s.place) (Stands limit end s.place) limit end (look_at scope s.place s.rest) end_ahead (look_bounded limit end scope s.place s.rest same k.short k.ends) (λ a l. last_bounded a limit end s.place l)
 
 explicit_bounded : (run : Run) (tag : tags.Tag) → BoundedRun run → BoundedRun (explicit_at run tag)
 unfolding explicit_at
@@ -260,13 +260,13 @@ module _ (begins : ℕ → Class → ℕ → Bool) (inner : ℕ → Reader) (h :
       Bounded-cond (ahead_of limit end from) limit end (begins p.inner.0 o.class o.number) _ _ (λ t. present_bounded p scope (begun o s) limit end from same k)
       (λ t. Bounded-cond (ahead_of limit end from) limit end (may_be_absent p) _ _ (λ t. k) (λ t. tt))
 
-  seen_last : (a : Ahead) (limit end from : ℕ) → Seen limit end from a → Bounded (Stands limit end from) limit end (last_of a)
+  seen_last : (a : Ahead) (limit end from : ℕ) → Seen limit end from a → Bounded (Stands limit end from) limit end (end_ahead a)
   seen_last (ended place after) limit end from k = later limit end from k.base after k.onward k.looked
   seen_last (begun o s) limit end from k = tt
 
   parts_bounded : (ps : List Part) (scope : Scope) (a : Ahead) (limit end from : ℕ) → scope.limit ≡ limit → Seen limit end from a → Bounded (second limit end from) limit end (parts_at begins inner scope a ps)
   unfolding parts_at
-  parts_bounded [] scope a limit end from same k = Bounded-bind (Stands limit end from) (second limit end from) limit end (last_of a) _ (seen_last a limit end from k) (λ t m. m)
+  parts_bounded [] scope a limit end from same k = Bounded-bind (Stands limit end from) (second limit end from) limit end (end_ahead a) _ (seen_last a limit end from k) (λ t m. m)
   parts_bounded (p ∷ ps) scope a limit end from same k =
       Bounded-bind (ahead_of limit end from) (second limit end from) limit end (part_at begins (inner p.inner.0) p scope a) _ (part_bounded p scope a limit end from same k) (λ x l.
       Bounded-bind (second limit end from) (second limit end from) limit end (parts_at begins inner scope x.1 ps) _ (parts_bounded ps scope x.1 limit end from same l) (λ y m. m))

@@ -12,7 +12,7 @@ use Rattle.ber_spelling.specs.declared.spot.Scope.{Scope}
 use Rattle.osi_base.specs.Octets.{AreOctets}
 use Rattle.ber_spelling.specs.Reading.{Spot, Opened, Ahead, ended, begun, Reading, ◌>>=◌}
 use Rattle.ber_spelling.specs.Fields.{look_at}
-use Rattle.ber_spelling.specs.Rules.{Reader, last_of, is_part, place_of, present_at, part_at, parts_at, choice_at, Guise, bare, plain}
+use Rattle.ber_spelling.specs.Rules.{Reader, end_ahead, is_part, place_of, present_at, part_at, parts_at, choice_at, Guise, bare, plain}
 use Rattle.ber_spelling.specs.Spelling.{Spelled, PartIs, PartsAre, SequenceIs, ChoiceIs}
 use Rattle.ber_spelling.proofs.Identifiers.{IsIn, Taken, bind_ok, chosen_ok, ok_is, done}
 use Rattle.ber_spelling.proofs.Ends.{closing, Closes, EndFound, BeginFound, AheadFound, look_found}
@@ -38,7 +38,7 @@ module _ (begins : Begins) (inner : ℕ → Reader) (rel : ℕ → Spelled) (h :
   no_more : (scope : Scope) (place : ℕ) (rest : List ℕ) (a : Ahead) (vs : List (Option Value)) (to : Spot) → AheadFound scope place rest a → parts_at begins inner scope a [] ≡ Ok (vs, to) → PartsAs rel [] scope place rest vs to
   unfolding parts_at
   no_more scope place rest a vs to f e =
-      let b = bind_ok (last_of a) _ (vs, to) e in
+      let b = bind_ok (end_ahead a) _ (vs, to) e in
       let l = last_ended a b.0 b.1 in
       let g : EndFound scope place rest l.0 b.0 = subst (AheadFound scope place rest) l.1 f in
       let same = ok_is {A = List (Option Value) × Spot} ([], b.0) (vs, to) b.2 in

@@ -24,7 +24,7 @@ use Rattle.ber_spelling.specs.declared.spot.Gathered.{Gathered}
 use Rattle.ber_spelling.specs.Order.{Filled}
 use Rattle.ber_spelling.specs.Reading.{Spot, Opened, Ahead, ended, begun, Reading, ◌>>=◌, refuse}
 use Rattle.ber_spelling.specs.Fields.{extent_at, contents_at, look_at}
-use Rattle.ber_spelling.specs.Rules.{Reader, is_opened, expect_at, some_or_refuse, form_at, primitive_at, always, boolean_rule, is_strict_boolean, integer_rule, enumerated_rule, null_rule, object_id_rule, constructed_at, finish, item_at, items_at, all_items_at, segment_tag, nothing, segment_rule, segment_at, segmented_at, string_rule, string_at, whole_octets, whole_text, whole_bits, has_zero_bits, list_item_at, list_done, list_at, first_of, last_of, open_at, close_at, explicit_at, is_part, present_at, part_at, parts_at, sequence_at, nothing_filled, set_done, alone, cut_behind, late_kind, late_at, ordered_at, is_free, fill_at, slot_at, choice_at, anew, sized_at, marked_at, whole_at, any_at, dead, or_explicit, read_by, Guise, bare, plain, under, is_other, set_item_at, set_of_done, set_of_at}
+use Rattle.ber_spelling.specs.Rules.{Reader, is_opened, expect_at, some_or_refuse, form_at, primitive_at, always, boolean_rule, is_strict_boolean, integer_rule, enumerated_rule, null_rule, object_id_rule, constructed_at, finish, item_at, items_at, all_items_at, segment_tag, nothing, segment_rule, segment_at, segmented_at, string_rule, string_at, whole_octets, whole_text, whole_bits, has_zero_bits, list_item_at, list_done, list_at, value_ahead, end_ahead, open_at, close_at, explicit_at, is_part, present_at, part_at, parts_at, sequence_at, nothing_filled, set_done, alone, cut_behind, late_kind, late_at, ordered_at, is_free, fill_at, slot_at, choice_at, anew, sized_at, marked_at, whole_at, any_at, dead, or_explicit, read_by, Guise, bare, plain, under, is_other, set_item_at, set_of_done, set_of_at}
 use Rattle.ber_spelling.proofs.Steady.{Run, RunOf}
 use Rattle.ber_spelling.proofs.Constructed.{BodyOf}
 use Rattle.ber_spelling.proofs.Strict.{lax, Formal, same, Formal-bind, Formal-same, Formal-cond, Formal-asked, Formal-refl, lax_extent, extent_lax, contents_lax, look_lax, NoTag, NoTag-bind, extent_no_tag, contents_no_tag}
@@ -138,11 +138,11 @@ open_formal tag scope o s =
     Formal-same lax_open (expect_at tag true o) _ _ (λ u.
     Formal-bind lax_extent lax_open (extent_at scope s.place s.rest) (extent_at (lax scope) s.place s.rest) _ _ (extent_lax scope s.place s.rest) (λ x.
     Formal-bind same lax_open (look_at x.0 x.1.place x.1.rest) (look_at (lax x.0) x.1.place x.1.rest) _ _ (look_lax x.0 x.1.place x.1.rest) (λ a.
-    Formal-same lax_open (first_of a) _ _ (λ f. refl))))
+    Formal-same lax_open (value_ahead a) _ _ (λ f. refl))))
 
 close_formal : (scope : Scope) (s : Spot) → Formal same (close_at scope s) (close_at (lax scope) s)
 unfolding close_at
-close_formal scope s = Formal-bind same same (look_at scope s.place s.rest) (look_at (lax scope) s.place s.rest) last_of last_of (look_lax scope s.place s.rest) (λ a. Formal-refl (last_of a))
+close_formal scope s = Formal-bind same same (look_at scope s.place s.rest) (look_at (lax scope) s.place s.rest) end_ahead end_ahead (look_lax scope s.place s.rest) (λ a. Formal-refl (end_ahead a))
 
 explicit_formal : (run : Run) (tag : tags.Tag) → FormalRun run → FormalRun (explicit_at run tag)
 unfolding explicit_at
@@ -331,7 +331,7 @@ module _ (begins : ℕ → Class → ℕ → Bool) (inner : ℕ → Reader) (h :
 
   parts_formal : (ps : List Part) (scope : Scope) (a : Ahead) → Formal same (parts_at begins inner scope a ps) (parts_at begins inner (lax scope) a ps)
   unfolding parts_at
-  parts_formal [] scope a = Formal-same same (last_of a) _ _ (λ t. refl)
+  parts_formal [] scope a = Formal-same same (end_ahead a) _ _ (λ t. refl)
   parts_formal (p ∷ ps) scope a =
       Formal-bind same same (part_at begins (inner p.inner.0) p scope a) (part_at begins (inner p.inner.0) p (lax scope) a) _ _ (part_formal p scope a) (λ x.
       Formal-bind same same (parts_at begins inner scope x.1 ps) (parts_at begins inner (lax scope) x.1 ps) _ _ (parts_formal ps scope x.1) (λ y. refl))

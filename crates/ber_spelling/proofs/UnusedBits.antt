@@ -66,21 +66,21 @@ some_octet kept x = omega (arith, length-append kept (x ∷ []))
 last_index : (kept : List ℕ) (x : ℕ) → length (kept ++ (x ∷ [])) - 1 ≡ length kept
 last_index kept x = omega (arith, some_octet kept x)
 
-last_of : (kept : List ℕ) (x : ℕ) → slice_index (kept ++ (x ∷ [])) (length kept) ≡ x
-last_of [] x = refl
-last_of (k ∷ kept) x = last_of kept x
+last_added : (kept : List ℕ) (x : ℕ) → slice_index (kept ++ (x ∷ [])) (length kept) ≡ x
+last_added [] x = refl
+last_added (k ∷ kept) x = last_added kept x
 
 set_last : (kept : List ℕ) (x y : ℕ) → slice_set (kept ++ (x ∷ [])) (length kept) y ≡ kept ++ (y ∷ [])
 set_last [] x y = refl
 set_last (k ∷ kept) x y = ap (λ (os : List ℕ). k ∷ os) (set_last kept x y)
 
 pub last_is : (kept : List ℕ) (x : ℕ) → slice_index (kept ++ (x ∷ [])) (length (kept ++ (x ∷ [])) - 1) ≡ x
-last_is kept x = ap (slice_index (kept ++ (x ∷ []))) (last_index kept x) ∙ last_of kept x
+last_is kept x = ap (slice_index (kept ++ (x ∷ []))) (last_index kept x) ∙ last_added kept x
 
 pub last_cleared : (unused : ℕ) (kept : List ℕ) (x : ℕ) → cleared unused (kept ++ (x ∷ [])) ≡ kept ++ ((x - x % 2 ^ unused) ∷ [])
 last_cleared unused kept x =
     let some : nat_eq (length (kept ++ (x ∷ []))) 0 ≡ false = ne_eqb (length (kept ++ (x ∷ []))) 0 (λ f. omega (arith, some_octet kept x)) in
-    rw (some, last_index kept x, last_of kept x) (set_last kept x (x - x % 2 ^ unused))
+    rw (some, last_index kept x, last_added kept x) (set_last kept x (x - x % 2 ^ unused))
 
 -- ---- BIT STRINGs
 

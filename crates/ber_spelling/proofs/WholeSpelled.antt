@@ -64,15 +64,15 @@ record First (first : ℕ) : Type 0 where
   more : first ≢ 32
   octet : first < 256
 
-first_octet : (class : Class) (constructed : Bool) (k : ℕ) → k < 32 → is_no_tag class k ≡ false → First (leading class constructed + k)
-first_octet Universal true k lt t = let some : k ≢ 0 = eqb-false k 0 t in record { some = λ e. omega arith; more = λ e. some (omega arith); octet = omega arith }
-first_octet Universal false k lt t = let some : k ≢ 0 = eqb-false k 0 t in record { some = λ e. some (omega arith); more = λ e. omega arith; octet = omega arith }
-first_octet Application true k lt t = record { some = λ e. omega arith; more = λ e. omega arith; octet = omega arith }
-first_octet Application false k lt t = record { some = λ e. omega arith; more = λ e. omega arith; octet = omega arith }
-first_octet Context true k lt t = record { some = λ e. omega arith; more = λ e. omega arith; octet = omega arith }
-first_octet Context false k lt t = record { some = λ e. omega arith; more = λ e. omega arith; octet = omega arith }
-first_octet Private true k lt t = record { some = λ e. omega arith; more = λ e. omega arith; octet = omega arith }
-first_octet Private false k lt t = record { some = λ e. omega arith; more = λ e. omega arith; octet = omega arith }
+first_octet_begins : (class : Class) (constructed : Bool) (k : ℕ) → k < 32 → is_no_tag class k ≡ false → First (leading class constructed + k)
+first_octet_begins Universal true k lt t = let some : k ≢ 0 = eqb-false k 0 t in record { some = λ e. omega arith; more = λ e. some (omega arith); octet = omega arith }
+first_octet_begins Universal false k lt t = let some : k ≢ 0 = eqb-false k 0 t in record { some = λ e. some (omega arith); more = λ e. omega arith; octet = omega arith }
+first_octet_begins Application true k lt t = record { some = λ e. omega arith; more = λ e. omega arith; octet = omega arith }
+first_octet_begins Application false k lt t = record { some = λ e. omega arith; more = λ e. omega arith; octet = omega arith }
+first_octet_begins Context true k lt t = record { some = λ e. omega arith; more = λ e. omega arith; octet = omega arith }
+first_octet_begins Context false k lt t = record { some = λ e. omega arith; more = λ e. omega arith; octet = omega arith }
+first_octet_begins Private true k lt t = record { some = λ e. omega arith; more = λ e. omega arith; octet = omega arith }
+first_octet_begins Private false k lt t = record { some = λ e. omega arith; more = λ e. omega arith; octet = omega arith }
 
 high_tag : (class : Class) → is_no_tag class 31 ≡ false
 high_tag Universal = refl
@@ -84,11 +84,11 @@ identifier_passed : (class : Class) (constructed : Bool) (number : ℕ) (head re
 identifier_passed class constructed number [] rest t h = absurd h
 identifier_passed class constructed number (first ∷ digits) rest t (inl h) =
     let lt : number < 31 = h.0 in
-    let f = subst First (sym h.1) (first_octet class constructed number (omega arith) t) in
+    let f = subst First (sym h.1) (first_octet_begins class constructed number (omega arith) t) in
     let low : first % 32 ≡ number = ap (λ (n : ℕ). n % 32) h.1 ∙ low_at class constructed number (omega arith) in
     ap (λ (ds : List ℕ). behind_identifier (first ∷ (ds ++ rest))) h.2 ∙ short_form first rest f.some f.more f.octet (λ e. omega arith)
 identifier_passed class constructed number (first ∷ digits) rest t (inr h) =
-    let f = subst First (sym h.1) (first_octet class constructed 31 (omega arith) (high_tag class)) in
+    let f = subst First (sym h.1) (first_octet_begins class constructed 31 (omega arith) (high_tag class)) in
     let low : first % 32 ≡ 31 = ap (λ (n : ℕ). n % 32) h.1 ∙ low_at class constructed 31 (omega arith) in
     long_form first (digits ++ rest) f.some f.more f.octet low ∙ high_passed digits rest number h.0 h.2
 

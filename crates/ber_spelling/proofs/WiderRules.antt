@@ -25,7 +25,7 @@ use Rattle.ber_spelling.specs.declared.spot.Gathered.{Gathered}
 use Rattle.ber_spelling.specs.Order.{Filled}
 use Rattle.ber_spelling.specs.Reading.{Spot, Opened, Ahead, ended, begun, Reading, ◌>>=◌, refuse}
 use Rattle.ber_spelling.specs.Fields.{extent_at, contents_at, look_at}
-use Rattle.ber_spelling.specs.Rules.{Reader, expect_at, some_or_refuse, form_at, primitive_at, always, boolean_rule, is_strict_boolean, integer_rule, enumerated_rule, null_rule, object_id_rule, constructed_at, finish, item_at, items_at, all_items_at, segment_tag, nothing, segment_rule, segment_at, segmented_at, string_rule, string_at, whole_octets, whole_text, whole_bits, has_zero_bits, list_item_at, list_done, list_at, first_of, last_of, open_at, close_at, explicit_at, is_part, present_at, part_at, parts_at, sequence_at, nothing_filled, set_done, alone, cut_behind, late_kind, late_at, ordered_at, is_free, fill_at, slot_at, choice_at, anew, whole_at, any_at, dead, or_explicit, read_by, Guise, bare, plain, under, is_other, set_item_at, set_of_done, set_of_at}
+use Rattle.ber_spelling.specs.Rules.{Reader, expect_at, some_or_refuse, form_at, primitive_at, always, boolean_rule, is_strict_boolean, integer_rule, enumerated_rule, null_rule, object_id_rule, constructed_at, finish, item_at, items_at, all_items_at, segment_tag, nothing, segment_rule, segment_at, segmented_at, string_rule, string_at, whole_octets, whole_text, whole_bits, has_zero_bits, list_item_at, list_done, list_at, value_ahead, end_ahead, open_at, close_at, explicit_at, is_part, present_at, part_at, parts_at, sequence_at, nothing_filled, set_done, alone, cut_behind, late_kind, late_at, ordered_at, is_free, fill_at, slot_at, choice_at, anew, whole_at, any_at, dead, or_explicit, read_by, Guise, bare, plain, under, is_other, set_item_at, set_of_done, set_of_at}
 use Rattle.ber_spelling.proofs.Steady.{Run, RunOf}
 use Rattle.ber_spelling.proofs.Constructed.{BodyOf}
 use Rattle.ber_spelling.proofs.Identifiers.{bind_ok, ok_is}
@@ -162,7 +162,7 @@ module _ (m : ℕ) where
       Wider-same wide_open (expect_at tag true o) _ _ (λ u.
       Wider-bind (wide_extent m) wide_open (extent_at scope s.place s.rest) (extent_at (wide m scope) s.place s.rest) _ _ (extent_wide m scope s.place s.rest le) (λ x e.
       Wider-bind same wide_open (look_at x.0 x.1.place x.1.rest) (look_at (wide m x.0) x.1.place x.1.rest) _ _ (look_wide m x.0 x.1.place x.1.rest (kept m scope s.place s.rest x le e)) (λ a d.
-      Wider-same wide_open (first_of a) _ _ (λ f. refl))))
+      Wider-same wide_open (value_ahead a) _ _ (λ f. refl))))
 
   open_keeps : (tag : tags.Tag) (scope : Scope) (o : Opened) (s : Spot) (y : Scope × Opened × Spot) → scope.limit ≤ m → open_at tag scope o s ≡ Ok y → y.0.limit ≤ m
   unfolding open_at
@@ -171,13 +171,13 @@ module _ (m : ℕ) where
       let b = bind_ok (extent_at scope s.place s.rest) _ y a.2 in
       let x : Scope × Spot = b.0 in
       let c = bind_ok (look_at x.0 x.1.place x.1.rest) _ y b.2 in
-      let d = bind_ok (first_of c.0) (λ f. Ok (x.0, f.0, f.1)) y c.2 in
+      let d = bind_ok (value_ahead c.0) (λ f. Ok (x.0, f.0, f.1)) y c.2 in
       let t = ok_is {A = Scope × Opened × Spot} (x.0, d.0.0, d.0.1) y d.2 in
       subst (λ (z : Scope × Opened × Spot). z.0.limit ≤ m) t (kept m scope s.place s.rest x le b.1)
 
   close_wide : (scope : Scope) (s : Spot) → scope.limit ≤ m → Wider same (close_at scope s) (close_at (wide m scope) s)
   unfolding close_at
-  close_wide scope s le = Wider-bind same same (look_at scope s.place s.rest) (look_at (wide m scope) s.place s.rest) last_of last_of (look_wide m scope s.place s.rest le) (λ a e. Wider-refl (last_of a))
+  close_wide scope s le = Wider-bind same same (look_at scope s.place s.rest) (look_at (wide m scope) s.place s.rest) end_ahead end_ahead (look_wide m scope s.place s.rest le) (λ a e. Wider-refl (end_ahead a))
 
   explicit_wide : (run : Run) (tag : tags.Tag) → WideRun m run → WideRun m (explicit_at run tag)
   unfolding explicit_at
@@ -223,7 +223,7 @@ module _ (m : ℕ) where
 
     parts_wide : (ps : List Part) (scope : Scope) (a : Ahead) → scope.limit ≤ m → Wider same (parts_at begins inner scope a ps) (parts_at begins inner (wide m scope) a ps)
     unfolding parts_at
-    parts_wide [] scope a le = Wider-same same (last_of a) _ _ (λ t. refl)
+    parts_wide [] scope a le = Wider-same same (end_ahead a) _ _ (λ t. refl)
     parts_wide (p ∷ ps) scope a le =
         Wider-bind same same (part_at begins (inner p.inner.0) p scope a) (part_at begins (inner p.inner.0) p (wide m scope) a) _ _ (part_wide p scope a le) (λ x e.
         Wider-bind same same (parts_at begins inner scope x.1 ps) (parts_at begins inner (wide m scope) x.1 ps) _ _ (parts_wide ps scope x.1 le) (λ y f. refl))

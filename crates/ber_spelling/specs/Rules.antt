@@ -275,26 +275,26 @@ set_of_at spell inner tag = constructed_at (all_items_at (set_item_at spell inne
 
 -- ---- an explicit tag (X.690 8.14): one value in constructed contents
 
-abbrev pub first_of : Ahead → Reading (Opened × Spot)
-first_of (ended place after) = refuse place Missing
-first_of (begun opened after) = Ok (opened, after)
+abbrev pub value_ahead : Ahead → Reading (Opened × Spot)
+value_ahead (ended place after) = refuse place Missing
+value_ahead (begun opened after) = Ok (opened, after)
 
-abbrev pub last_of : Ahead → Reading Spot
-last_of (ended place after) = Ok after
-last_of (begun opened after) = refuse opened.start.place Extra
+abbrev pub end_ahead : Ahead → Reading Spot
+end_ahead (ended place after) = Ok after
+end_ahead (begun opened after) = refuse opened.start.place Extra
 
 unfoldable pub open_at : tags.Tag → Scope → Opened → Spot → Reading (Scope × Opened × Spot)
 open_at tag scope opened spot = do
   _ ← expect_at tag true opened
   x ← extent_at scope spot.place spot.rest
   a ← look_at x.0 x.1.place x.1.rest
-  f ← first_of a
+  f ← value_ahead a
   Ok (x.0, f.0, f.1)
 
 unfoldable pub close_at : Scope → Spot → Reading Spot
 close_at scope spot = do
   a ← look_at scope spot.place spot.rest
-  last_of a
+  end_ahead a
 
 unfoldable pub explicit_at : (Scope → Opened → Spot → Reading (Value × Spot)) → tags.Tag → Scope → Opened → Spot → Reading (Value × Spot)
 explicit_at inner tag scope opened spot = do
@@ -328,7 +328,7 @@ part_at begins inner p scope ahead =
 
 unfoldable pub parts_at : (ℕ → Class → ℕ → Bool) → (ℕ → Reader) → Scope → Ahead → List Part → Reading (List (Option Value) × Spot)
 parts_at begins inner scope ahead [] = do
-  after ← last_of ahead
+  after ← end_ahead ahead
   Ok ([], after)
 parts_at begins inner scope ahead (p ∷ ps) = do
   x ← part_at begins (inner p.inner.0) p scope ahead

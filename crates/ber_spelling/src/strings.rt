@@ -51,14 +51,14 @@ fn gather(kind: StringKind, octets: &[u8], before: Gathered) -> Result<Gathered,
         StringKind::OfOctets => gathered.octets.extend(octets)?,
         StringKind::OfBits => {
             gathered.spoiled = gathered.spoiled || gathered.unused != 0;
-            gathered.unused = first_of(octets);
+            gathered.unused = first_octet(octets);
             gathered.octets.extend(behind_first(octets))?;
         }
     }
     Ok(gathered)
 }
 
-fn first_of(octets: &[u8]) -> u8
+fn first_octet(octets: &[u8]) -> u8
     ensures { result ≡ slice_index octets.now 0 }
 {
     match octets {
@@ -254,7 +254,7 @@ fn is_canonical(rule: StringRule, octets: &[u8]) -> bool
 {
     match rule {
         StringRule::Octets { .. } | StringRule::Text(_) => true,
-        StringRule::Bits => are_bits(behind_first(octets), first_of(octets)),
+        StringRule::Bits => are_bits(behind_first(octets), first_octet(octets)),
     }
 }
 

@@ -51,7 +51,7 @@ use Rattle.end_model.proofs.Ladder.{called}
 use Rattle.reliable_model.proofs.Fixed.{AreIdentifiers, others-altered, unnamed-unharmed, fixed-unharmed, unproposed, among-first, among-second}
 use Rattle.reliable_model.proofs.Firm.{Keeps}
 use Rattle.said_words.specs.Words.{the_connect, the_acceptance, IsWord, IsUnit}
-use Rattle.said_words.proofs.First.{first_of, first-pair, none-refused}
+use Rattle.said_words.proofs.First.{first_accepted, first-pair, none-refused}
 use Rattle.said_takings.proofs.Loose.{spared}
 use Rattle.run_lemmas.proofs.Tests.{clash, and-left, and-right, no-fault, none-second}
 use Rattle.run_lemmas.proofs.Openings.{IsAcceptance, HasAcceptance, none-one, Few, nobody, one}
@@ -312,7 +312,7 @@ module _ (tables : Tables) (spellings : Spellings) (a b : Config) where
   UnitDoes role body shared unit = Does body (after_transport (base role) body unit) (answers_to_transport (base role) body unit) shared (shared_all_answered (base role) (Transport unit) (answers_to_transport (base role) body unit) shared)
 
   module _ (right : ProposesRightly common) (ids : AreIdentifiers (proposals (base Initiator))) (body : Body) (shared : Shared) where
-    first-has : HasAcse (first_of common)
+    first-has : HasAcse (first_accepted common)
     first-has = first-pair tables spellings a b right ids
 
     -- nothing is answered

@@ -7,7 +7,7 @@ use Rattle.osi_base.specs.declared.layer_words.Side.{Side}
 use Rattle.osi_base.specs.declared.layer_words.Side.TheVariants.{A, B}
 use Rattle.osi_base.specs.declared.session_word.SessionConnect.{SessionConnect}
 use Rattle.osi_base.specs.declared.presentation_word.PresentationConnect.{PresentationConnect}
-use Rattle.end_rules.specs.Encodings.{first_of, item_of, IsOf, Encoding, IsNewest}
+use Rattle.end_rules.specs.Encodings.{next_queued, item_of, IsOf, Encoding, IsNewest}
 use Rattle.stub_tables.specs.declared.tables.Tables.{Tables}
 use Rattle.stub_tables.specs.declared.apdu.Apdu.{Apdu}
 use Rattle.dialogue.specs.declared.config.Config.{Config}
@@ -142,14 +142,14 @@ module _ (tables : Tables) (own made : List Invocation) (mine given : List ToldO
   }
 
   -- the next item is started
-  own-started : (later : Body) → later.sending.queue ≡ (begun body.sending).queue → later.calls.made ≡ body.calls.made → Facts tables own made mine given later (first_of body.sending.queue ++ started) theirs asked shown arrived
+  own-started : (later : Body) → later.sending.queue ≡ (begun body.sending).queue → later.calls.made ≡ body.calls.made → Facts tables own made mine given later (next_queued body.sending.queue ++ started) theirs asked shown arrived
   own-started later q m =
       let s = begun-ours tables own mine body.sending started x.queue_so x.started_so in
       record {
         queue_so = subst (QueueOurs tables own mine) (sym q) s.0;
         started_so = s.1;
         numbers =
-            subst (λ (l : List Queued). IsGood later.calls.made (started_invoke (first_of body.sending.queue ++ started) ++ queue_invokes l)) (sym q)
+            subst (λ (l : List Queued). IsGood later.calls.made (started_invoke (next_queued body.sending.queue ++ started) ++ queue_invokes l)) (sym q)
             (subst (IsGood later.calls.made) (sym (begun-invoke body.sending started))
             (subst (λ (k : ℕ). IsGood k (started_invoke started ++ queue_invokes body.sending.queue)) (sym m) x.numbers));
         asked_so = x.asked_so;

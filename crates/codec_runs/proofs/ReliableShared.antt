@@ -63,7 +63,7 @@ use Rattle.reliable_model.proofs.Phases.{only-open, only-abort, over-calls, own-
 use Rattle.reliable_model.proofs.Machine as machine
 use Rattle.reliable_model.proofs.Machine.{Resting, Calling, Confirming, Connecting, Accepting as AcceptsHere, Refusing, Deaf, Gone, Standing}
 use Rattle.said_words.specs.Words.{the_connect, IsMessage, IsUnit, IsReliableWord}
-use Rattle.said_words.proofs.First.{first_of}
+use Rattle.said_words.proofs.First.{first_accepted}
 use Rattle.said_words.proofs.TransferFirst.{acse-pair, rtse-pair, on-acse, on-rtse}
 use Rattle.said_words.proofs.TransferEnds as said_ends
 use Rattle.said_words.proofs.TransferEnds.{is_early, IsYoung, IsStood, IsOver}
@@ -102,7 +102,7 @@ module _ (free : Free) (tables : Tables) (spellings : Spellings) (a b : Config) 
   base role = base_at role common
 
   abbrev pub first : List SetItem
-  first = first_of common
+  first = first_accepted common
 
   abbrev Rooted : Role → Body → Type 0
   Rooted = said_ends.Rooted free tables spellings a b

@@ -4,7 +4,7 @@ use Rattle.std.proofs.Common.{◌≡◌, refl, true, false, ◌∙◌, sym, ap, 
 use Rattle.std.specs.Prelude.{ℤ, Bool, Option, Some, None, nat_eq, if◌then◌else◌}
 use Rattle.std.proofs.lemmas.Bool.Decides.{nat_tests}
 use Rattle.std.proofs.lemmas.List.{append_assoc}
-use Rattle.end_rules.specs.Encodings.{first_of, item_of, IsOf}
+use Rattle.end_rules.specs.Encodings.{next_queued, item_of, IsOf}
 use Rattle.stub_tables.specs.declared.tables.Tables.{Tables}
 use Rattle.stub_tables.specs.declared.apdu.Apdu.{Apdu}
 use Rattle.stub_tables.specs.declared.apdu.Apdu.TheVariants as apdus
@@ -23,17 +23,17 @@ started_invoke [] = []
 started_invoke (item ∷ items) = started_invoke items ++ apdu_invokes item.apdu
 
 -- the next item of the queue is started
-pub begun-invoke : (sending : Sending) (started : List Queued) → started_invoke (first_of sending.queue ++ started) ++ queue_invokes (begun sending).queue ≡ started_invoke started ++ queue_invokes sending.queue
+pub begun-invoke : (sending : Sending) (started : List Queued) → started_invoke (next_queued sending.queue ++ started) ++ queue_invokes (begun sending).queue ≡ started_invoke started ++ queue_invokes sending.queue
 begun-invoke sending started = go sending.queue
   where
-    go : (queue : List Queued) → started_invoke (first_of queue ++ started) ++ queue_invokes (begun (record sending { queue = queue })).queue ≡ started_invoke started ++ queue_invokes queue
+    go : (queue : List Queued) → started_invoke (next_queued queue ++ started) ++ queue_invokes (begun (record sending { queue = queue })).queue ≡ started_invoke started ++ queue_invokes queue
     go [] = refl
     go (item ∷ items) = append_assoc (started_invoke started) (apdu_invokes item.apdu) (queue_invokes items)
 
-pub begun-ours : (tables : Tables) (made : List Invocation) (given : List ToldOutcome) (sending : Sending) (started : List Queued) → QueueOurs tables made given sending.queue → QueueOurs tables made given started → QueueOurs tables made given (begun sending).queue × QueueOurs tables made given (first_of sending.queue ++ started)
+pub begun-ours : (tables : Tables) (made : List Invocation) (given : List ToldOutcome) (sending : Sending) (started : List Queued) → QueueOurs tables made given sending.queue → QueueOurs tables made given started → QueueOurs tables made given (begun sending).queue × QueueOurs tables made given (next_queued sending.queue ++ started)
 begun-ours tables made given sending started q s = go sending.queue q
   where
-    go : (queue : List Queued) → QueueOurs tables made given queue → QueueOurs tables made given (begun (record sending { queue = queue })).queue × QueueOurs tables made given (first_of queue ++ started)
+    go : (queue : List Queued) → QueueOurs tables made given queue → QueueOurs tables made given (begun (record sending { queue = queue })).queue × QueueOurs tables made given (next_queued queue ++ started)
     go [] q = (tt, s)
     go (item ∷ items) q = (q.1, (q.0, s))
 

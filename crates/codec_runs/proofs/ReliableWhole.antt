@@ -11,7 +11,7 @@ use Rattle.end_rules.specs.Base.{Base, Spellings, Item, Arrived, Whole as WholeI
 use Rattle.end_rules.specs.Messages.{Message, Session, OfAssociation, OfActivities, Connect, Start, End}
 use Rattle.end_rules.specs.State.{Body, Queued, Transfer}
 use Rattle.osi_base.specs.SetPlaces.{pair_of}
-use Rattle.end_rules.specs.Encodings.{first_of, item_of, IsOf, Encoding, IsNewest}
+use Rattle.end_rules.specs.Encodings.{next_queued, item_of, IsOf, Encoding, IsNewest}
 use Rattle.end_rules.specs.Connecting.{is_refused, recovers_in}
 use Rattle.end_rules.specs.Requesting.{due_of}
 use Rattle.end_rules.specs.ByItself.{OwnAct, SendsNow, EncodesOn}
@@ -105,7 +105,7 @@ second-half (inl p) = inl p
 second-half (inr h) = inr h.1
 
 step-started : (base : Base) (body : Body) (set : List SetItem) (transfer_log : TransferLog) (x : Step) (before : List Queued) → KeepsAll base body transfer_log x → transfer_log.started ≡ before → (transfer_log_after base body set x transfer_log).started ≡ started_in body x ++ before
-step-started base body set transfer_log (sent (Session (OfActivities (Start activity)))) before k e = ap (λ (l : List Queued). first_of body.sending.queue ++ l) e
+step-started base body set transfer_log (sent (Session (OfActivities (Start activity)))) before k e = ap (λ (l : List Queued). next_queued body.sending.queue ++ l) e
 step-started base body set transfer_log (sent _) before k e = e
 step-started base body set transfer_log (took (Session (OfAssociation (Connect session presentation values)))) before k e =
     anew-same (is_refused base body session presentation values || recovers_in base values) transfer_log.started (first-half k) ∙ e

@@ -14,7 +14,7 @@ use Rattle.context_sets.specs.declared.rules.Rejection.{Rejection}
 use Rattle.context_sets.specs.Sets.{ContextSet}
 use Rattle.context_sets.specs.Syntaxes.{is_same}
 use Rattle.context_sets.specs.Alterations.{additions, accepted_as}
-use Rattle.context_sets.specs.Asking.{is_bad, first_of, addition_refusal, deletion_refusal, is_over, refusal}
+use Rattle.context_sets.specs.Asking.{is_bad, first_refusal, addition_refusal, deletion_refusal, is_over, refusal}
 use Rattle.context_sets.specs.Policy.{is_service, chosen, within_limit, judged, add_answer, taken_after, added_answers}
 use Rattle.context_sets.specs.Results.{all_fit, mismatch, acceptances}
 

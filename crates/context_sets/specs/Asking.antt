@@ -33,9 +33,9 @@ is_bad asked =
     nat_eq (length (named_by asked)) 0 || (are_bad [] (named_by asked) || list_any has_bad_transfers asked.added)
 
 -- the first refusal in a list
-abbrev pub first_of : {X : Type 0} → (X → Option SetRefusal) → List X → Option SetRefusal
-first_of refuse [] = None
-first_of refuse (x ∷ xs) = option_or (refuse x) (first_of refuse xs)
+abbrev pub first_refusal : {X : Type 0} → (X → Option SetRefusal) → List X → Option SetRefusal
+first_refusal refuse [] = None
+first_refusal refuse (x ∷ xs) = option_or (refuse x) (first_refusal refuse xs)
 
 abbrev pub addition_refusal : Bool → ContextSet → List Alteration → Proposal → Option SetRefusal
 addition_refusal initiator set own proposal =
@@ -65,8 +65,8 @@ abbrev pub refusal : Bool → ContextSet → List Alteration → List ℕ → Al
 refusal initiator set own used asked =
     if nat_le most_alterations (length own) then Some AlterPending
     else if is_bad asked then Some BadProposal
-    else option_or (first_of (addition_refusal initiator set own) asked.added)
-    (option_or (first_of (deletion_refusal set own used) asked.deleted)
+    else option_or (first_refusal (addition_refusal initiator set own) asked.added)
+    (option_or (first_refusal (deletion_refusal set own used) asked.deleted)
     (if is_over set own asked.added then Some SetFull else None))
 
 -- what is refused is the first refusal; want of memory may come always

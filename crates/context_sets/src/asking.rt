@@ -7,7 +7,7 @@ ghost use Rattle.std.specs.Option.{option_copied};
 ghost use Rattle.std.specs.Ordering.{nat_cmp};
 ghost use Rattle.osi_base.specs.Limits.{most_contexts};
 ghost use Rattle.context_sets.specs.Alterations.{additions, named_by, is_among, names, is_named, is_deleted};
-ghost use Rattle.context_sets.specs.Asking.{is_of, is_no_identifier, are_bad, is_bad, first_of, addition_refusal, pair_refusal, deletion_refusal, is_over, refusal};
+ghost use Rattle.context_sets.specs.Asking.{is_of, is_no_identifier, are_bad, is_bad, first_refusal, addition_refusal, pair_refusal, deletion_refusal, is_over, refusal};
 
 use crate::alteration::Alteration;
 use crate::fault::SetRefusal;
@@ -186,7 +186,7 @@ fn deletion_refusal(ground: &AskedOver<'_>, id: u32) -> Option<SetRefusal>
 
 /// The first refusal of an addition.
 fn additions_refusal(ground: &AskedOver<'_>, added: &[Proposal]) -> Option<SetRefusal>
-    ensures { result ≡ first_of (addition_refusal ground.now.initiator ground.now.items.now
+    ensures { result ≡ first_refusal (addition_refusal ground.now.initiator ground.now.items.now
         ground.now.own.now) added.now }
 {
     for proposal in added {
@@ -199,7 +199,7 @@ fn additions_refusal(ground: &AskedOver<'_>, added: &[Proposal]) -> Option<SetRe
 
 /// The first refusal of a deletion.
 fn deletions_refusal(ground: &AskedOver<'_>, deleted: &[u32]) -> Option<SetRefusal>
-    ensures { result ≡ first_of (deletion_refusal ground.now.items.now ground.now.own.now
+    ensures { result ≡ first_refusal (deletion_refusal ground.now.items.now ground.now.own.now
         ground.now.used.now) deleted.now }
 {
     for id in deleted {

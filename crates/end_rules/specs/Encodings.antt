@@ -5,9 +5,9 @@ use Rattle.stub_tables.specs.declared.apdu.Apdu.{Apdu}
 use Rattle.end_rules.specs.State.{Queued}
 
 -- the first of a queue, where there is one
-abbrev pub first_of : List Queued → List Queued
-first_of [] = []
-first_of (item ∷ items) = item ∷ []
+abbrev pub next_queued : List Queued → List Queued
+next_queued [] = []
+next_queued (item ∷ items) = item ∷ []
 
 -- the k-th item that was started, of a list with the newest first
 abbrev pub item_of : ℕ → List Queued → Option Queued

@@ -10,7 +10,7 @@ use Rattle.ber_spelling.proofs.WholeValues.{beginning_is_short, read_stays, faul
 use Rattle.stub_tables.specs.AnyValue.{any_value_rows, any_value_row}
 use Rattle.stub_tables.specs.Apdus.{IsWhole}
 use Rattle.stub_tables.proofs.Readings.{any_value_sound, whole_read}
-use Rattle.end_wire.specs.Bare.{First, Short, Whole, Faulty, first_of, first_at}
+use Rattle.end_wire.specs.Bare.{First, Short, Whole, Faulty, beginning_of, first_at}
 
 abbrev read_any : List ℕ → Result (Value × ℕ) ReadFault
 read_any text = read_at any_value_rows any_value_row false 262144 text
@@ -18,9 +18,9 @@ read_any text = read_at any_value_rows any_value_row false 262144 text
 -- a whole value stands first, whatever follows
 pub whole_first : (text more : List ℕ) → IsWhole text → first_at (text ++ more) ≡ Whole (length text)
 unfolding first_at
-whole_first text more w = ap first_of (whole_read text more w)
+whole_first text more w = ap beginning_of (whole_read text more w)
 
 -- a proper beginning of one is too short
 pub beginning_short : (front back : List ℕ) → AreOctets (front ++ back) → IsWhole (front ++ back) → 0 < length back → first_at front ≡ Short
 unfolding first_at IsWhole
-beginning_short front back are w some = ap first_of (beginning_is_short any_value_rows any_value_row false 262144 (any (front ++ back)) front back any_value_sound are w some)
+beginning_short front back are w some = ap beginning_of (beginning_is_short any_value_rows any_value_row false 262144 (any (front ++ back)) front back any_value_sound are w some)

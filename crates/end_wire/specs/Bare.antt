@@ -73,17 +73,17 @@ pub data First : Type 0 where
   -- no value, however it goes on: the field at this place breaks the rules
   Faulty : (place : ℕ) → First
 
-abbrev pub first_of : Result (Value × ℕ) ReadFault → First
-first_of (Ok x) = Whole x.1
-first_of (Err fault.Short) = Short
-first_of (Err (fault.NotSpelled place kind)) = Faulty place
-first_of (Err (fault.TooDeep place)) = Faulty place
-first_of (Err (fault.TooLong place)) = Faulty place
-first_of (Err fault.NoMemory) = Short
+abbrev pub beginning_of : Result (Value × ℕ) ReadFault → First
+beginning_of (Ok x) = Whole x.1
+beginning_of (Err fault.Short) = Short
+beginning_of (Err (fault.NotSpelled place kind)) = Faulty place
+beginning_of (Err (fault.TooDeep place)) = Faulty place
+beginning_of (Err (fault.TooLong place)) = Faulty place
+beginning_of (Err fault.NoMemory) = Short
 
 -- an APDU has at most 262,144 octets
 unfoldable pub first_at : List ℕ → First
-first_at octets = first_of (read_at any_value_rows any_value_row false most_octets octets)
+first_at octets = beginning_of (read_at any_value_rows any_value_row false most_octets octets)
 
 -- the first message, and the octets behind it
 abbrev pub front : First → List ℕ → List ℕ

@@ -5,7 +5,7 @@ use Rattle.std.specs.Option.{option_map}
 use Rattle.std.proofs.lemmas.List.{append-nil}
 use Rattle.linked_ops.specs.declared.key.Key.{Key}
 use Rattle.linked_ops.specs.declared.node.Node.{Node}
-use Rattle.linked_ops.specs.Rows.{Row, same_number, is_number, has_number, has_place, is_child, found, place_with, places_under, siblings, first_of, last_of, behind, before, node_of, node_at, AreApart, same_place, with_one_number, AreBelow}
+use Rattle.linked_ops.specs.Rows.{Row, same_number, is_number, has_number, has_place, is_child, found, place_with, places_under, siblings, first_listed, last_of, behind, before, node_of, node_at, AreApart, same_place, with_one_number, AreBelow}
 use Rattle.linked_ops.specs.Links.{Nodes, is_place, with_next, or_place, with_child, last_child_at, last_child_of, linked_in}
 use Rattle.linked_ops.proofs.Places.{cases, not_true, both_ways, turned, nat_is, nats_are, taken, left_out, has, AreOnce, last_snoc, first_snoc, last_is_there, behind_snoc, before_snoc, before_new, behind_new}
 use Rattle.linked_ops.proofs.Found.{numbers_are, number_is, numbers_turned, or_row, some_is, no_some, found_snoc, passes, under_snoc, own, place_itself, place_either, number_itself, number_either, under_once, under_is, under_none, none_made, no_children}
@@ -136,7 +136,7 @@ module _ (rows : List Row) (places : AreApart same_place rows) (numbers : AreApa
         ∙ append-nil (places_under made rows) ∙ no_children made rows below
 
     fresh_is : node_of longer x ≡ fresh
-    fresh_is = λ i. record { key = key; previous = (new_previous u refl ∙ sym (last_is u placed)) i; next = new_next u refl i; first_child = first_of (childless i); last_child = last_of (childless i) }
+    fresh_is = λ i. record { key = key; previous = (new_previous u refl ∙ sym (last_is u placed)) i; next = new_next u refl i; first_child = first_listed (childless i); last_child = last_of (childless i) }
 
     not_above : is_place q above ≡ false
     not_above = by_parent u placed
@@ -196,9 +196,9 @@ module _ (rows : List Row) (places : AreApart same_place rows) (numbers : AreApa
       children : (b : Bool) → is_number e.0 u ≡ b → places_under e.0 longer ≡ places_under e.0 rows ++ cond b (q ∷ []) []
       children b h = under_snoc e.0 rows x ∙ ap (λ (c : Bool). places_under e.0 rows ++ cond c (q ∷ []) []) h
 
-      first_is : (b : Bool) → is_number e.0 u ≡ b → first_of (places_under e.0 longer) ≡ cond (is_place p above) (or_place (first_of (places_under e.0 rows)) (Some q)) (first_of (places_under e.0 rows))
-      first_is true h = ap first_of (children true h) ∙ first_snoc q (places_under e.0 rows) ∙ sym (taken (is_place p above) _ _ (parent_is p e u f ∙ h))
-      first_is false h = ap first_of (children false h ∙ append-nil (places_under e.0 rows)) ∙ sym (left_out (is_place p above) _ _ (parent_is p e u f ∙ h))
+      first_is : (b : Bool) → is_number e.0 u ≡ b → first_listed (places_under e.0 longer) ≡ cond (is_place p above) (or_place (first_listed (places_under e.0 rows)) (Some q)) (first_listed (places_under e.0 rows))
+      first_is true h = ap first_listed (children true h) ∙ first_snoc q (places_under e.0 rows) ∙ sym (taken (is_place p above) _ _ (parent_is p e u f ∙ h))
+      first_is false h = ap first_listed (children false h ∙ append-nil (places_under e.0 rows)) ∙ sym (left_out (is_place p above) _ _ (parent_is p e u f ∙ h))
 
       last_child_is : (b : Bool) → is_number e.0 u ≡ b → last_of (places_under e.0 longer) ≡ cond (is_place p above) (Some q) (last_of (places_under e.0 rows))
       last_child_is true h = ap last_of (children true h) ∙ last_snoc q (places_under e.0 rows) ∙ sym (taken (is_place p above) _ _ (parent_is p e u f ∙ h))

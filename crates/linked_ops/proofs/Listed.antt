@@ -14,7 +14,7 @@ use Rattle.linked_ops.specs.declared.key.Key.{Key}
 use Rattle.linked_ops.specs.declared.node.Opening.{Opening}
 use Rattle.linked_ops.specs.Keys.{same_key, is_under}
 use Rattle.linked_ops.specs.Entries.{Entry, is_open, parent_of, children_of, orphaned, without, closed}
-use Rattle.linked_ops.specs.Rows.{Row, same_number, is_number, has_key, has_number, has_place, is_child, found, first_gone, number_of, key_with, opening_with, above_in, entries_among, entries, places_under, siblings, first_of, behind, node_of, node_at, AreApart, same_place, with_one_number, with_one_key, IsBelow, AreBelow}
+use Rattle.linked_ops.specs.Rows.{Row, same_number, is_number, has_key, has_number, has_place, is_child, found, first_gone, number_of, key_with, opening_with, above_in, entries_among, entries, places_under, siblings, first_listed, behind, node_of, node_at, AreApart, same_place, with_one_number, with_one_key, IsBelow, AreBelow}
 use Rattle.linked_ops.specs.Links.{Nodes}
 use Rattle.linked_ops.specs.KeysAlong.{keys_along, next_of, key_before}
 use Rattle.linked_ops.proofs.Places.{cases, clash, not_true, both_ways, turned, nat_is, nats_are, or_now, or_true, taken, left_out, has, AreOnce, behind_split}
@@ -174,14 +174,14 @@ module _ (rows : List Row) (places : AreApart same_place rows) (numbers : AreApa
     has_mid [] bs b = or_now (nat_eq b b) _ (nat_is b)
     has_mid (x ∷ xs) bs b = or_true (nat_eq x b) _ (has_mid xs bs b)
 
-    along : (left : ℕ) (front bs : List ℕ) → K ≡ front ++ bs → length bs ≤ left → keys_along g left (first_of bs) ≡ told_all bs
+    along : (left : ℕ) (front bs : List ℕ) → K ≡ front ++ bs → length bs ≤ left → keys_along g left (first_listed bs) ≡ told_all bs
     along zero front [] e l = refl
     along zero front (b ∷ bs) e l = absurd (omega arith)
     along (suc left) front [] e l = refl
     along (suc left) front (b ∷ bs) e l =
         let c = child_at b (subst (λ (z : List ℕ). has b z ≡ true) (sym e) (has_mid front bs b)) in
         let o : AreOnce (front ++ b ∷ bs) = subst AreOnce e (under_once y.0 rows places) in
-        let n : next_of (g b) ≡ first_of bs =
+        let n : next_of (g b) ≡ first_listed bs =
         ap (λ (r : Option Row). next_of (option_map (node_of rows) r)) c.1 ∙ (λ i. behind (c.3 i) (c.2 i)) ∙ ap (behind b) e ∙ behind_split b front bs o in
         let a : K ≡ (front ++ b ∷ []) ++ bs = e ∙ sym (append_assoc front (b ∷ []) bs) in
         ap (key_before (g b)) (ap (keys_along g left) n ∙ along left (front ++ b ∷ []) bs a (omega arith))
@@ -239,7 +239,7 @@ module _ (rows : List Row) (places : AreApart same_place rows) (numbers : AreApa
         by_test true more = omega arith
         by_test false more = omega arith
 
-    pub children_along : (left : ℕ) → length rows ≤ left → keys_along g left (first_of K) ≡ children_of k (entries rows)
+    pub children_along : (left : ℕ) → length rows ≤ left → keys_along g left (first_listed K) ≡ children_of k (entries rows)
     children_along left l = let f = few y.0 rows in along left [] K refl (omega arith) ∙ told_is rows (all_found rows places)
 
   -- ---- a key taken out

@@ -2,7 +2,7 @@
 use Rattle.std.proofs.Common.{◌≡◌, ℕ, Bool, true, false, ◌||◌, cond, List, [], ◌∷◌, ◌++◌, Option, Some, None, refl, sym, ap, subst, ◌∙◌}
 use Rattle.std.specs.Prelude.{nat_eq}
 use Rattle.std.proofs.lemmas.Bool.{eq-eqb, eqb-true}
-use Rattle.linked_ops.specs.Rows.{first_of, last_from, last_of, behind, before_from, before}
+use Rattle.linked_ops.specs.Rows.{first_listed, last_from, last_of, behind, before_from, before}
 use Rattle.linked_ops.specs.Links.{is_place, or_place, moved}
 
 pub cases : {X : Type 0} (b : Bool) → (b ≡ true → X) → (b ≡ false → X) → X
@@ -84,7 +84,7 @@ module _ (q : ℕ) where
   last_snoc [] = refl
   last_snoc (x ∷ xs) = ap Some (last_from_snoc x xs)
 
-  pub first_snoc : (xs : List ℕ) → first_of (snoc xs) ≡ or_place (first_of xs) (Some q)
+  pub first_snoc : (xs : List ℕ) → first_listed (snoc xs) ≡ or_place (first_listed xs) (Some q)
   first_snoc [] = refl
   first_snoc (x ∷ xs) = refl
 
@@ -151,7 +151,7 @@ behind_is_there p z (x ∷ xs) e =
     (λ t. first_is_there xs (sym (ap (is_place p) (taken (nat_eq x z) _ _ t)) ∙ e))
     (λ f. behind_is_there p z xs (sym (ap (is_place p) (left_out (nat_eq x z) _ _ f)) ∙ e)))
   where
-    first_is_there : (ys : List ℕ) → is_place p (first_of ys) ≡ true → has p ys ≡ true
+    first_is_there : (ys : List ℕ) → is_place p (first_listed ys) ≡ true → has p ys ≡ true
     first_is_there [] e = absurd cc
     first_is_there (y ∷ ys) e = or_now (nat_eq y p) _ (turned y p ∙ e)
 
@@ -193,29 +193,29 @@ module _ (z p : ℕ) (differs : nat_eq z p ≡ false) where
       let n : has z xs ≡ false = subst (λ (v : ℕ). has v xs ≡ false) w o.0 in
       let d : nat_eq x p ≡ false = subst (λ (v : ℕ). nat_eq v p ≡ false) (sym w) differs in
       ap (behind p) (taken (nat_eq x z) xs (x ∷ gone z xs) t)
-      ∙ sym (left_out (is_place p (before_from x z xs)) (behind z (x ∷ xs)) (behind p (x ∷ xs)) (ap (is_place p) (no_before x z xs n)) ∙ left_out (nat_eq x p) (first_of xs) (behind p xs) d))
+      ∙ sym (left_out (is_place p (before_from x z xs)) (behind z (x ∷ xs)) (behind p (x ∷ xs)) (ap (is_place p) (no_before x z xs n)) ∙ left_out (nat_eq x p) (first_listed xs) (behind p xs) d))
       (λ f. ap (behind p) (left_out (nat_eq x z) xs (x ∷ gone z xs) f) ∙ later f (behind_gone xs o.1))
     where
-      at_first : (ys : List ℕ) → has p ys ≡ false → nat_eq x p ≡ true → first_of (gone z ys) ≡ cond (is_place p (before_from x z ys)) (behind z ys) (first_of ys)
+      at_first : (ys : List ℕ) → has p ys ≡ false → nat_eq x p ≡ true → first_listed (gone z ys) ≡ cond (is_place p (before_from x z ys)) (behind z ys) (first_listed ys)
       at_first [] n t = refl
       at_first (y ∷ ys) n t =
           cases (nat_eq y z)
           (λ u.
-          ap first_of (taken (nat_eq y z) ys (y ∷ gone z ys) u)
-          ∙ sym (taken (is_place p (before_from x z (y ∷ ys))) (behind z (y ∷ ys)) (Some y) (ap (is_place p) (taken (nat_eq y z) (Some x) (before_from y z ys) u) ∙ turned p x ∙ t) ∙ taken (nat_eq y z) (first_of ys) (behind z ys) u))
+          ap first_listed (taken (nat_eq y z) ys (y ∷ gone z ys) u)
+          ∙ sym (taken (is_place p (before_from x z (y ∷ ys))) (behind z (y ∷ ys)) (Some y) (ap (is_place p) (taken (nat_eq y z) (Some x) (before_from y z ys) u) ∙ turned p x ∙ t) ∙ taken (nat_eq y z) (first_listed ys) (behind z ys) u))
           (λ g.
-          ap first_of (left_out (nat_eq y z) ys (y ∷ gone z ys) g)
+          ap first_listed (left_out (nat_eq y z) ys (y ∷ gone z ys) g)
           ∙ sym (left_out (is_place p (before_from x z (y ∷ ys))) (behind z (y ∷ ys)) (Some y) (ap (is_place p) (left_out (nat_eq y z) (Some x) (before_from y z ys) g) ∙ not_front y ys n)))
 
-      later : nat_eq x z ≡ false → behind p (gone z xs) ≡ cond (is_place p (before z xs)) (behind z xs) (behind p xs) → behind p (x ∷ gone z xs) ≡ cond (is_place p (before_from x z xs)) (cond (nat_eq x z) (first_of xs) (behind z xs)) (cond (nat_eq x p) (first_of xs) (behind p xs))
+      later : nat_eq x z ≡ false → behind p (gone z xs) ≡ cond (is_place p (before z xs)) (behind z xs) (behind p xs) → behind p (x ∷ gone z xs) ≡ cond (is_place p (before_from x z xs)) (cond (nat_eq x z) (first_listed xs) (behind z xs)) (cond (nat_eq x p) (first_listed xs) (behind p xs))
       later f more =
           cases (nat_eq x p)
           (λ t.
-          taken (nat_eq x p) (first_of (gone z xs)) (behind p (gone z xs)) t ∙ at_first xs (subst (λ (v : ℕ). has v xs ≡ false) (nats_are x p t) o.0) t
-          ∙ λ i. cond (is_place p (before_from x z xs)) (sym (left_out (nat_eq x z) (first_of xs) (behind z xs) f) i) (sym (taken (nat_eq x p) (first_of xs) (behind p xs) t) i))
+          taken (nat_eq x p) (first_listed (gone z xs)) (behind p (gone z xs)) t ∙ at_first xs (subst (λ (v : ℕ). has v xs ≡ false) (nats_are x p t) o.0) t
+          ∙ λ i. cond (is_place p (before_from x z xs)) (sym (left_out (nat_eq x z) (first_listed xs) (behind z xs) f) i) (sym (taken (nat_eq x p) (first_listed xs) (behind p xs) t) i))
           (λ g.
-          left_out (nat_eq x p) (first_of (gone z xs)) (behind p (gone z xs)) g ∙ more
-          ∙ λ i. cond (sym (skip x xs g o.1) i) (sym (left_out (nat_eq x z) (first_of xs) (behind z xs) f) i) (sym (left_out (nat_eq x p) (first_of xs) (behind p xs) g) i))
+          left_out (nat_eq x p) (first_listed (gone z xs)) (behind p (gone z xs)) g ∙ more
+          ∙ λ i. cond (sym (skip x xs g o.1) i) (sym (left_out (nat_eq x z) (first_listed xs) (behind z xs) f) i) (sym (left_out (nat_eq x p) (first_listed xs) (behind p xs) g) i))
 
   before_from_gone : (w : ℕ) (xs : List ℕ) → AreOnce xs → before_from w p (gone z xs) ≡ cond (is_place p (behind z xs)) (before_from w z xs) (before_from w p xs)
   before_from_gone w [] o = refl
@@ -225,18 +225,18 @@ module _ (z p : ℕ) (differs : nat_eq z p ≡ false) where
       let e : y ≡ z = nats_are y z t in
       let d : nat_eq y p ≡ false = subst (λ (v : ℕ). nat_eq v p ≡ false) (sym e) differs in
       ap (before_from w p) (taken (nat_eq y z) ys (y ∷ gone z ys) t) ∙ passed ys
-      ∙ λ i. cond (is_place p (sym (taken (nat_eq y z) (first_of ys) (behind z ys) t) i)) (sym (taken (nat_eq y z) (Some w) (before_from y z ys) t) i) (sym (left_out (nat_eq y p) (Some w) (before_from y p ys) d) i))
+      ∙ λ i. cond (is_place p (sym (taken (nat_eq y z) (first_listed ys) (behind z ys) t) i)) (sym (taken (nat_eq y z) (Some w) (before_from y z ys) t) i) (sym (left_out (nat_eq y p) (Some w) (before_from y p ys) d) i))
       (λ f.
       ap (before_from w p) (left_out (nat_eq y z) ys (y ∷ gone z ys) f)
       ∙ cases (nat_eq y p)
       (λ t.
-      let n : is_place p (behind z (y ∷ ys)) ≡ false = ap (is_place p) (left_out (nat_eq y z) (first_of ys) (behind z ys) f) ∙ not_behind ys (subst (λ (v : ℕ). has v ys ≡ false) (nats_are y p t) o.0) in
+      let n : is_place p (behind z (y ∷ ys)) ≡ false = ap (is_place p) (left_out (nat_eq y z) (first_listed ys) (behind z ys) f) ∙ not_behind ys (subst (λ (v : ℕ). has v ys ≡ false) (nats_are y p t) o.0) in
       taken (nat_eq y p) (Some w) (before_from y p (gone z ys)) t ∙ sym (left_out (is_place p (behind z (y ∷ ys))) (before_from w z (y ∷ ys)) (before_from w p (y ∷ ys)) n ∙ taken (nat_eq y p) (Some w) (before_from y p ys) t))
       (λ g.
       left_out (nat_eq y p) (Some w) (before_from y p (gone z ys)) g ∙ before_from_gone y ys o.1
-      ∙ λ i. cond (is_place p (sym (left_out (nat_eq y z) (first_of ys) (behind z ys) f) i)) (sym (left_out (nat_eq y z) (Some w) (before_from y z ys) f) i) (sym (left_out (nat_eq y p) (Some w) (before_from y p ys) g) i)))
+      ∙ λ i. cond (is_place p (sym (left_out (nat_eq y z) (first_listed ys) (behind z ys) f) i)) (sym (left_out (nat_eq y z) (Some w) (before_from y z ys) f) i) (sym (left_out (nat_eq y p) (Some w) (before_from y p ys) g) i)))
     where
-      passed : (us : List ℕ) → before_from w p us ≡ cond (is_place p (first_of us)) (Some w) (before_from y p us)
+      passed : (us : List ℕ) → before_from w p us ≡ cond (is_place p (first_listed us)) (Some w) (before_from y p us)
       passed [] = refl
       passed (u ∷ us) =
           cases (nat_eq u p)
@@ -251,12 +251,12 @@ module _ (z p : ℕ) (differs : nat_eq z p ≡ false) where
       let e : x ≡ z = nats_are x z t in
       let n : has z xs ≡ false = subst (λ (v : ℕ). has v xs ≡ false) e o.0 in
       ap (before p) (taken (nat_eq x z) xs (x ∷ gone z xs) t) ∙ front xs o.1
-      ∙ λ i. cond (is_place p (sym (taken (nat_eq x z) (first_of xs) (behind z xs) t) i)) (sym (no_before x z xs n) i) (before_from x p xs))
+      ∙ λ i. cond (is_place p (sym (taken (nat_eq x z) (first_listed xs) (behind z xs) t) i)) (sym (no_before x z xs n) i) (before_from x p xs))
       (λ f.
       ap (before p) (left_out (nat_eq x z) xs (x ∷ gone z xs) f) ∙ before_from_gone x xs o.1
-      ∙ λ i. cond (is_place p (sym (left_out (nat_eq x z) (first_of xs) (behind z xs) f) i)) (before_from x z xs) (before_from x p xs))
+      ∙ λ i. cond (is_place p (sym (left_out (nat_eq x z) (first_listed xs) (behind z xs) f) i)) (before_from x z xs) (before_from x p xs))
     where
-      front : (us : List ℕ) → AreOnce us → before p us ≡ cond (is_place p (first_of us)) None (before_from x p us)
+      front : (us : List ℕ) → AreOnce us → before p us ≡ cond (is_place p (first_listed us)) None (before_from x p us)
       front [] h = refl
       front (u ∷ us) h =
           cases (nat_eq u p)
@@ -271,16 +271,16 @@ module _ (z : ℕ) where
       (λ t. ap (λ o. moved o to from) (taken (nat_eq y z) (Some x) (before_from y z ys) t))
       (λ f. ap (λ o. moved o to from) (left_out (nat_eq y z) (Some x) (before_from y z ys) f) ∙ some_front y ys to from (sym (or_later (nat_eq y z) _ f) ∙ h))
 
-  pub first_gone_is : (xs : List ℕ) → AreOnce xs → has z xs ≡ true → first_of (gone z xs) ≡ moved (before z xs) (behind z xs) (first_of xs)
+  pub first_gone_is : (xs : List ℕ) → AreOnce xs → has z xs ≡ true → first_listed (gone z xs) ≡ moved (before z xs) (behind z xs) (first_listed xs)
   first_gone_is [] o h = absurd cc
   first_gone_is (x ∷ xs) o h =
       cases (nat_eq x z)
       (λ t.
       let n : has z xs ≡ false = subst (λ (v : ℕ). has v xs ≡ false) (nats_are x z t) o.0 in
-      ap first_of (taken (nat_eq x z) xs (x ∷ gone z xs) t)
-      ∙ λ i. moved (sym (no_before x z xs n) i) (sym (taken (nat_eq x z) (first_of xs) (behind z xs) t) i) (Some x))
+      ap first_listed (taken (nat_eq x z) xs (x ∷ gone z xs) t)
+      ∙ λ i. moved (sym (no_before x z xs n) i) (sym (taken (nat_eq x z) (first_listed xs) (behind z xs) t) i) (Some x))
       (λ f.
-      ap first_of (left_out (nat_eq x z) xs (x ∷ gone z xs) f)
+      ap first_listed (left_out (nat_eq x z) xs (x ∷ gone z xs) f)
       ∙ sym (some_front x xs (behind z (x ∷ xs)) (Some x) (sym (or_later (nat_eq x z) _ f) ∙ h)))
 
   last_from_gone : (x : ℕ) (xs : List ℕ) → has z xs ≡ true → Some (last_from x (gone z xs)) ≡ moved (behind z xs) (before_from x z xs) (Some (last_from x xs))
@@ -289,12 +289,12 @@ module _ (z : ℕ) where
       cases (nat_eq y z)
       (λ t.
       ap (λ l. Some (last_from x l)) (taken (nat_eq y z) ys (y ∷ gone z ys) t) ∙ end ys
-      ∙ λ i. moved (sym (taken (nat_eq y z) (first_of ys) (behind z ys) t) i) (sym (taken (nat_eq y z) (Some x) (before_from y z ys) t) i) (Some (last_from y ys)))
+      ∙ λ i. moved (sym (taken (nat_eq y z) (first_listed ys) (behind z ys) t) i) (sym (taken (nat_eq y z) (Some x) (before_from y z ys) t) i) (Some (last_from y ys)))
       (λ f.
       ap (λ l. Some (last_from x l)) (left_out (nat_eq y z) ys (y ∷ gone z ys) f) ∙ last_from_gone y ys (sym (or_later (nat_eq y z) _ f) ∙ h)
-      ∙ λ i. moved (sym (left_out (nat_eq y z) (first_of ys) (behind z ys) f) i) (sym (left_out (nat_eq y z) (Some x) (before_from y z ys) f) i) (Some (last_from y ys)))
+      ∙ λ i. moved (sym (left_out (nat_eq y z) (first_listed ys) (behind z ys) f) i) (sym (left_out (nat_eq y z) (Some x) (before_from y z ys) f) i) (Some (last_from y ys)))
     where
-      end : (us : List ℕ) → Some (last_from x us) ≡ moved (first_of us) (Some x) (Some (last_from y us))
+      end : (us : List ℕ) → Some (last_from x us) ≡ moved (first_listed us) (Some x) (Some (last_from y us))
       end [] = refl
       end (u ∷ us) = refl
 
@@ -305,17 +305,17 @@ module _ (z : ℕ) where
       (λ t.
       let n : has z xs ≡ false = subst (λ (v : ℕ). has v xs ≡ false) (nats_are x z t) o.0 in
       ap last_of (taken (nat_eq x z) xs (x ∷ gone z xs) t) ∙ alone xs
-      ∙ λ i. moved (sym (taken (nat_eq x z) (first_of xs) (behind z xs) t) i) (sym (no_before x z xs n) i) (Some (last_from x xs)))
+      ∙ λ i. moved (sym (taken (nat_eq x z) (first_listed xs) (behind z xs) t) i) (sym (no_before x z xs n) i) (Some (last_from x xs)))
       (λ f.
       ap last_of (left_out (nat_eq x z) xs (x ∷ gone z xs) f) ∙ last_from_gone x xs (sym (or_later (nat_eq x z) _ f) ∙ h)
-      ∙ λ i. moved (sym (left_out (nat_eq x z) (first_of xs) (behind z xs) f) i) (before_from x z xs) (Some (last_from x xs)))
+      ∙ λ i. moved (sym (left_out (nat_eq x z) (first_listed xs) (behind z xs) f) i) (before_from x z xs) (Some (last_from x xs)))
     where
-      alone : (us : List ℕ) → last_of us ≡ moved (first_of us) None (Some (last_from x us))
+      alone : (us : List ℕ) → last_of us ≡ moved (first_listed us) None (Some (last_from x us))
       alone [] = refl
       alone (u ∷ us) = refl
 
 -- the first behind a place that stands once
-pub behind_split : (b : ℕ) (xs ys : List ℕ) → AreOnce (xs ++ b ∷ ys) → behind b (xs ++ b ∷ ys) ≡ first_of ys
+pub behind_split : (b : ℕ) (xs ys : List ℕ) → AreOnce (xs ++ b ∷ ys) → behind b (xs ++ b ∷ ys) ≡ first_listed ys
 behind_split b [] ys o = taken (nat_eq b b) _ _ (nat_is b)
 behind_split b (x ∷ xs) ys o =
     cases (nat_eq x b)

@@ -8,7 +8,7 @@ use Rattle.linked_ops.specs.declared.key.Key.{Key}
 use Rattle.linked_ops.specs.declared.node.Node.{Node}
 use Rattle.linked_ops.specs.Keys.{is_under}
 use Rattle.linked_ops.specs.Entries.{Entry, is_open, is_open_or_none, under, is_root, post_order_of, AreBehind}
-use Rattle.linked_ops.specs.Rows.{Row, is_number, has_key, has_number, has_place, is_child, found, key_with, entries_among, entries, places_under, siblings, first_of, behind, node_of, node_at, AreApart, same_place, with_one_number, with_one_key}
+use Rattle.linked_ops.specs.Rows.{Row, is_number, has_key, has_number, has_place, is_child, found, key_with, entries_among, entries, places_under, siblings, first_listed, behind, node_of, node_at, AreApart, same_place, with_one_number, with_one_key}
 use Rattle.linked_ops.specs.Links.{Nodes, first_child_at, first_child_of}
 use Rattle.linked_ops.specs.KeysAlong.{reached, next_of, tree_before, trees_along, roots_keys}
 use Rattle.linked_ops.proofs.Behind.{open-append}
@@ -110,7 +110,7 @@ module _ (rows : List Row) (places : AreApart same_place rows) (numbers : AreApa
   siblings_are n None t = absurd cc
   siblings_are n (Some m) t = ap (λ (z : ℕ). places_under z rows) (sym (numbers_are n m t))
 
-  next_is : (n : ℕ) (front : List Row) (r : Row) (rs : List Row) → rows ≡ front ++ r ∷ rs → is_child n r ≡ true → behind r.1.place (siblings r.1.parent rows) ≡ first_of (places_under n rs)
+  next_is : (n : ℕ) (front : List Row) (r : Row) (rs : List Row) → rows ≡ front ++ r ∷ rs → is_child n r ≡ true → behind r.1.place (siblings r.1.parent rows) ≡ first_listed (places_under n rs)
   next_is n front r rs e t =
       let split : places_under n rows ≡ places_under n front ++ r.1.place ∷ places_under n rs = ap (places_under n) e ∙ under_append n front (r ∷ rs) ∙ ap (λ ps. places_under n front ++ ps) (taken (is_child n r) (r.1.place ∷ places_under n rs) (places_under n rs) t) in
       ap (behind r.1.place) (siblings_are n r.1.parent t ∙ split)
@@ -121,27 +121,27 @@ module _ (rows : List Row) (places : AreApart same_place rows) (numbers : AreApa
   nothing zero = refl
   nothing (suc left) = refl
 
-  at_node : (left p : ℕ) (r : Row) → found (has_place p) rows ≡ Some r → trees_along g (suc left) (Some p) ≡ trees_along g left (first_of (places_under r.0 rows)) ++ (r.1.key ∷ trees_along g left (behind r.1.place (siblings r.1.parent rows)))
+  at_node : (left p : ℕ) (r : Row) → found (has_place p) rows ≡ Some r → trees_along g (suc left) (Some p) ≡ trees_along g left (first_listed (places_under r.0 rows)) ++ (r.1.key ∷ trees_along g left (behind r.1.place (siblings r.1.parent rows)))
   unfolding trees_along
   at_node left p r f =
       ap (λ (o : Option Row). tree_before (option_map (node_of rows) o) (trees_along g left (first_child_at (option_map (node_of rows) o))) (trees_along g left (next_of (option_map (node_of rows) o)))) f
 
   -- the keys under a row, of whose children these are left
   abbrev IsTree : List Row → Row → Type 0
-  IsTree rest y = (left : ℕ) → length rest ≤ left → trees_along g left (first_of (places_under y.0 rest)) ≡ under y.1.key (E rest)
+  IsTree rest y = (left : ℕ) → length rest ≤ left → trees_along g left (first_listed (places_under y.0 rest)) ≡ under y.1.key (E rest)
 
   child : (front : List Row) (r : Row) (rs : List Row) (y : Row) → rows ≡ front ++ r ∷ rs → found (has_key y.1.key) rows ≡ Some y → is_child y.0 r ≡ true → IsTree rs r → IsTree rs y → IsTree (r ∷ rs) y
   child front r rs y e f t first others zero l = absurd (omega arith)
   child front r rs y e f t first others (suc less) l =
-      ap (λ ps. trees_along g (suc less) (first_of ps)) (taken (is_child y.0 r) (r.1.place ∷ places_under y.0 rs) (places_under y.0 rs) t)
+      ap (λ ps. trees_along g (suc less) (first_listed ps)) (taken (is_child y.0 r) (r.1.place ∷ places_under y.0 rs) (places_under y.0 rs) t)
       ∙ at_node less r.1.place r (by_place front r rs e)
-      ∙ (λ i. trees_along g less (first_of (children_behind front r rs e i)) ++ (r.1.key ∷ trees_along g less (next_is y.0 front r rs e t i)))
+      ∙ (λ i. trees_along g less (first_listed (children_behind front r rs e i)) ++ (r.1.key ∷ trees_along g less (next_is y.0 front r rs e t i)))
       ∙ (λ i. first less (omega arith) i ++ (r.1.key ∷ others less (omega arith) i))
       ∙ sym (taken (is_under y.1.key (key_with r.1.parent rows)) _ _ (under_key rows places numbers keys y.1.key y f r.1.parent ∙ t))
 
   other : (r : Row) (rs : List Row) (y : Row) → found (has_key y.1.key) rows ≡ Some y → is_child y.0 r ≡ false → IsTree rs y → IsTree (r ∷ rs) y
   other r rs y f t others left l =
-      ap (λ ps. trees_along g left (first_of ps)) (left_out (is_child y.0 r) (r.1.place ∷ places_under y.0 rs) (places_under y.0 rs) t)
+      ap (λ ps. trees_along g left (first_listed ps)) (left_out (is_child y.0 r) (r.1.place ∷ places_under y.0 rs) (places_under y.0 rs) t)
       ∙ others left (omega arith)
       ∙ sym (left_out (is_under y.1.key (key_with r.1.parent rows)) _ _ (under_key rows places numbers keys y.1.key y f r.1.parent ∙ t))
 
@@ -169,7 +169,7 @@ module _ (rows : List Row) (places : AreApart same_place rows) (numbers : AreApa
       its_tree : trees_along g left (first_child_of g (Some r.1.place)) ≡ under r.1.key (E rs)
       its_tree =
           ap (λ (o : Option Row). trees_along g left (first_child_at (option_map (node_of rows) o))) (by_place front r rs e)
-          ∙ ap (λ ps. trees_along g left (first_of ps)) (children_behind front r rs e)
+          ∙ ap (λ ps. trees_along g left (first_listed ps)) (children_behind front r rs e)
           ∙ tree rs (front ++ r ∷ []) r (longer front r rs e) (by_key front r rs e) left enough
 
       by_test : (b : Bool) → roots_keys g rows left (values_of rs) ≡ post_order_of (E rs) → cond b (trees_along g left (first_child_of g (Some r.1.place)) ++ (r.1.key ∷ [])) [] ++ roots_keys g rows left (values_of rs) ≡ cond b (under r.1.key (E rs) ++ (r.1.key ∷ post_order_of (E rs))) (post_order_of (E rs))

@@ -3,7 +3,7 @@ use Rattle.std.proofs.Common.{◌≡◌, ℕ, Bool, true, false, cond, List, Opt
 use Rattle.std.specs.Prelude.{nat_eq}
 use Rattle.std.specs.Option.{option_map}
 use Rattle.linked_ops.specs.declared.node.Node.{Node}
-use Rattle.linked_ops.specs.Rows.{Row, is_number, has_place, is_child, found, first_gone, place_with, places_under, siblings, first_of, last_of, behind, before, node_of, node_at, AreApart, same_place, with_one_number}
+use Rattle.linked_ops.specs.Rows.{Row, is_number, has_place, is_child, found, first_gone, place_with, places_under, siblings, first_listed, last_of, behind, before, node_of, node_at, AreApart, same_place, with_one_number}
 use Rattle.linked_ops.specs.Links.{Nodes, is_place, with_next, with_previous, moved, without_child, taken_out, unlinked_in}
 use Rattle.linked_ops.proofs.Places.{cases, not_true, turned, nats_are, taken, left_out, has, AreOnce, gone, behind_is_there, before_is_there, behind_gone, before_gone, first_gone_is, last_gone_is}
 use Rattle.linked_ops.proofs.Found.{passes, found_gone, found_kept, place_itself, place_either, under_once, under_is, under_gone}
@@ -121,11 +121,11 @@ module _ (rows : List Row) (places : AreApart same_place rows) (numbers : AreApa
       are_beside : is_child e.0 x ≡ true → kids ≡ beside
       are_beside h = ap (λ (w : Option ℕ). siblings w rows) (akin_are (Some e.0) x.1.parent h)
 
-      first_is : (b : Bool) → is_child e.0 x ≡ b → first_of (places_under e.0 rest) ≡ cond (is_place p over) (moved (before z beside) (behind z beside) (first_of kids)) (first_of kids)
+      first_is : (b : Bool) → is_child e.0 x ≡ b → first_listed (places_under e.0 rest) ≡ cond (is_place p over) (moved (before z beside) (behind z beside) (first_listed kids)) (first_listed kids)
       first_is true h =
-          ap first_of (cut true h) ∙ first_gone_is z kids (under_once e.0 rows places) (has_it h)
-          ∙ ap (λ (l : List ℕ). moved (before z l) (behind z l) (first_of kids)) (are_beside h) ∙ sym (taken (is_place p over) _ _ (parent_is p e x.1.parent f ∙ h))
-      first_is false h = ap first_of (cut false h) ∙ sym (left_out (is_place p over) _ _ (parent_is p e x.1.parent f ∙ h))
+          ap first_listed (cut true h) ∙ first_gone_is z kids (under_once e.0 rows places) (has_it h)
+          ∙ ap (λ (l : List ℕ). moved (before z l) (behind z l) (first_listed kids)) (are_beside h) ∙ sym (taken (is_place p over) _ _ (parent_is p e x.1.parent f ∙ h))
+      first_is false h = ap first_listed (cut false h) ∙ sym (left_out (is_place p over) _ _ (parent_is p e x.1.parent f ∙ h))
 
       last_child_is : (b : Bool) → is_child e.0 x ≡ b → last_of (places_under e.0 rest) ≡ cond (is_place p over) (moved (behind z beside) (before z beside) (last_of kids)) (last_of kids)
       last_child_is true h =

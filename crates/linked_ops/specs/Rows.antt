@@ -91,9 +91,9 @@ abbrev pub siblings : Option ℕ → List Row → List ℕ
 siblings None rows = []
 siblings (Some n) rows = places_under n rows
 
-abbrev pub first_of : List ℕ → Option ℕ
-first_of [] = None
-first_of (p ∷ ps) = Some p
+abbrev pub first_listed : List ℕ → Option ℕ
+first_listed [] = None
+first_listed (p ∷ ps) = Some p
 
 abbrev pub last_from : ℕ → List ℕ → ℕ
 last_from p [] = p
@@ -106,7 +106,7 @@ last_of (p ∷ ps) = Some (last_from p ps)
 -- the place behind a place, and the one in front of it
 abbrev pub behind : ℕ → List ℕ → Option ℕ
 behind place [] = None
-behind place (p ∷ ps) = if nat_eq p place then first_of ps else behind place ps
+behind place (p ∷ ps) = if nat_eq p place then first_listed ps else behind place ps
 
 abbrev pub before_from : ℕ → ℕ → List ℕ → Option ℕ
 before_from q place [] = None
@@ -122,7 +122,7 @@ node_of rows r = record {
   key = r.1.key;
   previous = before r.1.place (siblings r.1.parent rows);
   next = behind r.1.place (siblings r.1.parent rows);
-  first_child = first_of (places_under r.0 rows);
+  first_child = first_listed (places_under r.0 rows);
   last_child = last_of (places_under r.0 rows);
 }
 

@@ -126,8 +126,8 @@ module _ (own : Bool) (id : ℤ) where
   abbrev Shut : List OpenCall → Type 0
   Shut os = opened_with own id os ≡ None
 
-  first_of : (o : OpenCall) (os : List OpenCall) → Shut (o ∷ os) → (ends.is_key own id o ≡ false) × Shut os
-  first_of o os s =
+  first_shut : (o : OpenCall) (os : List OpenCall) → Shut (o ∷ os) → (ends.is_key own id o ≡ false) × Shut os
+  first_shut o os s =
       bool_cases (ends.is_key own id o)
       (λ t. let x : Some o ≡ None = sym (ap (λ (b : Bool). cond b (Some o) (opened_with own id os)) t) ∙ s in absurd cc)
       (λ f. (f, sym (ap (λ (b : Bool). cond b (Some o) (opened_with own id os)) f) ∙ s))
@@ -137,7 +137,7 @@ module _ (own : Bool) (id : ℤ) where
 
   pub shut_last : (os : List OpenCall) (o : OpenCall) → Shut os → ends.is_key own id o ≡ false → Shut (os ++ o ∷ [])
   shut_last [] o s f = with_first o [] f refl
-  shut_last (x ∷ os) o s f = let t = first_of x os s in with_first x (os ++ o ∷ []) t.0 (shut_last os o t.1 f)
+  shut_last (x ∷ os) o s f = let t = first_shut x os s in with_first x (os ++ o ∷ []) t.0 (shut_last os o t.1 f)
 
   module _ (b : Bool) (k : ℤ) where
     key_stays : (o : OpenCall) (t : Bool) → ends.is_key own id (cond t (record o { parent = None }) o) ≡ ends.is_key own id o
@@ -151,13 +151,13 @@ module _ (own : Bool) (id : ℤ) where
     orphans : (os : List OpenCall) → Shut os → Shut (map (ends.orphaned b k) os)
     orphans [] s = refl
     orphans (o ∷ os) s =
-        let t = first_of o os s in
+        let t = first_shut o os s in
         with_first (ends.orphaned b k o) (map (ends.orphaned b k) os) (orphan_key o o.parent ∙ t.0) (orphans os t.1)
 
     others : (os : List OpenCall) → Shut os → Shut (filter (λ o. not (ends.is_key b k o)) os)
     others [] s = refl
     others (o ∷ os) s =
-        let t = first_of o os s in
+        let t = first_shut o os s in
         bool_cases (ends.is_key b k o)
         (λ y. subst Shut (sym (ap (λ (x : Bool). cond (not x) (o ∷ filter (λ o. not (ends.is_key b k o)) os) (filter (λ o. not (ends.is_key b k o)) os)) y)) (others os t.1))
         (λ n. subst Shut (sym (ap (λ (x : Bool). cond (not x) (o ∷ filter (λ o. not (ends.is_key b k o)) os) (filter (λ o. not (ends.is_key b k o)) os)) n)) (with_first o (filter (λ o. not (ends.is_key b k o)) os) t.0 (others os t.1)))

@@ -20,7 +20,7 @@ syntax_named name =
     else (if pointwise nat_eq name (name_of Packed) then Some Packed
     else None))
 
--- the abstract syntax of ACSE (X.227 annex A),
+-- the abstract syntax of ACSE (X.227 9),
 -- {joint-iso-itu-t association-control(2) abstract-syntax(1) apdus(0) version1(1)}
 abbrev pub acse_name : List ℕ
 acse_name = 2 ∷ 2 ∷ 1 ∷ 0 ∷ 1 ∷ []

@@ -121,8 +121,8 @@ field_takes limit s to c lt t =
     let some : length s.rest ≢ 0 = λ e. omega arith in
     cond_no (nat_eq (length s.rest) 0) _ _ _ (ne_eqb (length s.rest) 0 some) (announced_takes limit s.place s to c t)
 
-abbrev first_of : List ℕ × Spot → Reading (ℕ × Spot)
-first_of f = done {A = ℕ × Spot} (slice_index f.0 0, f.1)
+abbrev first_octet : List ℕ × Spot → Reading (ℕ × Spot)
+first_octet f = done {A = ℕ × Spot} (slice_index f.0 0, f.1)
 
 abbrev number_of : List ℕ × Spot → Reading (ℕ × Spot)
 number_of f = done {A = ℕ × Spot} (big_number 4 f.0, f.1)
@@ -130,18 +130,18 @@ number_of f = done {A = ℕ × Spot} (big_number 4 f.0, f.1)
 pub octet_err : (limit : ℕ) (s : Spot) (f : PackedFault) → (f ≡ Short → ⊥) → octet_at limit s ≡ Err f → FieldFault 1 limit s f
 unfolding octet_at
 octet_err limit s f ne e =
-    elim (bind_err (field_at limit 1 s) first_of f e) [
+    elim (bind_err (field_at limit 1 s) first_octet f e) [
       | inl t ↦ field_err limit 1 s f ne t
       | inr t ↦ absurd (not_err {A = ℕ × Spot} (slice_index t.0.0 0, t.0.1) f t.2)
     ]
 
 pub octet_fails : (limit : ℕ) (s : Spot) (f : PackedFault) → FieldFault 1 limit s f → octet_at limit s ≡ Err f
 unfolding octet_at
-octet_fails limit s f h = bind_fails (field_at limit 1 s) first_of f (field_fails limit 1 s f h)
+octet_fails limit s f h = bind_fails (field_at limit 1 s) first_octet f (field_fails limit 1 s f h)
 
 pub octet_takes : (limit : ℕ) (s to : Spot) (o : ℕ) → Takes limit s (o ∷ []) to → octet_at limit s ≡ Ok (o, to)
 unfolding octet_at
-octet_takes limit s to o t = bind_goes (field_at limit 1 s) first_of (o ∷ [], to) (done (o, to)) (field_takes limit s to (o ∷ []) (omega arith) t) refl
+octet_takes limit s to o t = bind_goes (field_at limit 1 s) first_octet (o ∷ [], to) (done (o, to)) (field_takes limit s to (o ∷ []) (omega arith) t) refl
 
 pub count_err : (limit : ℕ) (s : Spot) (f : PackedFault) → (f ≡ Short → ⊥) → count_at limit s ≡ Err f → FieldFault 4 limit s f
 unfolding count_at

@@ -12,13 +12,13 @@ abbrev pub last_or : ℕ → List spots.Spot → ℕ
 last_or n [] = n
 last_or n (s ∷ ss) = last_or s.place ss
 
-last_of : (n : ℕ) (s : spots.Spot) (ss : List spots.Spot) → last_or n (s ∷ ss) ≡ reading.last_start (s ∷ ss)
-last_of n s [] = refl
-last_of n s (t ∷ ss) = last_of s.place t ss
+last_spot : (n : ℕ) (s : spots.Spot) (ss : List spots.Spot) → last_or n (s ∷ ss) ≡ reading.last_start (s ∷ ss)
+last_spot n s [] = refl
+last_spot n s (t ∷ ss) = last_spot s.place t ss
 
 pub last_is : (ss : List spots.Spot) → last_or 0 ss ≡ reading.last_start ss
 last_is [] = refl
-last_is (s ∷ ss) = last_of 0 s ss
+last_is (s ∷ ss) = last_spot 0 s ss
 
 pub fit_on : (xs : List Spot) (x : Spot) → HaveSmallPlaces xs → HasSmallPlaces x → HaveSmallPlaces (xs ++ x ∷ [])
 fit_on [] x all one = (one, tt)

@@ -4,7 +4,7 @@ use Rattle.std.specs.Prelude.{ℤ, Option, Some, None, Ok, Err, if◌then◌else
 use Rattle.osi_base.specs.declared.layer_words.Proposal.{Proposal}
 use Rattle.osi_base.specs.declared.layer_words.SetItem.{SetItem}
 use Rattle.asn1_types.specs.declared.value.Val.{Val}
-use Rattle.end_model.specs.end_rules.Encodings.{first_of, Encoding}
+use Rattle.end_model.specs.end_rules.Encodings.{next_queued, Encoding}
 use Rattle.stub_tables.specs.declared.apdu.Apdu.{Apdu}
 use Rattle.stub_tables.specs.declared.apdu.Apdu.TheVariants as apdus
 use Rattle.stub_tables.specs.declared.operation.Operation.{Operation}
@@ -111,7 +111,7 @@ short-of base (apdus.Error id code parameter) n h = h
 short-of base (apdus.Reject id problem) n h = absurd n
 
 -- what an end starts and encodes is transferable
-first-good : (base : Base) (queue : List Queued) → AreTransferable base queue → AreTransferable base (first_of queue)
+first-good : (base : Base) (queue : List Queued) → AreTransferable base queue → AreTransferable base (next_queued queue)
 first-good base [] h = tt
 first-good base (item ∷ items) h = (h.0, tt)
 

@@ -10,7 +10,7 @@ use Rattle.osi_base.specs.Limits.{most_marks, most_transferred, last_serial}
 use Rattle.end_model.specs.dialogue.declared.config.Mode.TheVariants.{Reliable}
 use Rattle.end_model.specs.end_rules.Base.{Base}
 use Rattle.osi_base.specs.SetPlaces.{pair_of}
-use Rattle.end_model.specs.end_rules.Encodings.{first_of}
+use Rattle.end_model.specs.end_rules.Encodings.{next_queued}
 use Rattle.end_model.specs.end_rules.State.{Body, Octets, Marked, Progress, Running, Ending, Suspended, Encoded, Transfer}
 use Rattle.end_model.specs.end_rules.State.{Queued, joined, highest, pieces_of, on_current, is_empty, is_running}
 use Rattle.end_model.specs.end_rules.Messages.{Session, OfMarks, OfActivities, Part, Mark, Start, End}
@@ -25,7 +25,7 @@ use Rattle.agreement.specs.Messages.Act.{Marks, EndsActivity, Sends, Starts, Enc
 use Rattle.agreement.specs.Messages.Message.{Mark as model_mark, End as model_end}
 use Rattle.agreement.specs.State as states
 use Rattle.agreement.specs.State.Progress.{Running as model_running}
-use Rattle.agreement.specs.Laws.{Encoding as ModelEncoding, first_of as model_first, encoding_of as model_encoding}
+use Rattle.agreement.specs.Laws.{Encoding as ModelEncoding, next_queued as model_first, encoding_of as model_encoding}
 use Rattle.agreement.specs.Acts.{Leads, OnEncoded as ModelEncoded, OnRunning, acted, pieces_of as model_pieces}
 use Rattle.end_model.specs.Seen.{Free, set_seen, apdu_seen, queued_seen, item_seen, piece_seen, progress_seen, encoded_seen, transfer_seen, seen, setup_seen}
 use Rattle.end_model.specs.Rows.{at}
@@ -240,7 +240,7 @@ parts-so free base proposed body t e spells carries h leads s =
 
 -- ---- a start, and an encoding
 
-first-seen : (base : Base) (queue : List Queued) (items : List states.Handed) → map (queued_seen base) (first_of queue) ++ items ≡ model_first (map (queued_seen base) queue) ++ items
+first-seen : (base : Base) (queue : List Queued) (items : List states.Handed) → map (queued_seen base) (next_queued queue) ++ items ≡ model_first (map (queued_seen base) queue) ++ items
 first-seen base [] items = refl
 first-seen base (item ∷ queue) items = refl
 

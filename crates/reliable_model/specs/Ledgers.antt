@@ -6,7 +6,7 @@ use Rattle.end_model.specs.dialogue.declared.call.Call.{Call}
 use Rattle.end_model.specs.dialogue.declared.indication.Indication.{Indication}
 use Rattle.end_model.specs.end_rules.Base.{Base, Fault}
 use Rattle.osi_base.specs.SetPlaces.{pair_of}
-use Rattle.end_model.specs.end_rules.Encodings.{first_of, Encoding}
+use Rattle.end_model.specs.end_rules.Encodings.{next_queued, Encoding}
 use Rattle.end_model.specs.end_rules.Messages.{Message, Session, OfAssociation, OfActivities, Connect, Start, End}
 use Rattle.end_model.specs.end_rules.State.{Body, Queued, Transfer}
 use Rattle.end_model.specs.end_rules.Connecting.{is_refused, recovers_in}
@@ -64,7 +64,7 @@ encoding_of (Some transfer) activity set context =
     record { activity = activity; id = context; pair = pair_of set context; apdu = transfer.item.apdu } ∷ []
 
 abbrev pub started_by : Body → OwnAct → List Queued
-started_by body (SendsNow (Session (OfActivities (Start activity)))) = first_of body.sending.queue
+started_by body (SendsNow (Session (OfActivities (Start activity)))) = next_queued body.sending.queue
 started_by body own = []
 
 abbrev pub encoded_by : Body → List SetItem → OwnAct → List Encoding

@@ -3,7 +3,7 @@
 use Rattle.std.specs.Prelude.{◌≡◌, ℕ, ◌<◌, List, [], ◌∷◌, ◌++◌, Bool, true, false, if◌then◌else◌, Option, Some, None}
 use Rattle.osi_base.specs.declared.layer_words.Side.{Side}
 use Rattle.osi_base.specs.declared.syntax.Pair.{Pair}
-use Rattle.end_rules.specs.Encodings.{first_of, item_of, IsOf, Encoding, IsNewest}
+use Rattle.end_rules.specs.Encodings.{next_queued, item_of, IsOf, Encoding, IsNewest}
 use Rattle.dialogue.specs.Sides.{other}
 use Rattle.stub_tables.specs.declared.apdu.Apdu.{Apdu}
 use Rattle.end_rules.specs.Base.{Base, Item}
@@ -16,7 +16,7 @@ use Rattle.end_rules.specs.World.{World, Ends, base_at, body_at, is_side, pair_a
 -- ---- what an end started: the k-th in its activity k; the newest first
 
 abbrev pub started_in : Body → Step → List Queued
-started_in body (sent (Session (OfActivities (Start activity)))) = first_of body.sending.queue
+started_in body (sent (Session (OfActivities (Start activity)))) = next_queued body.sending.queue
 started_in body _ = []
 
 abbrev pub started : Ends → Side → World → List Queued

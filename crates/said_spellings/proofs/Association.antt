@@ -57,7 +57,7 @@ use Rattle.said_words.specs.Calls.{AreNamed}
 use Rattle.said_words.specs.Fields.{IsContext, AreResults}
 use Rattle.said_words.specs.Words.{the_connect, the_acceptance, the_finish, the_disconnect, the_abort, IsOfAssociation, IsUnit}
 use Rattle.said_words.proofs.Answers.{results-so, results-few}
-use Rattle.said_words.proofs.First.{first_of, first-context}
+use Rattle.said_words.proofs.First.{first_accepted, first-context}
 use Rattle.said_spellings.proofs.Sizes.{Each}
 use Rattle.said_spellings.proofs.Ppdus.{Named, IsContent, IsShortString, accept-stands, answering, connect-fitting}
 use Rattle.said_spellings.proofs.Session.{AreParameters, parameters-append, alone}
@@ -332,19 +332,19 @@ module _ (tables : Tables) (spellings : Spellings) (a b : Config) (right : Propo
   abbrev pub results : List AddAnswer
   results = opening_policy (base_at Responder common) (proposals (base_at Initiator common))
 
-  pub acceptance-in : IsEnd a → IsEnd b → InPlace place.Ac (accept_unit b.called results (acse_context (first_of common)) accepting) 50000
+  pub acceptance-in : IsEnd a → IsEnd b → InPlace place.Ac (accept_unit b.called results (acse_context (first_accepted common)) accepting) 50000
   acceptance-in ea eb =
       let ca = accepted a ea.accepted in
       let cb = accepted b eb.accepted in
-      let on : IsContext (acse_context (first_of common)) = subst IsContext (sym (first-context tables spellings a b right ids)) one in
+      let on : IsContext (acse_context (first_accepted common)) = subst IsContext (sym (first-context tables spellings a b right ids)) one in
       let n = results-few (base_at Responder common) true 0 (proposals (base_at Initiator common)) in
       let c : length a.contexts ≤ 62 = ca.contexts in
       let f = accepting-few in
-      accept-in b.called results (acse_context (first_of common)) accepting on eb.called cb.called.high (results-so (base_at Responder common) true 0 (proposals (base_at Initiator common))) (omega arith) accepting-is (omega arith)
+      accept-in b.called results (acse_context (first_accepted common)) accepting on eb.called cb.called.high (results-so (base_at Responder common) true 0 (proposals (base_at Initiator common))) (omega arith) accepting-is (omega arith)
 
   accept-sent : IsEnd a → IsEnd b → AcceptSent tables (the_acceptance (base_at Initiator common) (base_at Responder common) false)
   accept-sent ea eb =
-      let k = acse_context (first_of common) in
+      let k = acse_context (first_accepted common) in
       let p = acceptance-in ea eb in
       let few : length (written_ppdu (accept_unit b.called results k accepting)) ≤ 50000 = p.few in
       sendable tables _

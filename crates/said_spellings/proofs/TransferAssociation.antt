@@ -40,7 +40,7 @@ use Rattle.der_octets.proofs.Octets.{der-octets}
 use Rattle.said_words.specs.Fields.{IsContext}
 use Rattle.said_words.specs.Words.{the_connect, the_acceptance, IsOfAssociation}
 use Rattle.said_words.proofs.Answers.{results-so, results-few}
-use Rattle.said_words.proofs.First.{first_of}
+use Rattle.said_words.proofs.First.{first_accepted}
 use Rattle.said_words.proofs.TransferFirst.{on-acse, on-rtse}
 use Rattle.said_spellings.specs.Laws.{IsEndIn}
 use Rattle.said_spellings.proofs.Ppdus.{connect-fitting}
@@ -102,36 +102,36 @@ module _ (tables : Tables) (spellings : Spellings) (a b : Config) (right : Propo
   asking_of recovers = written_acse (acse.AssociateRequest None reliable_context (carrying 3 (request_of recovers) ∷ []))
 
   abbrev pub accepting_of : Bool → List ℕ
-  accepting_of recovers = written_acse (acse.AssociateResponse reliable_context 0 (User (pos 0)) (carrying (rtse_context (first_of common)) (response_of recovers) ∷ []))
+  accepting_of recovers = written_acse (acse.AssociateResponse reliable_context 0 (User (pos 0)) (carrying (rtse_context (first_accepted common)) (response_of recovers) ∷ []))
 
   pub asking-so : IsEndIn Reliable a → (recovers : Bool) → SpelledAcse (acse.AssociateRequest None reliable_context (carrying 3 (request_of recovers) ∷ [])) 400
   asking-so ea recovers = asking-spelled 3 (request_of recovers) three (wider (request_of recovers) (request-so ea recovers).spelled)
 
-  on-transfers : IsContext (rtse_context (first_of common))
+  on-transfers : IsContext (rtse_context (first_accepted common))
   on-transfers = subst IsContext (sym (on-rtse tables spellings a b right ids)) three
 
-  pub accepting-so : IsEndIn Reliable a → IsEndIn Reliable b → (recovers : Bool) → SpelledAcse (acse.AssociateResponse reliable_context 0 (User (pos 0)) (carrying (rtse_context (first_of common)) (response_of recovers) ∷ [])) 420
-  accepting-so ea eb recovers = accepting-spelled (rtse_context (first_of common)) (response_of recovers) on-transfers (wider (response_of recovers) (response-so ea eb recovers).spelled)
+  pub accepting-so : IsEndIn Reliable a → IsEndIn Reliable b → (recovers : Bool) → SpelledAcse (acse.AssociateResponse reliable_context 0 (User (pos 0)) (carrying (rtse_context (first_accepted common)) (response_of recovers) ∷ [])) 420
+  accepting-so ea eb recovers = accepting-spelled (rtse_context (first_accepted common)) (response_of recovers) on-transfers (wider (response_of recovers) (response-so ea eb recovers).spelled)
 
   -- ---- AC
 
   abbrev pub results : List AddAnswer
   results = opening_policy (base_at Responder common) (proposals (base_at Initiator common))
 
-  pub acceptance-in : IsEndIn Reliable a → IsEndIn Reliable b → (recovers : Bool) → InPlace place.Ac (accept_unit b.called results (acse_context (first_of common)) (accepting_of recovers)) 50000
+  pub acceptance-in : IsEndIn Reliable a → IsEndIn Reliable b → (recovers : Bool) → InPlace place.Ac (accept_unit b.called results (acse_context (first_accepted common)) (accepting_of recovers)) 50000
   acceptance-in ea eb recovers =
       let ca = accepted a ea.accepted in
       let cb = accepted b eb.accepted in
       let s = (accepting-so ea eb recovers).spelled in
       let few : length (accepting_of recovers) ≤ 420 = s.few in
-      let on : IsContext (acse_context (first_of common)) = subst IsContext (sym (on-acse tables spellings a b right ids)) one in
+      let on : IsContext (acse_context (first_accepted common)) = subst IsContext (sym (on-acse tables spellings a b right ids)) one in
       let n = results-few (base_at Responder common) true 0 (proposals (base_at Initiator common)) in
       let c : length a.contexts ≤ 62 = ca.contexts in
-      accept-in b.called results (acse_context (first_of common)) (accepting_of recovers) on eb.called cb.called.high (results-so (base_at Responder common) true 0 (proposals (base_at Initiator common))) (omega arith) (s.is_whole_one, s.octets_are) (omega arith)
+      accept-in b.called results (acse_context (first_accepted common)) (accepting_of recovers) on eb.called cb.called.high (results-so (base_at Responder common) true 0 (proposals (base_at Initiator common))) (omega arith) (s.is_whole_one, s.octets_are) (omega arith)
 
   accept-sent : IsEndIn Reliable a → IsEndIn Reliable b → (recovers : Bool) → AcceptSent tables (the_acceptance (base_at Initiator common) (base_at Responder common) recovers)
   accept-sent ea eb recovers =
-      let unit = accept_unit b.called results (acse_context (first_of common)) (accepting_of recovers) in
+      let unit = accept_unit b.called results (acse_context (first_accepted common)) (accepting_of recovers) in
       let p = acceptance-in ea eb recovers in
       let few : length (written_ppdu unit) ≤ 50000 = p.few in
       sendable tables _

@@ -65,7 +65,7 @@ use Rattle.reliable_model.proofs.OnWay.{took-unit, SharedHas, AnswersHave, all-a
 use Rattle.said_words.proofs.Lists.{few-identifiers}
 use Rattle.said_words.specs.Calls.{IsCall, AreCalls}
 use Rattle.said_words.specs.Words.{the_connect, the_acceptance, IsWord, IsUnit, IsMessage, AreMessages}
-use Rattle.said_words.proofs.First.{first_of, first-pair, none-refused}
+use Rattle.said_words.proofs.First.{first_accepted, first-pair, none-refused}
 use Rattle.said_words.proofs.Sharing.{no-own, sets-there}
 use Rattle.said_words.proofs.Worlds.{coming-said, called-said, all-said}
 use Rattle.said_takings.specs.Laws.{IsTaken, DirectTakesRightly}
@@ -158,7 +158,7 @@ module _ (free : Free) (tables : Tables) (spellings : Spellings) (a b : Config) 
   base role = base_at role common
 
   abbrev first : List SetItem
-  first = first_of common
+  first = first_accepted common
 
   abbrev IsPlain : ℕ → Pair → Type 0
   IsPlain k pair = IsIdentifier k × ((pair.abstract_name ≡ tables.name_oid) ⊎ (pair_of first k ≡ Some pair))

@@ -76,8 +76,8 @@ added-behind (p ∷ ps) (answer ∷ answers) items h =
 
 -- ---- what is first accepted
 
-abbrev pub first_of : Common → List SetItem
-first_of common = set_for (base_at Responder common) (presentation_connect (base_at Initiator common))
+abbrev pub first_accepted : Common → List SetItem
+first_accepted common = set_for (base_at Responder common) (presentation_connect (base_at Initiator common))
 
 module _ (tables : Tables) (spellings : Spellings) (a b : Config) where
   abbrev common : Common
@@ -94,7 +94,7 @@ module _ (tables : Tables) (spellings : Spellings) (a b : Config) where
       go false = refl
 
   -- it stands first
-  begins : ProposesRightly common → AreIdentifiers (proposals (base_at Initiator common)) → (rest : List SetItem) × (first_of common ≡ acse_item ∷ rest)
+  begins : ProposesRightly common → AreIdentifiers (proposals (base_at Initiator common)) → (rest : List SetItem) × (first_accepted common ≡ acse_item ∷ rest)
   unfolding acse_item
   begins right ids =
       let doubles = or-left (has_double (proposed_ids (proposals (base_at Initiator common)))) _ right in
@@ -102,22 +102,22 @@ module _ (tables : Tables) (spellings : Spellings) (a b : Config) where
       subst (λ (answer : AddAnswer). (rest : List SetItem) × (with_added a.contexts (answers_to_additions (base_at Responder common) true (counted_with 0 answer) a.contexts) (put_accepted 1 (pair_accepted acse_proposal answer) []) ≡ record { id = 1; pair = acse_pair } ∷ rest)) (sym accepts-acse)
       (added-behind a.contexts (answers_to_additions (base_at Responder common) true 1 a.contexts) [] later)
 
-  pub first-pair : ProposesRightly common → AreIdentifiers (proposals (base_at Initiator common)) → pair_of (first_of common) 1 ≡ Some acse_pair
+  pub first-pair : ProposesRightly common → AreIdentifiers (proposals (base_at Initiator common)) → pair_of (first_accepted common) 1 ≡ Some acse_pair
   unfolding acse_item
   first-pair right ids = let b = begins right ids in ap (λ (set : List SetItem). pair_of set 1) b.1
 
-  pub first-context : ProposesRightly common → AreIdentifiers (proposals (base_at Initiator common)) → acse_context (first_of common) ≡ 1
+  pub first-context : ProposesRightly common → AreIdentifiers (proposals (base_at Initiator common)) → acse_context (first_accepted common) ≡ 1
   unfolding acse_item
   first-context right ids = let b = begins right ids in ap acse_context b.1
 
-  pub first-acse : ProposesRightly common → AreIdentifiers (proposals (base_at Initiator common)) → has_acse (first_of common) ≡ true
+  pub first-acse : ProposesRightly common → AreIdentifiers (proposals (base_at Initiator common)) → has_acse (first_accepted common) ≡ true
   unfolding acse_item
   first-acse right ids = let b = begins right ids in ap has_acse b.1
 
   pub none-refused : (body : Body) → ProposesRightly common → AreIdentifiers (proposals (base_at Initiator common)) → is_refused (base_at Responder common) body (session_connect (base_at Initiator common)) (presentation_connect (base_at Initiator common)) (connect_values (base_at Initiator common) false) ≡ false
   none-refused body right ids = ap (λ (x : Bool). not x || false || false) (first-acse right ids)
 
-  pub first-held : AreIdentifiers (proposals (base_at Initiator common)) → IsHeld (first_of common)
+  pub first-held : AreIdentifiers (proposals (base_at Initiator common)) → IsHeld (first_accepted common)
   first-held ids =
       record {
         listed = added-listed (proposals (base_at Initiator common)) (opening_policy (base_at Responder common) (proposals (base_at Initiator common))) [] ids tt;

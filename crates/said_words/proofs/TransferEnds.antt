@@ -71,7 +71,7 @@ use Rattle.said_words.specs.Calls.{IsCall}
 use Rattle.said_words.specs.Words.{rtse_pair, transfer_value, IsPart, the_connect, the_acceptance, the_finish, the_disconnect, IsReliableWord, IsUnit, IsMessage, AreMessages, IsMarkNumber}
 use Rattle.said_words.proofs.Answers.{answers-so}
 use Rattle.said_words.proofs.Alters.{alterable-so}
-use Rattle.said_words.proofs.First.{first_of}
+use Rattle.said_words.proofs.First.{first_accepted}
 use Rattle.said_words.proofs.TransferFirst.{acse-pair, rtse-pair, on-acse, on-rtse, never-refused}
 
 clash : (x : Bool) → x ≡ true → x ≡ false → ⊥
@@ -203,7 +203,7 @@ module _ (free : Free) (tables : Tables) (spellings : Spellings) (a b : Config) 
   base role = base_at role common
 
   abbrev first : List SetItem
-  first = first_of common
+  first = first_accepted common
 
   abbrev AreSaid : List Message → Type 0
   AreSaid messages = AreMessages (base Initiator) (base Responder) messages

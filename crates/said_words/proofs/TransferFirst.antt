@@ -26,7 +26,7 @@ use Rattle.reliable_model.specs.ReliableEnds.{reliable_common}
 use Rattle.reliable_model.proofs.Fixed.{AreIdentifiers}
 use Rattle.reliable_model.proofs.Contexts.{held-so}
 use Rattle.said_words.specs.Words.{rtse_pair}
-use Rattle.said_words.proofs.First.{first_of}
+use Rattle.said_words.proofs.First.{first_accepted}
 
 or-left : (a b : Bool) → (a || b) ≡ false → a ≡ false
 or-left true b h = cc
@@ -122,30 +122,30 @@ module _ (tables : Tables) (spellings : Spellings) (a b : Config) where
         later-so a.contexts ids.1.1 one (or-left (is_among 3 (proposed_ids a.contexts)) (has_double (proposed_ids a.contexts)) three) parities
 
     -- they stand first
-    begins : (rest : List SetItem) × (first_of common ≡ acse_item ∷ rtse_item ∷ rest)
+    begins : (rest : List SetItem) × (first_accepted common ≡ acse_item ∷ rtse_item ∷ rest)
     begins =
         let x = added-behind a.contexts (answers_to_additions (record (base_at Responder common) { mode = Reliable }) true 2 a.contexts) [] later in
         (x.0, held-so (base_at Responder common) a.contexts ∙ x.1)
 
-    pub acse-pair : pair_of (first_of common) 1 ≡ Some acse_pair
+    pub acse-pair : pair_of (first_accepted common) 1 ≡ Some acse_pair
     acse-pair = ap (λ (set : List SetItem). pair_of set 1) begins.1
 
-    pub rtse-pair : pair_of (first_of common) 3 ≡ Some rtse_pair
+    pub rtse-pair : pair_of (first_accepted common) 3 ≡ Some rtse_pair
     rtse-pair = ap (λ (set : List SetItem). pair_of set 3) begins.1
 
-    pub on-acse : acse_context (first_of common) ≡ 1
+    pub on-acse : acse_context (first_accepted common) ≡ 1
     on-acse = ap acse_context begins.1
 
-    pub on-rtse : rtse_context (first_of common) ≡ 3
+    pub on-rtse : rtse_context (first_accepted common) ≡ 3
     on-rtse = ap rtse_context begins.1
 
-    pub with-acse : has_acse (first_of common) ≡ true
+    pub with-acse : has_acse (first_accepted common) ≡ true
     with-acse = ap has_acse begins.1
 
-    pub with-rtse : has_rtse (first_of common) ≡ true
+    pub with-rtse : has_rtse (first_accepted common) ≡ true
     with-rtse = ap has_rtse begins.1
 
     pub never-refused : (body : Body) (recovers : Bool) → nat_eq a.window 0 ≡ false → has_association body (connection_data (base_at Initiator common) recovers) ≡ true →
         is_refused (base_at Responder common) body (session_connect (base_at Initiator common)) (presentation_connect (base_at Initiator common)) (connect_values (base_at Initiator common) recovers) ≡ false
     never-refused body recovers window known =
-        refused-none (has_acse (first_of common)) (has_rtse (first_of common)) (nat_eq a.window 0) (has_association body (connection_data (base_at Initiator common) recovers)) with-acse with-rtse window known
+        refused-none (has_acse (first_accepted common)) (has_rtse (first_accepted common)) (nat_eq a.window 0) (has_association body (connection_data (base_at Initiator common) recovers)) with-acse with-rtse window known

@@ -43,7 +43,7 @@ use Rattle.reliable_model.proofs.Words as words
 use Rattle.said_words.specs.Calls.{AreCalls}
 use Rattle.said_words.specs.Words.{rtse_pair, IsMessage, AreMessages}
 use Rattle.said_words.specs.Laws.{ReliableSaysWords}
-use Rattle.said_words.proofs.First.{first_of}
+use Rattle.said_words.proofs.First.{first_accepted}
 use Rattle.said_words.proofs.TransferEnds as ends
 use Rattle.said_words.proofs.TransferEnds.{IsYoung, IsStood, IsOver}
 
@@ -58,7 +58,7 @@ module _ (free : Free) (tables : Tables) (spellings : Spellings) (a b : Config) 
   base role = base_at role common
 
   abbrev first : List SetItem
-  first = first_of common
+  first = first_accepted common
 
   abbrev AreSaid : List Message → Type 0
   AreSaid messages = AreMessages (base Initiator) (base Responder) messages

@@ -61,7 +61,7 @@ use Rattle.said_words.specs.Laws.{DirectSaysWords}
 use Rattle.said_words.proofs.Lists.{AreListed, IsHeld, AreMarks, AreAsked, altered-listed, altered-few, policy-few, count-append, asked-append, few-identifiers, next-low, next-high, newest-held, below-marks, marks-more, listed-restored, listed-few}
 use Rattle.said_words.proofs.Answers.{answers-so}
 use Rattle.said_words.proofs.Heard.{IsRight, heard-right}
-use Rattle.said_words.proofs.First.{first_of, first-context, none-refused, first-held}
+use Rattle.said_words.proofs.First.{first_accepted, first-context, none-refused, first-held}
 use Rattle.said_words.proofs.Alters.{alterable}
 use Rattle.said_words.proofs.Handed.{data-said, invoke-said, answer-said, refuse-said, of-initiator, carrier-there}
 use Rattle.said_words.proofs.Sharing.{no-own, shared-in, kept-in, sets-there}
@@ -98,7 +98,7 @@ module _ (free : Free) (tables : Tables) (spellings : Spellings) (a b : Config) 
   base role = base_at role common
 
   abbrev first : List SetItem
-  first = first_of common
+  first = first_accepted common
 
   abbrev AreSaid : List Message → Type 0
   AreSaid messages = AreMessages (base Initiator) (base Responder) messages

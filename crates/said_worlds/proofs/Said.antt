@@ -38,7 +38,7 @@ use Rattle.said_spellings.specs.association_worlds.InTransit.{AreCarried}
 use Rattle.said_words.specs.Calls.{Speaks}
 use Rattle.said_words.specs.Laws.{ProposesContexts}
 use Rattle.said_words.specs.Words.{IsWord, AreMessages, IsOfAssociation, the_connect, the_acceptance}
-use Rattle.said_words.proofs.First.{first_of, first-pair, first-acse, first-context}
+use Rattle.said_words.proofs.First.{first_accepted, first-pair, first-acse, first-context}
 use Rattle.said_words.proofs.Worlds.{direct-says}
 use Rattle.said_takings.specs.Laws.{IsTaken}
 use Rattle.said_takings.proofs.Takings.{direct-takes_rightly, word-in_place}
@@ -120,12 +120,12 @@ module _ (reads : Readings) (tables : Tables) (transfers : Transfers) (a b : Con
   accept-meant Responder body start h = cc
   accept-meant Initiator body start h =
       let fit : fit_proposals (proposals (base Initiator)) (opening_policy (base Responder) (proposals (base Initiator))) ≡ true = additions-answered (base Responder) true 0 (proposals (base Initiator)) in
-      let k : acse_context (first_of common) ≡ 1 = first-context tables common.spellings a b right ids in
+      let k : acse_context (first_accepted common) ≡ 1 = first-context tables common.spellings a b right ids in
       reads.associations.accept (base Initiator) body start _ _ _ refl
-      (both _ true (both _ (has_acse (first_of common)) fit (first-acse tables common.spellings a b right ids)) refl)
+      (both _ true (both _ (has_acse (first_accepted common)) fit (first-acse tables common.spellings a b right ids)) refl)
       (record {
-        one = record { id = acse_context (first_of common); apdu = acse.AssociateResponse (2 ∷ 999 ∷ 5 ∷ 3 ∷ []) 0 (User (pos 0)) []; user = []; is_one = refl; alone = refl; of_kind = refl; writable = accepting-writable; informed = tt };
-        on_it = ap (pair_of (first_of common)) k ∙ first-pair tables common.spellings a b right ids;
+        one = record { id = acse_context (first_accepted common); apdu = acse.AssociateResponse (2 ∷ 999 ∷ 5 ∷ 3 ∷ []) 0 (User (pos 0)) []; user = []; is_one = refl; alone = refl; of_kind = refl; writable = accepting-writable; informed = tt };
+        on_it = ap (pair_of (first_accepted common)) k ∙ first-pair tables common.spellings a b right ids;
       })
       (acceptance-in tables common.spellings a b right ids e.of_a e.of_b).writable
 

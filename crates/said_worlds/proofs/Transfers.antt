@@ -36,7 +36,7 @@ use Rattle.transfer_laws.proofs.Premises.{has-free, fit}
 use Rattle.said_spellings.specs.association_worlds.InTransit.{AreCarried}
 use Rattle.said_words.specs.Calls.{Speaks}
 use Rattle.said_words.specs.Words.{rtse_pair, transfer_value, IsReliableWord, IsPart, IsPlea, IsOfAssociation, AreMessages, the_connect, the_acceptance}
-use Rattle.said_words.proofs.First.{first_of}
+use Rattle.said_words.proofs.First.{first_accepted}
 use Rattle.said_words.proofs.TransferFirst.{acse-pair, rtse-pair, on-acse, on-rtse, with-acse, with-rtse}
 use Rattle.said_words.proofs.TransferWorlds.{reliable-says}
 use Rattle.said_takings.specs.Laws.{IsTakenInTransfer}
@@ -135,25 +135,25 @@ module _ (reads : Readings) (tables : Tables) (a b : Config) (e : AreEndsIn Reli
   accept-meant Initiator body start recovers h =
       let p = (fit tables a b e.module_s of_a of_b).proposes in
       let fits : fit_proposals (proposals (base Initiator)) (opening_policy (base Responder) (proposals (base Initiator))) ≡ true = additions-answered (base Responder) true 0 (proposals (base Initiator)) in
-      let k : acse_context (first_of common) ≡ 1 = on-acse tables common.spellings a b p ids in
-      let on : is_on_rtse (first_of common) (rtse_context (first_of common)) ≡ true =
-      ap (λ (j : ℕ). has_abstract rtse_name (pair_of (first_of common) j)) (on-rtse tables common.spellings a b p ids) ∙ ap (has_abstract rtse_name) (rtse-pair tables common.spellings a b p ids) in
+      let k : acse_context (first_accepted common) ≡ 1 = on-acse tables common.spellings a b p ids in
+      let on : is_on_rtse (first_accepted common) (rtse_context (first_accepted common)) ≡ true =
+      ap (λ (j : ℕ). has_abstract rtse_name (pair_of (first_accepted common) j)) (on-rtse tables common.spellings a b p ids) ∙ ap (has_abstract rtse_name) (rtse-pair tables common.spellings a b p ids) in
       reads.associations.accept (base Initiator) body start _ _ _ refl
-      (both (fit_proposals (proposals (base Initiator)) (opening_policy (base Responder) (proposals (base Initiator))) && has_acse (first_of common)) (has_rtse (first_of common))
-      (both (fit_proposals (proposals (base Initiator)) (opening_policy (base Responder) (proposals (base Initiator)))) (has_acse (first_of common)) fits (with-acse tables common.spellings a b p ids)) (with-rtse tables common.spellings a b p ids))
+      (both (fit_proposals (proposals (base Initiator)) (opening_policy (base Responder) (proposals (base Initiator))) && has_acse (first_accepted common)) (has_rtse (first_accepted common))
+      (both (fit_proposals (proposals (base Initiator)) (opening_policy (base Responder) (proposals (base Initiator)))) (has_acse (first_accepted common)) fits (with-acse tables common.spellings a b p ids)) (with-rtse tables common.spellings a b p ids))
       (record {
         one =
             record {
-              id = acse_context (first_of common);
+              id = acse_context (first_accepted common);
               apdu = acse.AssociateResponse reliable_context 0 (User (pos 0)) [];
-              user = Transferring (rtse_context (first_of common)) (rtse.OpenAccept (agreed_checkpoint b.checkpoint a.checkpoint) (min b.window a.window) (answering_data (base Responder) (connection_data (base Initiator) recovers))) ∷ [];
+              user = Transferring (rtse_context (first_accepted common)) (rtse.OpenAccept (agreed_checkpoint b.checkpoint a.checkpoint) (min b.window a.window) (answering_data (base Responder) (connection_data (base Initiator) recovers))) ∷ [];
               is_one = refl;
               alone = refl;
               of_kind = refl;
               writable = (accepting-so tables common.spellings a b p ids e.of_a e.of_b recovers).writable;
               informed = (on, (response-so tables common.spellings a b p ids e.of_a e.of_b recovers).writable, tt);
             };
-        on_it = ap (pair_of (first_of common)) k ∙ acse-pair tables common.spellings a b p ids;
+        on_it = ap (pair_of (first_accepted common)) k ∙ acse-pair tables common.spellings a b p ids;
       })
       (acceptance-in tables common.spellings a b p ids e.of_a e.of_b recovers).writable
 

@@ -11,7 +11,7 @@ use Rattle.spdu_codec.specs.Tables.{row_of, first_units, second_units, parameter
 use Rattle.spdu_codec.specs.Words.{has_information, leads}
 use Rattle.spdu_codec.specs.Reading.{front, value_at, is_first}
 use Rattle.spdu_codec.specs.Wire.{IsLength, AreParameters, IsUnit, IsLast, IsFront, AreUnits}
-use Rattle.spdu_codec.specs.Places.{place, placed, user_among, UserAmong, UserIn, UserOfLast, ArePlaced, head, head_at, user_in, user_of_last, last_of, places, places_of, user_places}
+use Rattle.spdu_codec.specs.Places.{place, placed, user_among, UserAmong, UserIn, UserOfLast, ArePlaced, head, head_at, user_in, user_of_last, place_in_second, places, places_of, user_places}
 use Rattle.spdu_codec.proofs.PlaceLoop.{among, goes_on}
 use Rattle.spdu_codec.proofs.WireLaws.{value_again, not_first, last_some}
 
@@ -114,7 +114,7 @@ unfolding user_places
 places_of_two xs front rest first second f l e =
     let end = length xs in
     ap (places_of end) (ap (head_at first_units end) e ∙ head_of_is first_units end f.kind f.found front rest f.is)
-    ∙ rw (follows f.kind rest f.leading (last_some second rest l)) (ap (λ h. places (user_in end (head f.kind f.is.value rest)) (last_of end h)) (head_of_last second_units end second rest l))
+    ∙ rw (follows f.kind rest f.leading (last_some second rest l)) (ap (λ h. places (user_in end (head f.kind f.is.value rest)) (place_in_second end h)) (head_of_last second_units end second rest l))
 
 pub all_placed : (xs : List ℕ) (ws : List SessionWord) → AreUnits ws xs → ArePlaced ws xs (user_places xs)
 all_placed xs [] a = absurd a

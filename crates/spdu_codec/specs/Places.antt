@@ -135,9 +135,9 @@ user_in end u = user_among (parameters_of u.kind) (length u.value) (front end u.
 abbrev pub user_of_last : ℕ → UnitHead → Option ℕ
 user_of_last end u = if has_information u.kind then place (front end u.behind) else user_in end u
 
-abbrev pub last_of : ℕ → Option UnitHead → Option ℕ
-last_of end None = None
-last_of end (Some u) = user_of_last end u
+abbrev pub place_in_second : ℕ → Option UnitHead → Option ℕ
+place_in_second end None = None
+place_in_second end (Some u) = user_of_last end u
 
 abbrev pub places : Option ℕ → Option ℕ → UserPlaces
 places first second = record { first = first; second = second }
@@ -145,7 +145,7 @@ places first second = record { first = first; second = second }
 abbrev pub places_of : ℕ → Option UnitHead → UserPlaces
 places_of end None = places None None
 places_of end (Some u) =
-    if is_first u.kind u.behind then places (user_in end u) (last_of end (head_at second_units end u.behind)) else places (user_of_last end u) None
+    if is_first u.kind u.behind then places (user_in end u) (place_in_second end (head_at second_units end u.behind)) else places (user_of_last end u) None
 
 unfoldable pub user_places : List ℕ → UserPlaces
 user_places octets = places_of (length octets) (head_at first_units (length octets) octets)

@@ -5,11 +5,11 @@ ghost use Rattle.std.specs.Option.{option_map, ForSome};
 ghost use Rattle.osi_base.specs.declared.session_word.SessionWord.{SessionWord};
 ghost use Rattle.osi_base.specs.Limits.{past_places};
 ghost use Rattle.spdu_codec.specs.Wire.{AreUnits};
-ghost use Rattle.spdu_codec.specs.Places.{behind_code, placed, user_among, head, head_at, user_in, user_of_last, last_of, user_places, ArePlaced, HoldUser};
+ghost use Rattle.spdu_codec.specs.Places.{behind_code, placed, user_among, head, head_at, user_in, user_of_last, place_in_second, user_places, ArePlaced, HoldUser};
 
 use crate::kind::{SpduKind, first_units, parameters_of, row_of, second_units};
 use crate::parameters::Slot;
-use crate::scan::{first_of, value_at};
+use crate::scan::{split_first, value_at};
 use crate::words::{has_information, leads};
 
 /// Where the user data of the first and of the second unit begin, counted from the transport
@@ -60,7 +60,7 @@ fn user_among(table: &[(u8, Slot)], end: usize, octets: &[u8]) -> Option<usize>
 {
     let mut at = None;
     let mut rest = octets;
-    while let Some((code, after)) = first_of(rest) {
+    while let Some((code, after)) = split_first(rest) {
         let Ok((value, more)) = value_at(end, after) else {
             return at;
         };
@@ -80,7 +80,7 @@ fn head_at<'a>(table: &[(u8, SpduKind)], end: usize, octets: &'a [u8]) -> Option
     ensures read { option_map (λ u. head u.kind u.value.now u.behind.now) result ≡ head_at table.now
         end octets.now }
 {
-    let (code, rest) = first_of(octets)?;
+    let (code, rest) = split_first(octets)?;
     let kind = row_of(code, table)?;
     let Ok((value, behind)) = value_at(end, rest) else {
         return None;
@@ -117,10 +117,10 @@ fn user_of_last(end: usize, unit: UnitHead<'_>) -> Option<usize>
     user_in(end, unit)
 }
 
-fn last_of(end: usize, unit: Option<UnitHead<'_>>) -> Option<usize>
+fn place_in_second(end: usize, unit: Option<UnitHead<'_>>) -> Option<usize>
     requires within { ForSome unit (λ u. length u.value.now + length u.behind.now ≤ end) }
     requires fits { end < past_places }
-    ensures { result ≡ last_of end (option_map (λ u. head u.kind u.value.now u.behind.now)
+    ensures { result ≡ place_in_second end (option_map (λ u. head u.kind u.value.now u.behind.now)
         unit.entry) }
 {
     user_of_last(end, unit?)
@@ -140,7 +140,7 @@ fn places_of(tsdu: &[u8]) -> UserPlaces
     if leads(unit.kind) && !unit.behind.is_empty() {
         return UserPlaces {
             first: user_in(end, unit),
-            second: last_of(end, head_at(second_units(), end, unit.behind)),
+            second: place_in_second(end, head_at(second_units(), end, unit.behind)),
         };
     }
     UserPlaces {

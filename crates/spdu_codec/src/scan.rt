@@ -43,7 +43,7 @@ pub(crate) fn value_at(end: usize, octets: &[u8]) -> Result<(&[u8], &[u8]), SFau
 }
 
 /// The first octet and those behind it.
-pub(crate) fn first_of(octets: &[u8]) -> Option<(u8, &[u8])>
+pub(crate) fn split_first(octets: &[u8]) -> Option<(u8, &[u8])>
     ensures { MatchOption result (octets.now ≡ []) (λ x. octets.now ≡ x.0 ∷ x.1.now) }
 {
     match octets {
@@ -96,7 +96,7 @@ fn items_at(
 {
     let mut p = p;
     let mut rest = octets;
-    while let Some((code, after)) = first_of(rest) {
+    while let Some((code, after)) = split_first(rest) {
         let slot = checked_free(end - rest.len(), row_of(code, table), &p)?;
         let (value, more) = value_at(end, after)?;
         p = item_taken(alloc, end - more.len(), slot, value, p)?;
@@ -151,7 +151,7 @@ pub(crate) fn parameters_at(
     let table = parameters_of(kind);
     let mut p = none_yet();
     let mut rest = octets;
-    while let Some((code, after)) = first_of(rest) {
+    while let Some((code, after)) = split_first(rest) {
         let slot = checked_free(end - rest.len(), row_of(code, table), &p)?;
         let (value, more) = value_at(end, after)?;
         p = parameter_taken(alloc, end - more.len(), slot, value, p)?;

@@ -8,13 +8,14 @@ use Rattle.std.specs.declared.cmp.Ordering.TheVariants.{Less, Equal, Greater}
 use Rattle.std.specs.Cmp.Lexicographic.{slice_cmp, pointwise, texts_ties}
 use Rattle.std.specs.BTreeMap.{insert_entry}
 use Rattle.std.specs.List.{position_from}
+use Rattle.std.specs.Option.{option_or}
 use Rattle.std.proofs.lemmas.Map.Lookups.{exact_bytes}
 use Rattle.std.proofs.lemmas.Bool.{eq-eqb}
 use Rattle.stub_tables.specs.declared.operation.Code.{Code}
 use Rattle.stub_tables.specs.declared.operation.Code.TheVariants.{Local, Global}
 use Rattle.stub_tables.specs.declared.code_places.CodePlaces.{CodePlaces}
 use Rattle.stub_tables.specs.Codes.{same_code, place_with}
-use Rattle.stub_tables.specs.Places.{local_place, global_place, place_in, first_of, ArePlaces}
+use Rattle.stub_tables.specs.Places.{local_place, global_place, place_in, ArePlaces}
 
 abbrev cmp : Vec ℕ → Vec ℕ → Ordering
 cmp a b = slice_cmp nat_cmp a.items b.items
@@ -86,13 +87,13 @@ module _ (k : Vec ℕ) (v : ℕ) (q : List ℕ) where
 pub put_arcs : (es : List (Vec ℕ × ℕ)) (k : Vec ℕ) (arcs : List ℕ) (v : ℕ) (q : List ℕ) → k.items ≡ arcs → global_place (insert_entry cmp es k v) q ≡ cond (pointwise nat_eq arcs q) (Some v) (global_place es q)
 put_arcs es k arcs v q e = put_entry k v q es ∙ ap (λ (b : Bool). cond b (Some v) (global_place es q)) (turned q k.items ∙ ap (λ (z : List ℕ). pointwise nat_eq z q) e)
 
-first_put : (b : Bool) (old new : Option ℕ) (place : ℕ) → new ≡ cond b (Some place) old → (b ≡ true → old ≡ None) → new ≡ first_of old (cond b (Some place) None)
+first_put : (b : Bool) (old new : Option ℕ) (place : ℕ) → new ≡ cond b (Some place) old → (b ≡ true → old ≡ None) → new ≡ option_or old (cond b (Some place) None)
 first_put true None new place e n = e
 first_put true (Some x) new place e n = let z : Some x ≡ None = n refl in absurd cc
 first_put false None new place e n = e
 first_put false (Some x) new place e n = e
 
-pub put_global_code : (old new : CodePlaces) (arcs : List ℕ) (place : ℕ) → new.locals.entries ≡ old.locals.entries → ((q : List ℕ) → global_place new.globals.entries q ≡ cond (pointwise nat_eq arcs q) (Some place) (global_place old.globals.entries q)) → place_in old (Global arcs) ≡ None → (q : Code) → place_in new q ≡ first_of (place_in old q) (cond (same_code (Global arcs) q) (Some place) None)
+pub put_global_code : (old new : CodePlaces) (arcs : List ℕ) (place : ℕ) → new.locals.entries ≡ old.locals.entries → ((q : List ℕ) → global_place new.globals.entries q ≡ cond (pointwise nat_eq arcs q) (Some place) (global_place old.globals.entries q)) → place_in old (Global arcs) ≡ None → (q : Code) → place_in new q ≡ option_or (place_in old q) (cond (same_code (Global arcs) q) (Some place) None)
 put_global_code old new arcs place l g n (Local number) = first_put false _ _ place (ap (λ es. local_place es number) l) (λ e. absurd cc)
 put_global_code old new arcs place l g n (Global q) =
     first_put (pointwise nat_eq arcs q) _ _ place (g q) (λ e. subst (λ (z : List ℕ). place_in old (Global z) ≡ None) (arcs_are arcs q e) n)
@@ -101,35 +102,35 @@ none_there : (o : Option ℕ) → false ≡ is_some o → o ≡ None
 none_there None e = refl
 none_there (Some x) e = absurd cc
 
-pub put_global_ok : {T E : Type 0} (r : Result T E) (old new : CodePlaces) (code : Code) (oid arcs : List ℕ) (place : ℕ) (found : Option ℕ) → code ≡ Global oid → arcs ≡ oid → new.locals.entries ≡ old.locals.entries → found ≡ place_in old code → false ≡ is_some found → OnOk r ((q : List ℕ) → global_place new.globals.entries q ≡ cond (pointwise nat_eq arcs q) (Some place) (global_place old.globals.entries q)) → OnOk r ((q : Code) → place_in new q ≡ first_of (place_in old q) (cond (same_code code q) (Some place) None))
+pub put_global_ok : {T E : Type 0} (r : Result T E) (old new : CodePlaces) (code : Code) (oid arcs : List ℕ) (place : ℕ) (found : Option ℕ) → code ≡ Global oid → arcs ≡ oid → new.locals.entries ≡ old.locals.entries → found ≡ place_in old code → false ≡ is_some found → OnOk r ((q : List ℕ) → global_place new.globals.entries q ≡ cond (pointwise nat_eq arcs q) (Some place) (global_place old.globals.entries q)) → OnOk r ((q : Code) → place_in new q ≡ option_or (place_in old q) (cond (same_code code q) (Some place) None))
 put_global_ok (Err x) old new code oid arcs place found c a l f n h = tt
 put_global_ok (Ok x) old new code oid arcs place found c a l f n h =
     let there : place_in old (Global arcs) ≡ None = ap (λ (z : List ℕ). place_in old (Global z)) a ∙ ap (place_in old) (sym c) ∙ sym f ∙ none_there found n in
     let is : Global arcs ≡ code = ap (λ (z : List ℕ). Global z) a ∙ sym c in
-    subst (λ (z : Code). (q : Code) → place_in new q ≡ first_of (place_in old q) (cond (same_code z q) (Some place) None)) is (put_global_code old new arcs place l h there)
+    subst (λ (z : Code). (q : Code) → place_in new q ≡ option_or (place_in old q) (cond (same_code z q) (Some place) None)) is (put_global_code old new arcs place l h there)
 
 -- ---- a row at the end
 
 module _ {X : Type 0} (code_of : X → Code) where
-  sought_behind : (code : Code) (n : ℕ) (xs : List X) (x : X) → position_from (λ y. same_code (code_of y) code) n (xs ++ x ∷ []) ≡ first_of (position_from (λ y. same_code (code_of y) code) n xs) (cond (same_code (code_of x) code) (Some (n + length xs)) None)
+  sought_behind : (code : Code) (n : ℕ) (xs : List X) (x : X) → position_from (λ y. same_code (code_of y) code) n (xs ++ x ∷ []) ≡ option_or (position_from (λ y. same_code (code_of y) code) n xs) (cond (same_code (code_of x) code) (Some (n + length xs)) None)
   sought_behind code n [] x = ap (λ m. cond (same_code (code_of x) code) (Some m) None) (omega arith)
   sought_behind code n (y ∷ ys) x = by_test (same_code (code_of y) code) (sought_behind code (n + 1) ys x)
     where
       later : Option ℕ
       later = position_from (λ y. same_code (code_of y) code) (n + 1) ys
 
-      by_test : (b : Bool) → position_from (λ y. same_code (code_of y) code) (n + 1) (ys ++ x ∷ []) ≡ first_of (position_from (λ y. same_code (code_of y) code) (n + 1) ys) (cond (same_code (code_of x) code) (Some (n + 1 + length ys)) None) → cond b (Some n) (position_from (λ y. same_code (code_of y) code) (n + 1) (ys ++ x ∷ [])) ≡ first_of (cond b (Some n) (position_from (λ y. same_code (code_of y) code) (n + 1) ys)) (cond (same_code (code_of x) code) (Some (n + suc (length ys))) None)
+      by_test : (b : Bool) → position_from (λ y. same_code (code_of y) code) (n + 1) (ys ++ x ∷ []) ≡ option_or (position_from (λ y. same_code (code_of y) code) (n + 1) ys) (cond (same_code (code_of x) code) (Some (n + 1 + length ys)) None) → cond b (Some n) (position_from (λ y. same_code (code_of y) code) (n + 1) (ys ++ x ∷ [])) ≡ option_or (cond b (Some n) (position_from (λ y. same_code (code_of y) code) (n + 1) ys)) (cond (same_code (code_of x) code) (Some (n + suc (length ys))) None)
       by_test true more = refl
-      by_test false more = more ∙ ap (λ m. first_of (position_from (λ y. same_code (code_of y) code) (n + 1) ys) (cond (same_code (code_of x) code) (Some m) None)) (omega arith)
+      by_test false more = more ∙ ap (λ m. option_or (position_from (λ y. same_code (code_of y) code) (n + 1) ys) (cond (same_code (code_of x) code) (Some m) None)) (omega arith)
 
-  push_place : (xs : List X) (x : X) (old new : CodePlaces) → ArePlaces code_of xs old → ((q : Code) → place_in new q ≡ first_of (place_in old q) (cond (same_code (code_of x) q) (Some (length xs)) None)) → ArePlaces code_of (xs ++ x ∷ []) new
+  push_place : (xs : List X) (x : X) (old new : CodePlaces) → ArePlaces code_of xs old → ((q : Code) → place_in new q ≡ option_or (place_in old q) (cond (same_code (code_of x) q) (Some (length xs)) None)) → ArePlaces code_of (xs ++ x ∷ []) new
   push_place xs x old new a f =
-      record { each = λ q. f q ∙ ap (λ o. first_of o (cond (same_code (code_of x) q) (Some (length xs)) None)) (a.each q) ∙ sym (sought_behind q 0 xs x ∙ ap (λ m. first_of (place_with code_of q xs) (cond (same_code (code_of x) q) (Some m) None)) (omega arith)) }
+      record { each = λ q. f q ∙ ap (λ o. option_or o (cond (same_code (code_of x) q) (Some (length xs)) None)) (a.each q) ∙ sym (sought_behind q 0 xs x ∙ ap (λ m. option_or (place_with code_of q xs) (cond (same_code (code_of x) q) (Some m) None)) (omega arith)) }
 
-  pub push_placed : (xs ys : List X) (x : X) (n : ℕ) (old new : CodePlaces) → ys ≡ xs ++ x ∷ [] → n ≡ length xs → ArePlaces code_of xs old → ((q : Code) → place_in new q ≡ first_of (place_in old q) (cond (same_code (code_of x) q) (Some n) None)) → ArePlaces code_of ys new
+  pub push_placed : (xs ys : List X) (x : X) (n : ℕ) (old new : CodePlaces) → ys ≡ xs ++ x ∷ [] → n ≡ length xs → ArePlaces code_of xs old → ((q : Code) → place_in new q ≡ option_or (place_in old q) (cond (same_code (code_of x) q) (Some n) None)) → ArePlaces code_of ys new
   push_placed xs ys x n old new e m a f =
       subst (λ (zs : List X). ArePlaces code_of zs new) (sym e)
-      (push_place xs x old new a (subst (λ (k : ℕ). (q : Code) → place_in new q ≡ first_of (place_in old q) (cond (same_code (code_of x) q) (Some k) None)) m f))
+      (push_place xs x old new a (subst (λ (k : ℕ). (q : Code) → place_in new q ≡ option_or (place_in old q) (cond (same_code (code_of x) q) (Some k) None)) m f))
 
   -- ---- where a place may be
 

@@ -4,6 +4,7 @@ use Rattle.std.specs.Ordering.{int_cmp, nat_cmp}
 use Rattle.std.specs.Cmp.Lexicographic.{slice_cmp}
 use Rattle.std.specs.Global.{Vec}
 use Rattle.std.specs.Map.{lookup}
+use Rattle.std.specs.Option.{option_or}
 use Rattle.std.specs.BTreeMap.{is_at}
 use Rattle.stub_tables.specs.declared.operation.Code.{Code}
 use Rattle.stub_tables.specs.declared.operation.Code.TheVariants.{Local, Global}
@@ -20,10 +21,6 @@ global_place entries arcs = lookup (is_at (λ (key : Vec ℕ). slice_cmp nat_cmp
 abbrev pub place_in : CodePlaces → Code → Option ℕ
 place_in places (Local number) = local_place places.locals.entries number
 place_in places (Global arcs) = global_place places.globals.entries arcs
-
-abbrev pub first_of : Option ℕ → Option ℕ → Option ℕ
-first_of None later = later
-first_of (Some place) later = Some place
 
 -- each code has the place of the first row with it
 pub record ArePlaces {X : Type 0} (code_of : X → Code) (rows : List X) (places : CodePlaces) : Type 0 where

@@ -5,8 +5,9 @@ ghost use Rattle.std.specs.Prelude.{ℤ};
 ghost use Rattle.std.specs.Ordering.{int_eq};
 ghost use Rattle.std.specs.Prelude.{nat_eq};
 ghost use Rattle.std.specs.Cmp.Lexicographic.{pointwise};
+ghost use Rattle.std.specs.Option.{option_or};
 ghost use Rattle.stub_tables.specs.Codes.{same_code};
-ghost use Rattle.stub_tables.specs.Places.{local_place, global_place, place_in, first_of};
+ghost use Rattle.stub_tables.specs.Places.{local_place, global_place, place_in};
 
 use crate::operation::Code;
 use osi_base::NoMemory;
@@ -76,7 +77,7 @@ impl CodePlaces {
 
     /// Gives a code its place, unless it has one. Want of memory changes nothing.
     pub(crate) fn put(&mut self, code: &Code, place: usize) -> Result<(), NoMemory>
-        ensures ok { OnOk result ((q : Code) → place_in self.new q ≡ first_of (place_in self.old q)
+        ensures ok { OnOk result ((q : Code) → place_in self.new q ≡ option_or (place_in self.old q)
             (if same_code code.now q then Some place else None)) }
         ensures err { OnErr result ((q : Code) → place_in self.new q ≡ place_in self.old q) }
     {

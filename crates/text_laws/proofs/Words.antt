@@ -42,8 +42,8 @@ no_brace : (c : ℕ) → is_sign c ≡ false → (c == 123) ≡ false
 no_brace c h = grind (arith, nat_tests)
 
 -- none of three tests holds
-last_of : {A : Type 0} (a b c : Bool) (x y z w : A) → a ≡ false → b ≡ false → c ≡ false → (if a then x else if b then y else if c then z else w) ≡ w
-last_of a b c x y z w e f g = rw (e, f, g) refl
+third_branch : {A : Type 0} (a b c : Bool) (x y z w : A) → a ≡ false → b ≡ false → c ≡ false → (if a then x else if b then y else if c then z else w) ≡ w
+third_branch a b c x y z w e f g = rw (e, f, g) refl
 
 -- a form that is a word
 pub word_read : (c : ℕ) (cs rest : List ℕ) (v : Value) → is_plain (c ∷ cs) ≡ true → may_follow rest ≡ true → word_form (c ∷ cs) ≡ Some v
@@ -52,5 +52,5 @@ word_read c cs rest v h e form =
     let s : is_sign c ≡ false = not_true (is_sign c) (both_true (not (is_sign c)) (is_plain cs) h).0 in
     let w : word (c ∷ (cs ++ rest)) ≡ c ∷ cs = word_is (c ∷ cs) rest h e in
     let b : behind_word (c ∷ (cs ++ rest)) ≡ rest = behind_is (c ∷ cs) rest h e in
-    last_of (c == 39) (c == 34) (c == 123) _ _ _ (found_before (behind_word (c ∷ (cs ++ rest))) (word_form (word (c ∷ (cs ++ rest))))) (no_quote c s) (no_double_quote c s) (no_brace c s)
+    third_branch (c == 39) (c == 34) (c == 123) _ _ _ (found_before (behind_word (c ∷ (cs ++ rest))) (word_form (word (c ∷ (cs ++ rest))))) (no_quote c s) (no_double_quote c s) (no_brace c s)
     ∙ (ap (λ r. found_before r (word_form (word (c ∷ (cs ++ rest))))) b ∙ ap (λ x. found_before rest (word_form x)) w ∙ ap (found_before rest) form)

@@ -12,7 +12,7 @@ use osi_base::{NoMemory, Octets, Side};
 use std::alloc::Global;
 use tpkt::{Packet, TFault, TReader};
 use trace_file::Recorded;
-use trace_units::{Said, Viewer, direction_word, fault_text, first_of};
+use trace_units::{Said, Viewer, direction_word, fault_text, split_first};
 use value_text::Text;
 
 /// What one end sent, as far as it was recorded. Behind a fault nothing more is said of it.
@@ -111,7 +111,7 @@ fn put_all(
         text.new) }
 {
     let mut rest = packets;
-    while let Some((packet, more)) = first_of(rest) {
+    while let Some((packet, more)) = split_first(rest) {
         if put_packet(viewer, from, packet, text)? {
             return Ok(true);
         }

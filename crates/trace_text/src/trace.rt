@@ -8,7 +8,7 @@ use osi_base::{NoMemory, Octets};
 use std::alloc::Global;
 use stub_tables::Tables;
 use trace_file::{Recorded, Recording};
-use trace_units::{Viewer, first_of};
+use trace_units::{Viewer, split_first};
 use value_text::Text;
 
 /// What a recorded dialogue says, with the names of a module: a line for each packet that isn't
@@ -25,7 +25,7 @@ pub fn trace_text(alloc: Global, tables: &Tables, recording: &Recording) -> Resu
     let mut directions = Directions::new(alloc);
     let mut text = Text::new(alloc);
     let mut rest = recording.as_slice();
-    while let Some((recorded, more)) = first_of(rest) {
+    while let Some((recorded, more)) = split_first(rest) {
         directions.show(&viewer, recorded, &mut text)?;
         rest = more;
     }

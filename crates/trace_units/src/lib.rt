@@ -10,4 +10,4 @@ mod units;
 pub use names::direction_word;
 pub use said_text::{Said, fault_text};
 pub use said_units::Viewer;
-pub use trace_values::first_of;
+pub use trace_values::split_first;

@@ -15,7 +15,7 @@ use presentation_pdus::{PpduFault, PpduPlace, PpduTable};
 use spdu_codec::{SFault, UserPlaces, read_spdus, user_places};
 use std::alloc::Global;
 use stub_tables::Tables;
-use trace_values::{first_of, put_pdvs};
+use trace_values::{split_first, put_pdvs};
 use value_text::Text;
 
 /// With what messages are read: the tables of a module, and those of the upper layers' units.
@@ -160,10 +160,10 @@ impl<'t> Viewer<'t> {
         requires { IsOneOrTwo words.now }
         ensures { IfOk result (WordsSaid self.now.tables.now words.now places) }
     {
-        let Some((first, rest)) = first_of(words) else {
+        let Some((first, rest)) = split_first(words) else {
             unreachable!()
         };
-        match first_of(rest) {
+        match split_first(rest) {
             None => self.one_said(first, places.first),
             Some((second, _)) => self.two_said(first, second, places),
         }

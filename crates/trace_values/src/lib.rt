@@ -6,4 +6,4 @@ mod content;
 mod head;
 mod values;
 
-pub use values::{first_of, put_pdvs};
+pub use values::{split_first, put_pdvs};

@@ -27,7 +27,7 @@ fn put_pdv(
 }
 
 /// The first item and those behind it; `None` where there is none.
-pub fn first_of<T>(items: &[T]) -> Option<(&T, &[T])>
+pub fn split_first<T>(items: &[T]) -> Option<(&T, &[T])>
     ensures { MatchOption result (items.entry.now ≡ []) (λ x. items.entry.now ≡ x.0.now ∷ x.1.now) }
 {
     match items {
@@ -53,7 +53,7 @@ pub fn put_pdvs(
     ensures { OnOk result (Puts (ArePdvsText tables.now pdvs.now) text.old text.new) }
 {
     let mut rest = pdvs;
-    while let Some((pdv, more)) = first_of(rest) {
+    while let Some((pdv, more)) = split_first(rest) {
         put_pdv(alloc, heads, tables, text, pdv)?;
         rest = more;
     }

@@ -1,6 +1,6 @@
 use Rattle.std.proofs.Common.{◌≡◌, ℕ, ◌+◌, ◌++◌, [], drop}
-use Rattle.context_sets.specs.Asking.{first_of, addition_refusal, deletion_refusal, are_bad}
+use Rattle.context_sets.specs.Asking.{first_refusal, addition_refusal, deletion_refusal, are_bad}
 use Rattle.context_sets.proofs.asking.deletions_refusal.Given as goal
 
 abbrev pub invariant-loop-id : goal.invariant-loop-id
-invariant-loop-id l = first_of (deletion_refusal l.ground.items.now l.ground.own.now l.ground.used.now) (drop l.id-index l.deleted) ≡ first_of (deletion_refusal l.ground.items.now l.ground.own.now l.ground.used.now) l.deleted
+invariant-loop-id l = first_refusal (deletion_refusal l.ground.items.now l.ground.own.now l.ground.used.now) (drop l.id-index l.deleted) ≡ first_refusal (deletion_refusal l.ground.items.now l.ground.own.now l.ground.used.now) l.deleted

@@ -10,15 +10,15 @@ use Rattle.association_end.proofs.end.End.take_front.Goals as goal
 
 pub invariant_of-self : goal.invariant_of-self
 invariant_of-self c =
-    sound_took (view_in c.self.inside) c.first_of.result (came_in c.first_of.new.intake) c.self.invariant
-    (ap (λ (e : EndView). passes_over e.end.body.link.phase) c.self.view_is ∙ c.requires.up) c.first_of.ensures.takes
+    sound_took (view_in c.self.inside) c.next_front.result (came_in c.next_front.new.intake) c.self.invariant
+    (ap (λ (e : EndView). passes_over e.end.body.link.phase) c.self.view_is ∙ c.requires.up) c.next_front.ensures.takes
 
 pub returns-clause-took : goal.returns-clause-took
 returns-clause-took c =
     let up = ap (λ (e : EndView). passes_over e.end.body.link.phase) c.self.view_is ∙ c.requires.up in
-    let new : EndView = with_came (came_in c.first_of.new.intake) (view_in c.self.inside) in
-    subst (λ (e : EndView). TookFirst e new c.first_of.result) c.self.view_is
-    (took_first (view_in c.self.inside) c.first_of.result (came_in c.first_of.new.intake) (up_some (view_in c.self.inside) c.self.invariant up) c.first_of.ensures.takes)
+    let new : EndView = with_came (came_in c.next_front.new.intake) (view_in c.self.inside) in
+    subst (λ (e : EndView). TookFirst e new c.next_front.result) c.self.view_is
+    (took_first (view_in c.self.inside) c.next_front.result (came_in c.next_front.new.intake) (up_some (view_in c.self.inside) c.self.invariant up) c.next_front.ensures.takes)
 
 pub returns-clause-messages : goal.returns-clause-messages
 returns-clause-messages c = subst (λ (e : EndView). HasMessages e.end.line.came) c.self.view_is c.self.invariant.messages
