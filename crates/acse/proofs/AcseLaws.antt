@@ -1,8 +1,8 @@
 -- APDUs of association control and their octets stand for each other.
-use Rattle.std.proofs.Common.{◌≡◌, ℕ, ◌+◌, ◌^◌, ◌≤◌, ◌<◌, Bool, true, false, ◌&&◌, List, [], ◌∷◌, length, Option, Some, None, Result, Ok, Err, refl, sym, ap, ◌∙◌, arith}
-use Rattle.std.specs.Prelude.{ℤ, pos, nat_lt, nat_le, map}
+use Rattle.std.proofs.Common.{◌≡◌, ℕ, ◌+◌, ◌^◌, ◌<◌, true, ◌&&◌, List, [], ◌∷◌, Some, None, Result, Ok, Err, refl, ap, ◌∙◌, arith}
+use Rattle.std.specs.Prelude.{pos, nat_lt, nat_le, map}
 use Rattle.std.specs.List.{list_all}
-use Rattle.std.proofs.lemmas.Bool.{and_parts, ltb-true, leb-true, lt-ltb, le-ltb}
+use Rattle.std.proofs.lemmas.Bool.{and_parts, ltb-true, leb-true, lt-ltb}
 use Rattle.osi_base.specs.declared.bit_string.BitString as strings
 use Rattle.osi_base.specs.declared.acse_word.External as externals
 use Rattle.osi_base.specs.declared.acse_word.Diagnostic as diagnostics
@@ -15,9 +15,6 @@ use Rattle.asn1_types.specs.Value.{Value, integer, bits, object_id}
 use Rattle.asn1_types.specs.ValueView.{values_of}
 use Rattle.asn1_types.specs.Whole.{is_whole}
 use Rattle.asn1_types.specs.Writing.{written}
-use Rattle.osi_base.specs.Octets.{AreOctets}
-use Rattle.ber_spelling.proofs.Wholes.{whole_is}
-use Rattle.ber_spelling.proofs.Written.{written_spelled}
 use Rattle.fixed_tables.specs.declared.pdu.PduFault as units
 use Rattle.fixed_tables.specs.Values.{natural_in, octet_of, values_list}
 use Rattle.fixed_tables.specs.declared.pdu.PduFault.TheVariants as unit
@@ -26,11 +23,10 @@ use Rattle.passed_fields.specs.AllOctets.{all_at}
 use Rattle.passed_fields.proofs.Fronts.{all_found, all_only, all_first}
 use Rattle.acse.specs.Rows.{acse_row, acse_rows}
 use Rattle.acse.specs.Words.{external_in, external_value, apdu_in, value_of}
-use Rattle.acse.specs.Plain.{SpellsPlain, of_value}
-use Rattle.acse.specs.Fields.{any_apdu_at, AnyApdu, acse_at, SpellsAcse}
-use Rattle.acse.specs.Written.{is_id, can_carry, are_bits, diagnostic_number, can_write, written_acse, IsWritable}
+use Rattle.acse.specs.Plain.{of_value}
+use Rattle.acse.specs.Fields.{any_apdu_at, AnyApdu}
+use Rattle.acse.specs.Written.{is_id, can_carry, can_write}
 use Rattle.acse.specs.Laws.{AcseIsSpelled, SpelledAcseIsRead, AcseFaultIsFirst}
-use Rattle.acse.proofs.Added.{acse_sound}
 use Rattle.acse.proofs.Shapes.{Whatever, any_apdu_found, any_apdu_only, any_apdu_grows, any_apdu_inside}
 
 -- what is read of a value

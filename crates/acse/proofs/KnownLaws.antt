@@ -1,5 +1,5 @@
 -- APDUs of known fields alone are values of the table, and the other way round.
-use Rattle.std.proofs.Common.{◌≡◌, ◌↔◌, ℕ, zero, suc, ◌<◌, Bool, true, false, List, [], ◌∷◌, Some, refl, sym, subst, arith}
+use Rattle.std.proofs.Common.{◌≡◌, ℕ, zero, suc, ◌<◌, Bool, true, false, List, [], refl, sym, subst, arith}
 use Rattle.std.specs.Prelude.{codes}
 use Rattle.osi_base.specs.declared.acse_word.Acse as apdus
 use Rattle.asn1_types.specs.declared.row.Class.{Class}
@@ -15,8 +15,7 @@ use Rattle.passed_fields.specs.Spelling.{FieldsAre}
 use Rattle.passed_fields.proofs.MoreTurns.{constructed_more}
 use Rattle.passed_fields.proofs.FieldParts.{IsHeld, AreHeld, row_held, fields_sequence}
 use Rattle.acse.specs.Rows.{acse_rows}
-use Rattle.acse.specs.Plain.{SpellsPlain}
-use Rattle.acse.specs.Known.{KnownOfNumber, KnownApdu, SpellsKnown}
+use Rattle.acse.specs.Known.{KnownOfNumber, KnownApdu}
 use Rattle.acse.specs.Fields.{request_fields, response_fields, release_fields, abort_fields, apdu_tag, FieldsSpelled}
 use Rattle.acse.specs.Laws.{KnownArePlain}
 use Rattle.acse.proofs.Added.{acse_sound}

@@ -1,7 +1,7 @@
 -- Where no field is passed over, octets that spell a value of the table spell the APDU that it says, and what is written
 -- is so spelled.
-use Rattle.std.proofs.Common.{◌≡◌, ℕ, zero, suc, ◌+◌, ◌^◌, ◌<◌, true, false, List, [], ◌∷◌, Some, Ok, refl, sym, ap, ◌∙◌, subst, arith}
-use Rattle.std.specs.Prelude.{codes, slice_get}
+use Rattle.std.proofs.Common.{◌≡◌, ℕ, zero, suc, true, false, List, [], ◌∷◌, Some, refl, subst, arith}
+use Rattle.std.specs.Prelude.{codes}
 use Rattle.osi_base.specs.declared.acse_word.Acse as apdus
 use Rattle.asn1_types.specs.declared.row.Class.TheVariants.{Context}
 use Rattle.asn1_types.specs.declared.row.Part.{Part}
@@ -20,7 +20,7 @@ use Rattle.passed_fields.proofs.PlainFields.{AreParts, sequence_fields}
 use Rattle.acse.specs.Rows.{acse_row, acse_rows}
 use Rattle.acse.specs.Words.{value_of}
 use Rattle.acse.specs.Plain.{SpellsPlain}
-use Rattle.acse.specs.Fields.{request_fields, request_passed, response_fields, response_passed, release_fields, release_passed, abort_fields, abort_passed, apdu_tag, FieldsSpelled, OfNumber, AnyApdu, SpellsAcse}
+use Rattle.acse.specs.Fields.{request_fields, request_passed, response_fields, response_passed, release_fields, release_passed, abort_fields, abort_passed, apdu_tag, FieldsSpelled, OfNumber, AnyApdu}
 use Rattle.acse.specs.Written.{written_acse}
 use Rattle.acse.specs.Laws.{PlainIsSpelled, WrittenAcseIsRead}
 use Rattle.acse.proofs.Added.{acse_sound}

@@ -1,7 +1,6 @@
 -- The fields of the five APDUs: their rows are in the table, their tags are apart, and they are read as they are spelled.
-use Rattle.std.proofs.Common.{◌≡◌, ℕ, zero, suc, ◌+◌, ◌<◌, Bool, true, false, cond, List, [], ◌∷◌, length, Ok, Err, refl, sym, ap, ◌∙◌, subst, arith, inl, inr}
+use Rattle.std.proofs.Common.{◌≡◌, ℕ, zero, suc, ◌+◌, Bool, true, List, length, Ok, Err, refl, sym, ◌∙◌, subst, arith, inl, inr}
 use Rattle.std.specs.Prelude.{nat_eq}
-use Rattle.std.proofs.lemmas.Bool.{eqb-true, ne_eqb}
 use Rattle.osi_base.specs.declared.layer_words.Kind.TheVariants.{Tag}
 use Rattle.asn1_types.specs.declared.row.Class.{Class}
 use Rattle.asn1_types.specs.declared.row.Class.TheVariants.{Application}
@@ -10,12 +9,10 @@ use Rattle.asn1_types.specs.Rows.{same_class}
 use Rattle.asn1_types.specs.Value.{Value, chosen}
 use Rattle.ber_spelling.specs.declared.fault.ReadFault.TheVariants as faults
 use Rattle.ber_spelling.specs.declared.spot.Scope.{Scope}
-use Rattle.osi_base.specs.Octets.{AreOctets}
-use Rattle.ber_spelling.specs.Fields.{identifier_at}
-use Rattle.ber_spelling.specs.Reading.{Spot, Opened, Reading, ◌>>=◌}
+use Rattle.ber_spelling.specs.Reading.{Spot, Opened}
 use Rattle.ber_spelling.proofs.Identifiers.{IsIn, bind_ok, chosen_ok, ok_is, done}
-use Rattle.ber_spelling.proofs.Steady.{Run, ReadAs, Found, ReadBack, Only, OfTag, class_itself, same_classes}
-use Rattle.ber_spelling.proofs.Growing.{grown, grown_opened, Grows, Grows-bind, Grows-cond, with_spot}
+use Rattle.ber_spelling.proofs.Steady.{ReadAs, Found, ReadBack, Only}
+use Rattle.ber_spelling.proofs.Growing.{grown, grown_opened, Grows-bind, Grows-cond, with_spot}
 use Rattle.ber_spelling.proofs.Items.{GrowsRun}
 use Rattle.ber_spelling.proofs.Inside.{Inside-bind, Inside-cond, second}
 use Rattle.ber_spelling.proofs.InsideRules.{InsideRun}

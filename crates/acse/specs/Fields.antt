@@ -1,5 +1,5 @@
 -- The fields of the APDUs of association control (X.227 9): those that are known, and those that are passed over.
-use Rattle.std.specs.Prelude.{◌≡◌, ℕ, zero, suc, ◌≤◌, Bool, true, false, not, List, [], ◌∷◌, length, Result, Ok, nat_eq, if◌then◌else◌}
+use Rattle.std.specs.Prelude.{◌≡◌, ℕ, zero, suc, ◌≤◌, Bool, true, false, List, [], ◌∷◌, length, Result, Ok, nat_eq, if◌then◌else◌}
 use Rattle.osi_base.specs.declared.layer_words.Kind.TheVariants.{Tag}
 use Rattle.osi_base.specs.declared.acse_word.Acse as apdus
 use Rattle.osi_base.specs.Limits.{most_levels, most_octets}

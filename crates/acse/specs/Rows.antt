@@ -1,5 +1,5 @@
 -- The APDUs of association control as rows of types (X.227 9), without the fields that are passed over.
-use Rattle.std.specs.Prelude.{◌≡◌, ℕ, ℤ, pos, negsuc, true, false, List, [], ◌∷◌, length, codes}
+use Rattle.std.specs.Prelude.{◌≡◌, ℕ, pos, negsuc, true, false, List, [], ◌∷◌, length, codes}
 use Rattle.osi_base.specs.Limits.{highest_context, most_signed}
 use Rattle.osi_base.specs.OctetPlaces.{HasPlaces}
 use Rattle.asn1_types.specs.declared.row.Class.TheVariants.{Universal, Application}

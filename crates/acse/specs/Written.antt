@@ -1,5 +1,5 @@
 -- What may be written of association control, and as what octets.
-use Rattle.std.specs.Prelude.{◌≡◌, ◌&&◌, ◌||◌, ℕ, Bool, true, List, Option, Some, None, length, ◌≤◌, nat_lt, nat_le}
+use Rattle.std.specs.Prelude.{◌≡◌, ◌&&◌, ℕ, Bool, true, List, Option, Some, None, length, ◌≤◌, nat_lt, nat_le}
 use Rattle.std.specs.List.{list_all}
 use Rattle.osi_base.specs.declared.bit_string.BitString as strings
 use Rattle.osi_base.specs.declared.acse_word.External as externals

@@ -1,5 +1,5 @@
 -- Heads have as many octets as are told of them.
-use Rattle.std.proofs.Common.{◌≡◌, ℕ, suc, ◌+◌, ◌^◌, ◌-◌, ◌≤◌, ◌<◌, ℤ, Bool, true, false, List, [], ◌∷◌, ◌++◌, length, Option, Some, None, refl, sym, ap, ◌∙◌, ◌⊎◌, inl, inr, arith, length-append, slice_get}
+use Rattle.std.proofs.Common.{◌≡◌, ℕ, suc, ◌+◌, ◌^◌, ◌-◌, ◌≤◌, ◌<◌, ℤ, Bool, true, false, List, [], ◌∷◌, ◌++◌, length, Option, Some, None, refl, sym, ap, ◌∙◌, inl, inr, arith, length-append, slice_get}
 use Rattle.std.specs.Prelude.{is_some, codes, nat_lt, ◌||◌}
 use Rattle.std.proofs.lemmas.Bool.{cases_lt, lt-ltb, le-ltb}
 use Rattle.std.specs.Option.{option_map}
@@ -19,7 +19,7 @@ use Rattle.asn1_types.specs.declared.row.TypeRow.TheVariants as row
 use Rattle.asn1_types.specs.declared.table.TypeTable.{TypeTable}
 use Rattle.asn1_types.specs.declared.value.Val.{Val}
 use Rattle.asn1_types.specs.Value.{Value, boolean, integer, null, object_id, parts, chosen, any, MaybeValues, no_parts, absent, present}
-use Rattle.asn1_types.specs.Writing.{Writer, saturated, base_128, integer_octets, subidentifiers, length_octets, definite, parts_contents, write_by, writes, written}
+use Rattle.asn1_types.specs.Writing.{Writer, saturated, base_128, integer_octets, subidentifiers, length_octets, parts_contents, write_by, writes, written}
 use Rattle.asn1_types.specs.FixedRows.{part}
 use Rattle.ber_spelling.proofs.WriteLaws.{writes_at}
 use Rattle.packed_codec.specs.Writing as packs
@@ -37,7 +37,7 @@ use Rattle.stub_tables.specs.declared.apdu.Returned.{Returned}
 use Rattle.stub_tables.specs.Apdus.{argument_of, result_of, parameter_of, operation_coded, error_coded}
 use Rattle.apdu_spelling.specs.Heads.{ReturnedOctets, invoke, result, error, reject, or_none, carried}
 use Rattle.apdu_spelling.specs.Rows.{any_row, linked_row, code_row, mark_row, returned_row, head_rows, apdu_row, packed_apdu_row, reject_parts, invoke_parts, returned_parts, result_parts, error_parts}
-use Rattle.apdu_spelling.specs.Values.{code_value, linked_part, rejected_value, kind_place, problem_value, any_part, returned_part, ber_value, mark_part, packed_value}
+use Rattle.apdu_spelling.specs.Values.{code_value, linked_part, rejected_value, kind_place, problem_value, any_part, ber_value, mark_part, packed_value}
 use Rattle.apdu_spelling.specs.Writing.{written_typed, written_carried, written_head, outcome_of, head_of, written_apdu}
 use Rattle.apdu_spelling.proofs.HeadsSound.{heads_sound}
 use Rattle.apdu_codec.specs.Lengths.{definite_size, held_size, marked_size, integer_size, object_id_size, code_size, linked_size, rejected_size, is_too_long_in, is_too_long}

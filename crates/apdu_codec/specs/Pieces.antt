@@ -1,5 +1,5 @@
 -- The pieces of a head, each where it is of its kind, and the heads that values are.
-use Rattle.std.specs.Prelude.{ℕ, zero, suc, ℤ, Bool, true, false, List, [], ◌∷◌, Option, Some, None}
+use Rattle.std.specs.Prelude.{ℕ, zero, suc, ℤ, true, false, List, [], ◌∷◌, Option, Some, None}
 use Rattle.std.specs.Option.{option_map}
 use Rattle.osi_base.specs.declared.layer_words.Problem.{Problem}
 use Rattle.osi_base.specs.declared.layer_words.ProblemKind.{ProblemKind}

@@ -9,7 +9,7 @@ use Rattle.end_rules.specs.Faults.{abort_of, shown_at_fault}
 use Rattle.end_rules.specs.Reacting as rules
 use Rattle.association_sends.specs.association_words.declared.words.Message.{Message}
 use Rattle.association_sends.specs.association_words.declared.faults.Fault.{Fault}
-use Rattle.association_sends.specs.association_words.Seen.{seen_message, seen_fault}
+use Rattle.association_sends.specs.association_words.Seen.{seen_message}
 use Rattle.association_answers.specs.declared.brought.Brought.{Brought}
 use Rattle.association_answers.specs.declared.brought.Reaction.{Reaction}
 use Rattle.association_answers.specs.declared.brought.Reaction.TheVariants.{Passes, Takes, Fails}

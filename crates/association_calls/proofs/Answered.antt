@@ -1,5 +1,5 @@
 -- An outcome may be sent as what its invocation called says.
-use Rattle.std.proofs.Common.{◌≡◌, ℕ, ℤ, Bool, true, false, not, Option, Some, None, Result, Ok, Err, refl, sym, ap, subst, ◌∙◌}
+use Rattle.std.proofs.Common.{◌≡◌, ℕ, ℤ, Bool, true, false, not, Option, Some, None, Result, Err, refl, sym, ap, subst, ◌∙◌}
 use Rattle.std.specs.Prelude.{if◌then◌else◌}
 use Rattle.asn1_types.specs.declared.value.Val.{Val}
 use Rattle.stub_tables.specs.declared.apdu.Apdu.{Apdu}
@@ -11,7 +11,7 @@ use Rattle.dialogue.specs.declared.call.CallRefusal.{CallRefusal}
 use Rattle.dialogue.specs.declared.call.CallRefusal.TheVariants as refusals
 use Rattle.end_rules.specs.Base.{Base}
 use Rattle.end_rules.specs.State.{Body, OpenCall, opened_with}
-use Rattle.end_rules.specs.Invoking.{Reply, is_stopped, operation_of, result_apdu, error_apdu, can_answer_open, can_answer, can_refuse_open, can_refuse, can_refuse_with}
+use Rattle.end_rules.specs.Invoking.{is_stopped, operation_of, result_apdu, error_apdu, can_answer_open, can_answer, can_refuse_open, can_refuse, can_refuse_with}
 use Rattle.end_rules.specs.Requesting.{result_for, error_for, operation_opened, result_in}
 use Rattle.association_state.specs.rose_roles.declared.invoked_with.InvokedWith.{InvokedWith}
 use Rattle.association_state.specs.open_invocations.Invocations.{called_in}

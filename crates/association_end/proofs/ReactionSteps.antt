@@ -19,7 +19,7 @@ use Rattle.association_line.specs.Reactions.{ReactionsAreSteps, IsTaken, IsFaile
 use Rattle.association_end.specs.View.{EndView, base}
 use Rattle.association_end.specs.Progress.{ReadOne, ReadAll, ReadOneOrAll, count_in, messages_left}
 use Rattle.association_end.specs.OneMessage as reacted
-use Rattle.association_end.specs.OneMessage.{ReactionDone, TookFirst, with_body, with_line, with_came, sending, size_of_front}
+use Rattle.association_end.specs.OneMessage.{ReactionDone, with_body, with_line, with_came, sending, size_of_front}
 use Rattle.association_end.specs.Sound.{IsMessage, AreMessages, HasMessages}
 use Rattle.association_end.proofs.Sent.{waiting_with, answered_all, aborted_all}
 

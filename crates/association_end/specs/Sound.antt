@@ -1,5 +1,5 @@
 -- What holds of every end. No public clause cites this module.
-use Rattle.std.specs.Prelude.{◌≡◌, ◌≤◌, List, [], ◌∷◌, Bool, true, false, Option, Some, None, IsSome}
+use Rattle.std.specs.Prelude.{◌≡◌, List, [], ◌∷◌, Bool, true, false, Option, Some, None, IsSome}
 use Rattle.osi_base.specs.Limits.{IsUnitSize}
 use Rattle.end_rules.specs.Base.{is_bare}
 use Rattle.end_rules.specs.State.{passes_over}

@@ -1,12 +1,12 @@
 -- Lists at their newest end, and what is left of them.
-use Rattle.std.proofs.Common.{◌≡◌, ℕ, zero, suc, ◌+◌, ◌-◌, ◌<◌, ◌≤◌, Bool, true, false, nat_eq, nat_lt, cond, List, [], ◌∷◌, ◌++◌, length, drop, Option, Some, None, refl, ap, sym, ◌∙◌, arith, add-one, length-append}
+use Rattle.std.proofs.Common.{◌≡◌, ℕ, zero, suc, ◌+◌, ◌<◌, Bool, true, false, nat_eq, nat_lt, List, [], ◌∷◌, ◌++◌, length, drop, Some, refl, ap, sym, ◌∙◌, arith, length-append}
 use Rattle.std.proofs.Common.{reverse, append-nil}
 use Rattle.std.proofs.lemmas.List.{reverse-append}
 use Rattle.association_pieces.specs.Pieces.{octets_in}
 use Rattle.std.specs.Prelude.{slice_get}
 use Rattle.osi_base.specs.declared.layer_words.SetItem.{SetItem}
-use Rattle.association_sets.specs.end_rules.Sets.{Saved, below, newest}
-use Rattle.association_sets.specs.end_rules.State.{Piece, Octets, Marked, joined, from_mark, highest}
+use Rattle.association_sets.specs.end_rules.Sets.{Saved, below}
+use Rattle.association_sets.specs.end_rules.State.{Piece, Octets, Marked, joined, from_mark}
 use Rattle.association_pieces.specs.NewestEnd.{top_of, rest, starts_below, starts_at, front_octets}
 
 pub first_got : {X : Type 0} (xs : List X) → slice_get xs 0 ≡ top_of xs

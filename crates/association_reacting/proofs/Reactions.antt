@@ -7,7 +7,7 @@ use Rattle.dialogue.specs.declared.indication.Indication.{Indication}
 use Rattle.end_rules.specs.Base as base
 use Rattle.end_rules.specs.Base.{Base, is_bare}
 use Rattle.end_rules.specs.Messages as meant
-use Rattle.end_rules.specs.Messages.{Word, OfAssociation, OfData, OfMarks, OfActivities, ActivityWord, Start, Resume, End, EndAck, Interrupt, InterruptAck, Discard, DiscardAck, Transport, Session, unit_of}
+use Rattle.end_rules.specs.Messages.{Word, ActivityWord, Start, Resume, End, EndAck, Interrupt, InterruptAck, Discard, DiscardAck, Transport, Session, unit_of}
 use Rattle.end_rules.specs.State.{Body, passes_over}
 use Rattle.end_rules.specs.Purging.{is_purged, is_transport_purged}
 use Rattle.end_rules.specs.InPlace.{is_in_place}

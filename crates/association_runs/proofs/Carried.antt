@@ -14,7 +14,7 @@ use Rattle.agreement.specs.Sets.{Role}
 use Rattle.agreement.specs.Sets.Role.{Initiator, Responder}
 use Rattle.end_model.specs.Sharing.{side_of}
 use Rattle.end_model.specs.BothEnds.{Common, base_at, Two, body_at, coming_to, both_broke}
-use Rattle.outcome_laws.specs.reliable_model.Ledgers.{Ledger, ReachedWithLedger}
+use Rattle.outcome_laws.specs.reliable_model.Ledgers.{Ledger}
 use Rattle.outcome_laws.specs.reliable_model.Ledgers as ledgers
 use Rattle.outcome_laws.specs.Exchanges.{Exchanges, on_exchange, loses}
 use Rattle.outcome_laws.specs.Exchanges as exchanges_
@@ -28,7 +28,7 @@ use Rattle.association_worlds.proofs.Kept.{way-moved}
 use Rattle.run_laws.specs.Passing.{PairedMessage, sendings, readings}
 use Rattle.association_line.specs.Line.{End, after, after_all}
 use Rattle.association_line.specs.Feeding.{Reads}
-use Rattle.association_runs.specs.Worlds.{end_at, stepping, Runs}
+use Rattle.association_runs.specs.Worlds.{stepping, Runs}
 use Rattle.association_runs.specs.Worlds as runs
 use Rattle.association_runs.specs.Laws.{AreEvents}
 use Rattle.association_runs.specs.Sides.{ends_for}

@@ -14,7 +14,7 @@ use Rattle.agreement.specs.Sets.{Role, other}
 use Rattle.agreement.specs.Sets.Role.{Initiator, Responder}
 use Rattle.end_model.specs.Sharing.{side_of}
 use Rattle.end_model.specs.BothEnds as both_ends
-use Rattle.end_model.specs.BothEnds.{Common, Two, coming_to}
+use Rattle.end_model.specs.BothEnds.{Common, Two}
 use Rattle.end_model.specs.Acting.{apdus_of}
 use Rattle.outcome_laws.specs.reliable_model.Ledgers.{Ledger}
 use Rattle.outcome_laws.specs.Exchanges.{Exchanges, EndExchange, exchange_of, on_exchange, calls_so, asked_by, gets, stays, takes_so, meets, loses}

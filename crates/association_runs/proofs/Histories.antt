@@ -5,7 +5,7 @@ use Rattle.osi_base.specs.declared.layer_words.Side.TheVariants.{A, B}
 use Rattle.end_model.specs.end_rules.Base.{Base}
 use Rattle.end_model.specs.end_rules.State.{Body}
 use Rattle.end_model.specs.end_rules.History.{Step, History, body_of, after_step}
-use Rattle.end_model.specs.end_rules.World.{World, Ends, base_at, body_at, history_of, Shared, shared_after, shared_at}
+use Rattle.end_model.specs.end_rules.World.{World, base_at, body_at, history_of, Shared, shared_after, shared_at}
 use Rattle.dialogue.specs.Sides.{other as other_side}
 use Rattle.agreement.specs.Sets.{Role, other}
 use Rattle.agreement.specs.Sets.Role.{Initiator, Responder}

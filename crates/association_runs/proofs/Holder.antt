@@ -17,7 +17,7 @@ use Rattle.agreement.specs.Sets.Role.{Initiator, Responder}
 use Rattle.end_model.specs.Requests.{after_called}
 use Rattle.end_model.specs.Sharing.{side_of}
 use Rattle.end_model.specs.BothEnds as both_ends
-use Rattle.end_model.specs.BothEnds.{Common, Two, coming_to, stepped, both_broke}
+use Rattle.end_model.specs.BothEnds.{Common, Two, coming_to, stepped}
 use Rattle.outcome_laws.specs.reliable_model.Ledgers.{Ledger, first_ledger, after_sending, after_own, after_taking, own_messages, ReachedWithLedger}
 use Rattle.outcome_laws.specs.reliable_model.Ledgers as ledgers
 use Rattle.outcome_laws.specs.Exchanges.{Exchanges}

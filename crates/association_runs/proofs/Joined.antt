@@ -23,9 +23,9 @@ use Rattle.end_model.specs.Requests.{after_called}
 use Rattle.end_model.specs.Sharing.{side_of, shared_all_sent, shared_all_answered}
 use Rattle.end_model.specs.Acting.{apdus_of}
 use Rattle.end_model.specs.BothEnds.{Common, base_at, Two, two_new, body_at, coming_to, stepped}
-use Rattle.outcome_laws.specs.reliable_model.Ledgers.{Ledger, first_ledger, after_sending, after_own, after_taking, own_messages, ReachedWithLedger}
+use Rattle.outcome_laws.specs.reliable_model.Ledgers.{Ledger, first_ledger, after_sending, after_own, own_messages}
 use Rattle.outcome_laws.specs.reliable_model.Ledgers as ledgers
-use Rattle.outcome_laws.specs.Exchanges.{Exchanges, exchange_of, on_exchange, calls_so, asked_by, gets, stays, takes_so, meets, loses, nothing_exchanged, ReachedWithExchanges}
+use Rattle.outcome_laws.specs.Exchanges.{Exchanges, on_exchange, calls_so, asked_by, gets, stays, nothing_exchanged, ReachedWithExchanges}
 use Rattle.outcome_laws.specs.Exchanges as exchanges_
 use Rattle.association_line.specs.association_wire.Written.{written}
 use Rattle.association_line.specs.association_reading.Front.{all_fronts}

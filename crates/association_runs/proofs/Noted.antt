@@ -1,5 +1,5 @@
 -- What an end is told of invocations and of outcomes is what the other end handed in, and what its own invocations allow.
-use Rattle.std.proofs.Common.{◌≡◌, refl, true, false, ◌∙◌, sym, ap, subst, ℕ, List, [], ◌∷◌, ◌++◌, map, inl, inr, ◌⊎◌}
+use Rattle.std.proofs.Common.{◌≡◌, refl, true, false, ◌∙◌, sym, ap, subst, ℕ, List, [], ◌∷◌, ◌++◌, map, inl, inr}
 use Rattle.std.specs.Prelude.{ℤ, Bool, not, ◌&&◌, Option, Some, None, is_some, if◌then◌else◌}
 use Rattle.asn1_types.specs.declared.value.Val.{Val}
 use Rattle.osi_base.specs.declared.layer_words.Answers.{Answers}
@@ -23,19 +23,19 @@ use Rattle.dialogue.specs.declared.indication.Indication.{Indication}
 use Rattle.dialogue.specs.declared.indication.Indication.TheVariants as indications
 use Rattle.end_model.specs.end_rules.Base.{Base, HeardHead, is_reliable}
 use Rattle.end_model.specs.end_rules.Sets.{Alteration}
-use Rattle.end_model.specs.end_rules.Messages.{ValueContent, Remote, DataValue, Message, Transport, Session, Word, OfAssociation, OfData, OfMarks, OfActivities, TransportUnit, ConnectionRequest, ConnectionConfirm, DisconnectRequest, TransportError}
+use Rattle.end_model.specs.end_rules.Messages.{ValueContent, Remote, DataValue, Message, Transport, Session, OfAssociation, OfData, OfMarks, OfActivities, TransportUnit, ConnectionRequest, ConnectionConfirm, DisconnectRequest, TransportError}
 use Rattle.end_model.specs.end_rules.Messages.{AssociationWord, Connect, Accept, Refuse, Finish, Disconnect, Abort, AbortAccept, Values, AlterContext, AlterContextAck}
 use Rattle.end_model.specs.end_rules.Messages.{MarkWord, Mark, MarkAck, Restart, RestartAck, Give, Please, GiveConfirm, GiveAck, ActivityWord, Start, Resume, End, EndAck, Interrupt, InterruptAck, Discard, DiscardAck}
 use Rattle.end_model.specs.end_rules.State.{Body, OpenCall, Calls, is_empty, is_broken, opened_with, close, post_order}
 use Rattle.end_model.specs.end_rules.Faults.{cut_of, cuts, losses}
 use Rattle.end_model.specs.end_rules.Writing.{is_recovering}
 use Rattle.end_model.specs.end_rules.Invoking.{carrier_in}
-use Rattle.end_model.specs.end_rules.Hearing.{Rejecting, Heard, rejected, showing, unless_problem, first_problem, problem_if, is_right, invoke_problem, invoked, is_place, is_right_result, result_problem, hear_result_of, known_error_problem, error_problem, showing_error, hear_error_of, is_of_invocation, hear_reject, hear, carried_in, code_returned, value_returned, value_in, head_of_apdu, sent_on, queued, with_reject, take_head, head_of, take_values}
+use Rattle.end_model.specs.end_rules.Hearing.{Rejecting, Heard, rejected, showing, unless_problem, first_problem, problem_if, is_right, invoke_problem, invoked, is_place, result_problem, hear_result_of, known_error_problem, error_problem, showing_error, hear_error_of, is_of_invocation, hear_reject, hear, carried_in, code_returned, value_returned, value_in, head_of_apdu, sent_on, queued, with_reject, take_head, head_of, take_values}
 use Rattle.end_model.specs.end_rules.Connecting.{is_refused, recovers_in, shown_opening}
 use Rattle.end_model.specs.end_rules.TakesAssociation.{aborted_by_peer, shown_of_association}
 use Rattle.end_model.specs.end_rules.TakesTransport.{shown_of_transport}
-use Rattle.end_model.specs.end_rules.TakesData.{with_parts, values_taken, shown_settled, shown_of_data}
-use Rattle.end_model.specs.end_rules.TakesMarks.{mark_shown, shown_turn, priority_in, shown_plea, shown_please, shown_of_mark}
+use Rattle.end_model.specs.end_rules.TakesData.{with_parts, shown_settled}
+use Rattle.end_model.specs.end_rules.TakesMarks.{mark_shown, priority_in, shown_plea, shown_of_mark}
 use Rattle.end_model.specs.end_rules.TakesActivities.{invocation_in, shown_cut, received, handed_up, shown_of_activity}
 use Rattle.outcome_laws.specs.Exchanges.{Asked}
 use Rattle.outcome_laws.specs.Outcomes.{value_of}

@@ -15,9 +15,9 @@ use Rattle.spdu_codec.specs.Written.{stands_alone}
 use Rattle.agreement.specs.Sets.{Role, other}
 use Rattle.end_model.specs.Sharing.{side_of, shared_all_answered}
 use Rattle.end_model.specs.BothEnds.{Common, base_at, Two, body_at, coming_to, stepped}
-use Rattle.outcome_laws.specs.reliable_model.Ledgers.{Ledger, after_taking, ReachedWithLedger}
+use Rattle.outcome_laws.specs.reliable_model.Ledgers.{Ledger, after_taking}
 use Rattle.outcome_laws.specs.reliable_model.Ledgers as ledgers
-use Rattle.outcome_laws.specs.Exchanges.{Exchanges, on_exchange, gets, stays, takes_so, meets, ReachedWithExchanges}
+use Rattle.outcome_laws.specs.Exchanges.{Exchanges, on_exchange, gets, stays, takes_so, meets}
 use Rattle.outcome_laws.specs.Exchanges as exchanges_
 use Rattle.association_line.specs.association_wire.Units.{user_octets}
 use Rattle.association_line.specs.association_wire.Written.{with_user, tsdu_of}

@@ -1,10 +1,9 @@
 -- What a transcript tells one end of invocations and outcomes, where what it was shown is noted.
 use Rattle.std.proofs.Common.{◌≡◌, refl, true, false, ◌∙◌, sym, ap, subst, ℕ, List, [], ◌∷◌, ◌++◌, append_assoc}
-use Rattle.std.specs.Prelude.{◌≢◌, ℤ, Bool, ◌||◌, Option, Some, None, flat_map}
+use Rattle.std.specs.Prelude.{◌≢◌, ℤ, Option, Some, None, flat_map}
 use Rattle.std.specs.Ordering.{int_eq}
 use Rattle.std.specs.List.{list_any, AllByRecursion}
 use Rattle.std.proofs.lemmas.Bool.Decides.{Decides-int_eq}
-use Rattle.std.proofs.lemmas.List.{append-nil}
 use Rattle.asn1_types.specs.declared.value.Val.{Val}
 use Rattle.osi_base.specs.declared.layer_words.Side.{Side}
 use Rattle.end_model.specs.end_rules.Members.{IsIn}

@@ -1,6 +1,6 @@
 -- What a transcript tells of calls and of what was shown is what the moments have of it.
 use Rattle.std.proofs.Common.{◌≡◌, refl, ◌∙◌, sym, ap, subst, true, false, ℕ, List, [], ◌∷◌, ◌++◌, map, length, append_assoc, Ok, Err}
-use Rattle.std.specs.Prelude.{Bool, Option, if◌then◌else◌}
+use Rattle.std.specs.Prelude.{Bool, if◌then◌else◌}
 use Rattle.std.proofs.lemmas.List.{append-nil}
 use Rattle.osi_base.specs.declared.layer_words.Side.{Side}
 use Rattle.osi_base.specs.declared.layer_words.Side.TheVariants.{A, B}
@@ -23,7 +23,7 @@ use Rattle.end_model.specs.end_rules.World.{World, Ends, base_at, body_at, is_si
 use Rattle.run_laws.specs.Showing.{shown_at, behind_newest, showing_on, showings, shown_to, carries_to, EachCarryShows, indications_in, indications_at}
 use Rattle.run_laws.specs.Outcomes.{called_at, all_called}
 use Rattle.association_line.specs.Line.{End, after, after_all}
-use Rattle.association_line.specs.Feeding.{taking, failing, Reads, is_over, waits, passes, takes, fails, Feeds, OwnAfter, Makes}
+use Rattle.association_line.specs.Feeding.{taking, Reads, is_over, waits, passes, takes, fails, Feeds, OwnAfter, Makes}
 use Rattle.association_runs.specs.Worlds.{end_at, stepping, Runs}
 use Rattle.association_runs.specs.Worlds as runs
 

@@ -1,5 +1,5 @@
 -- Lengths that are cut off past the limit of a transfer.
-use Rattle.std.proofs.Common.{◌≡◌, ℕ, ◌+◌, min, nat_lt, List, ◌++◌, length, refl, ap, ◌∙◌, arith, length-append}
+use Rattle.std.proofs.Common.{◌≡◌, ℕ, ◌+◌, min, nat_lt, List, ◌++◌, length, ap, ◌∙◌, arith, length-append}
 use Rattle.std.proofs.lemmas.Bool.Decides.{nat_tests}
 
 cut : (a b : ℕ) → nat_lt 262400 (min a 262401 + min 262401 b) ≡ nat_lt 262400 (a + b)

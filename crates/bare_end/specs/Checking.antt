@@ -1,5 +1,5 @@
 -- What a call that may be made sends, and why one that may not is refused.
-use Rattle.std.specs.Prelude.{◌≡◌, ℕ, ◌<◌, ℤ, true, false, List, length, Option, Some, None, Ok, Err, if◌then◌else◌}
+use Rattle.std.specs.Prelude.{◌≡◌, ℕ, ◌<◌, ℤ, true, false, List, length, Option, Some, None, Ok, Err}
 use Rattle.osi_base.specs.declared.syntax.Syntax.TheVariants.{Ber}
 use Rattle.osi_base.specs.Limits.{last_invocation, most_open}
 use Rattle.stub_tables.specs.declared.apdu.Apdu.{Apdu}

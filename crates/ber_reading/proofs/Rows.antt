@@ -1,5 +1,5 @@
 -- What a row is read as goes by its rule.
-use Rattle.std.proofs.Common.{◌≡◌, ℕ, suc, Bool, true, false, cond, Ok, List, [], ◌∷◌, Option, Some, None, refl, ap}
+use Rattle.std.proofs.Common.{◌≡◌, ℕ, suc, Bool, true, false, cond, Ok, List, [], ◌∷◌, Option, Some, refl, ap}
 use Rattle.std.specs.Prelude.{slice_get}
 use Rattle.std.specs.List.{AllByRecursion}
 use Rattle.asn1_types.specs.declared.row.Class.{Class}

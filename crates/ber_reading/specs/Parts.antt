@@ -1,5 +1,5 @@
 -- Parts of a SEQUENCE (X.690 8.9), read from where the next one may stand, and not from what was seen to stand there.
-use Rattle.std.specs.Prelude.{ℕ, Bool, Option, Some, None, List, ◌++◌, Ok, if◌then◌else◌}
+use Rattle.std.specs.Prelude.{ℕ, Bool, Option, None, List, ◌++◌, Ok, if◌then◌else◌}
 use Rattle.osi_base.specs.declared.layer_words.Kind.TheVariants.{Missing}
 use Rattle.asn1_types.specs.declared.row.Class.{Class}
 use Rattle.asn1_types.specs.declared.row.Part.{Part}

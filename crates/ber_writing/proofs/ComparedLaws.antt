@@ -1,6 +1,6 @@
 -- How octets compare, in pieces of which neither begins the other: what is told of the first pieces that differ is told of all.
-use Rattle.std.proofs.Common.{◌≡◌, ◌≢◌, ℕ, zero, suc, ◌+◌, ◌-◌, ◌*◌, ◌<◌, ◌≤◌, ◌^◌, Bool, true, false, cond, ◌||◌, ◌&&◌, List, [], ◌∷◌, ◌++◌, length, get_or, take, drop, min, Option, Some, None, refl, sym, ap, ◌∙◌, subst, arith, append_assoc, length-append, ◌⊎◌, inl, inr}
-use Rattle.std.specs.Prelude.{nat_lt, nat_le, nat_eq, if◌then◌else◌}
+use Rattle.std.proofs.Common.{◌≡◌, ◌≢◌, ℕ, zero, suc, ◌+◌, ◌-◌, ◌*◌, ◌<◌, ◌≤◌, ◌^◌, Bool, true, false, ◌&&◌, List, [], ◌∷◌, ◌++◌, length, get_or, take, drop, min, Some, None, refl, sym, ap, ◌∙◌, subst, arith, append_assoc, length-append, ◌⊎◌, inl, inr}
+use Rattle.std.specs.Prelude.{if◌then◌else◌}
 use Rattle.std.specs.List.{flat_map}
 use Rattle.std.proofs.Math.Seq.{take-append_seam, take-length}
 use Rattle.std.proofs.lemmas.List.{length-drop}
@@ -15,7 +15,7 @@ use Rattle.asn1_types.specs.Tags.{leading}
 use Rattle.asn1_types.specs.Writing.{saturated, base_128, base_256, subidentifiers, identifier, length_octets, definite}
 use Rattle.asn1_types.specs.Rising.{is_less}
 use Rattle.asn1_types.specs.Whole.{number_256}
-use Rattle.ber_spelling.specs.Spelling.{AreDigits, IsBase128}
+use Rattle.ber_spelling.specs.Spelling.{AreDigits}
 use Rattle.ber_spelling.proofs.Digits.{base_128_is, base_256_number}
 use Rattle.ber_writing.specs.declared.pieces.Compared.{Compared}
 use Rattle.ber_writing.specs.Comparing.{compared, Decides, IsCompared, IsApart}

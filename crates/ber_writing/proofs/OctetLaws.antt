@@ -7,9 +7,9 @@ use Rattle.asn1_types.specs.declared.row.Part.{Part}
 use Rattle.asn1_types.specs.declared.row.Tag as tags
 use Rattle.asn1_types.specs.Tags.{ranks, front_rank}
 use Rattle.asn1_types.specs.Value.{Value, MaybeValues}
-use Rattle.asn1_types.specs.ValueView.{parts_of, values_of}
-use Rattle.asn1_types.specs.Writing.{identifier, length_octets, definite, Writer, of_rank, part_contents, parts_contents, values_contents, risen_parts, set_parts}
-use Rattle.ber_spelling.proofs.WriteLaws.{parts_before, values_before, risen_next}
+use Rattle.asn1_types.specs.ValueView.{parts_of}
+use Rattle.asn1_types.specs.Writing.{identifier, length_octets, definite, Writer, of_rank, part_contents, parts_contents, risen_parts, set_parts}
+use Rattle.ber_spelling.proofs.WriteLaws.{parts_before, risen_next}
 
 pub front_octet : (a b whole : List ℕ) (at : ℕ) → whole ≡ a ++ b → at < length a → get_or whole at 0 ≡ get_or a at 0
 front_octet a b whole at e lt = ap (λ (l : List ℕ). get_or l at 0) e ∙ get_or_append_left a b 0 at lt

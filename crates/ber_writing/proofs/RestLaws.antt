@@ -1,19 +1,18 @@
 -- What stands behind a place in the contents of two values, told from the last piece to the first.
-use Rattle.std.proofs.Common.{◌≡◌, ◌≢◌, ℕ, zero, suc, ◌+◌, ◌-◌, ◌<◌, ◌≤◌, ◌^◌, List, [], ◌∷◌, ◌++◌, length, get_or, drop, min, Option, Some, None, refl, sym, ap, ◌∙◌, subst, arith, append_assoc, length-append, ◌⊎◌, inl, inr}
+use Rattle.std.proofs.Common.{◌≡◌, ◌≢◌, ℕ, zero, suc, ◌+◌, ◌-◌, ◌<◌, ◌≤◌, List, [], ◌∷◌, ◌++◌, length, get_or, drop, min, Option, None, refl, sym, ap, ◌∙◌, subst, arith, append_assoc, length-append, ◌⊎◌, inl, inr}
 use Rattle.std.proofs.lemmas.Bool.{cases_lt}
 use Rattle.std.specs.declared.cmp.Ordering.{Ordering}
-use Rattle.std.specs.declared.cmp.Ordering.TheVariants.{Less, Equal, Greater}
+use Rattle.std.specs.declared.cmp.Ordering.TheVariants.{Equal}
 use Rattle.asn1_types.specs.declared.row.Part.{Part}
 use Rattle.asn1_types.specs.Value.{Value, MaybeValues}
 use Rattle.asn1_types.specs.ValueView.{parts_of, values_of}
-use Rattle.asn1_types.specs.Writing.{Writer, saturated, identifier, part_contents, parts_contents, values_contents, definite, of_rank, risen_parts}
+use Rattle.asn1_types.specs.Writing.{Writer, saturated, identifier, part_contents, parts_contents, values_contents, of_rank, risen_parts}
 use Rattle.ber_spelling.proofs.WriteLaws.{parts_before, values_before, risen_next}
 use Rattle.ber_writing.specs.declared.pieces.Compared.{Compared}
 use Rattle.ber_writing.specs.declared.pieces.Rest.{Rest}
 use Rattle.ber_writing.specs.declared.pieces.TheConstants.{END}
 use Rattle.ber_writing.specs.declared.head.Head.{Head}
-use Rattle.ber_writing.specs.declared.head.Lead.{Lead}
-use Rattle.ber_writing.specs.Comparing.{compared, Decides, IsCompared, IsApart, Leads, LeadsOr, IsRest}
+use Rattle.ber_writing.specs.Comparing.{compared, Decides, IsCompared, Leads, IsRest}
 use Rattle.ber_writing.proofs.ComparedLaws.{heads_decide, so_compared}
 
 -- ---- what octets begin with

@@ -1,16 +1,16 @@
 -- In a value with a short spelling each item of a SET OF has one, so that such a value has its form exactly where items are found
 -- to rise by short spellings.
 use Rattle.std.proofs.Common.{◌≡◌, ℕ, zero, suc, ◌+◌, ◌<◌, ◌≤◌, Bool, true, false, not, ◌&&◌, List, [], ◌∷◌, ◌++◌, length, Option, Some, None, refl, sym, ap, ◌∙◌, subst, arith, length-append}
-use Rattle.std.specs.Prelude.{slice_get, nat_le}
+use Rattle.std.specs.Prelude.{slice_get}
 use Rattle.std.specs.List.{AllByRecursion}
-use Rattle.std.proofs.lemmas.Bool.{le-leb, leb-true, and_parts}
+use Rattle.std.proofs.lemmas.Bool.{le-leb, leb-true}
 use Rattle.std.proofs.lemmas.Option.{slice_get_past}
 use Rattle.asn1_types.specs.declared.row.Class.TheVariants.{Universal}
 use Rattle.asn1_types.specs.declared.row.Part.{Part}
 use Rattle.asn1_types.specs.declared.row.TypeRow.{TypeRow}
 use Rattle.asn1_types.specs.declared.row.TypeRow.TheVariants as row
 use Rattle.asn1_types.specs.declared.row.Tag as tags
-use Rattle.asn1_types.specs.Rows.{along, of_row, names_of, rows_of_parts}
+use Rattle.asn1_types.specs.Rows.{along, names_of, rows_of_parts}
 use Rattle.asn1_types.specs.Defaults.{may_be_absent, is_default}
 use Rattle.asn1_types.specs.Table.{AreSoundRows}
 use Rattle.asn1_types.specs.Tags.{tag_or}
@@ -18,7 +18,7 @@ use Rattle.asn1_types.specs.Value.{Value, boolean, integer, null, octets, bits, 
 use Rattle.asn1_types.specs.Fits.{parts_fit, sequence_fits, values_fit, list_fits, alternative_fits, choice_fits, form_by, nothing_fits, has_form, is_short, fits}
 use Rattle.asn1_types.specs.PackedSize.{packed_size}
 use Rattle.asn1_types.specs.Rising.{follows, rise_behind, rise, set_rises}
-use Rattle.asn1_types.specs.Writing.{parts_contents, sequence_contents, set_parts, values_contents, list_contents, alternative_written, choice_written, definite, identifier, length_octets, under, tagged_written, write_by, writes, written}
+use Rattle.asn1_types.specs.Writing.{parts_contents, sequence_contents, set_parts, values_contents, list_contents, alternative_written, choice_written, definite, identifier, length_octets, under, write_by, writes, written}
 use Rattle.asn1_types.proofs.Along.{settled}
 use Rattle.asn1_types.proofs.Sound.{is_down}
 use Rattle.asn1_types.proofs.FitLaws.{form_cong, form_at, form_past}

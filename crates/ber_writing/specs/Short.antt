@@ -4,7 +4,7 @@ use Rattle.std.specs.Prelude.{ℕ, Bool, true, false, ◌&&◌, Option, Some, No
 use Rattle.asn1_types.specs.declared.row.TypeRow.{TypeRow}
 use Rattle.asn1_types.specs.declared.row.TypeRow.TheVariants as row
 use Rattle.asn1_types.specs.Rows.{along}
-use Rattle.asn1_types.specs.Value.{Value, boolean, integer, null, octets, bits, object_id, text, parts, list, chosen, any, Values, no_values, value}
+use Rattle.asn1_types.specs.Value.{Value, list, Values, no_values, value}
 use Rattle.asn1_types.specs.Fits.{list_fits, form_by, nothing_fits, is_short}
 use Rattle.asn1_types.specs.Rising.{is_less, follows}
 use Rattle.asn1_types.specs.Writing.{written}

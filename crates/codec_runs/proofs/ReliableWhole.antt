@@ -20,7 +20,7 @@ use Rattle.end_rules.specs.Reacting.{Takes, react}
 use Rattle.end_rules.specs.History.{Step, called, sent, encoded, took, answered, step_of}
 use Rattle.dialogue.specs.Sides.{other as other_side}
 use Rattle.end_rules.specs.World as sides
-use Rattle.end_rules.specs.World.{World, Moment, Ends, is_side, shared_at}
+use Rattle.end_rules.specs.World.{World, Ends, shared_at}
 use Rattle.agreement.specs.Sets.{Role}
 use Rattle.agreement.specs.Sets.Role.{Initiator, Responder}
 use Rattle.agreement.specs.Laws as model
@@ -29,7 +29,7 @@ use Rattle.end_model.specs.BothEnds as both_ends
 use Rattle.end_model.specs.BothEnds.{Common, Two, coming_to}
 use Rattle.end_model.specs.Sharing.{side_of}
 use Rattle.reliable_model.specs.Ledgers as ledgers
-use Rattle.reliable_model.specs.Ledgers.{Ledger, TransferLog, ReachedWithLedger, transfer_log_of, items_by, arrived_by}
+use Rattle.reliable_model.specs.Ledgers.{Ledger, TransferLog, ReachedWithLedger}
 use Rattle.reliable_model.specs.ReliableEnds.{reliable_common}
 use Rattle.reliable_model.proofs.Machine as machine
 use Rattle.outcome_laws.specs.Exchanges.{Exchanges}

@@ -1,12 +1,11 @@
 -- Two rising sets gone through side by side.
-use Rattle.std.proofs.Common.{◌≡◌, ℕ, zero, suc, ◌+◌, ◌<◌, ◌≤◌, Bool, true, false, not, ◌&&◌, nat_eq, nat_lt, if◌then◌else◌, List, [], ◌∷◌, ◌++◌, drop, length, Option, Some, None, refl, sym, ap, ◌∙◌, subst, arith, append_assoc, slice_index_or, eqb-true}
-use Rattle.std.proofs.lemmas.Bool.{eqb-false}
+use Rattle.std.proofs.Common.{◌≡◌, ℕ, zero, suc, ◌+◌, ◌<◌, ◌≤◌, Bool, true, false, not, ◌&&◌, nat_eq, nat_lt, if◌then◌else◌, [], ◌∷◌, ◌++◌, drop, length, Option, Some, refl, sym, ap, ◌∙◌, subst, arith, append_assoc, slice_index_or}
 use Rattle.std.proofs.lemmas.Bool.Decides.{nat_tests}
 use Rattle.osi_base.specs.declared.syntax.Pair.{Pair}
 use Rattle.osi_base.specs.declared.layer_words.SetItem.{SetItem}
 use Rattle.context_sets.specs.Sets.{ContextSet, IsRising, AllAbove}
 use Rattle.osi_base.specs.SetPlaces.{pair_of}
-use Rattle.context_sets.proofs.Order.{pair_of-above, pair_of-first, pair_of-later}
+use Rattle.context_sets.proofs.Order.{pair_of-above, pair_of-later}
 use Rattle.context_restore.specs.Versions.{same_pair, is_pair, has, missing}
 use Rattle.context_restore.specs.Chain.{from_id, begins_with}
 

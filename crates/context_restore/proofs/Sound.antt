@@ -5,7 +5,7 @@ use Rattle.slab.specs.Slab.{get, slab_len, Updates}
 use Rattle.context_sets.specs.Sets.{ContextSet, IsRising}
 use Rattle.context_restore.specs.declared.node.VersionNode.{VersionNode}
 use Rattle.context_restore.specs.Versions.{Version, root, version, applied, missing, ids, set_of, below}
-use Rattle.context_restore.specs.SavedSets.{Mark, marks_of}
+use Rattle.context_restore.specs.SavedSets.{marks_of}
 use Rattle.context_restore.specs.Chain.{Nodes, parent_of, version_of, back_of, set_back, keys_from, versions_at, version_at, versions, root_node, IsLinked, AreSame, LeadsBack, IsCut, IsSoundChain}
 use Rattle.context_restore.proofs.Changes.{applied-version, applied-root, rising-set_of}
 use Rattle.context_restore.proofs.Links.{linked_keys, vacant_apart, linked_more, versions_more, length-versions_at, below-versions_at, linked_same, versions_same, same_still, same_versions, same_all, same_back, back-drop}

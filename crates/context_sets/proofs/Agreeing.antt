@@ -1,5 +1,5 @@
 -- Two sets that agreed agree again.
-use Rattle.std.proofs.Common.{◌≡◌, ap, sym, ◌∙◌}
+use Rattle.std.proofs.Common.{ap, sym, ◌∙◌}
 use Rattle.context_sets.specs.Sets.{ContextSet}
 use Rattle.context_sets.specs.Alterations.{altered}
 use Rattle.context_sets.specs.HeldSets.{oldest}

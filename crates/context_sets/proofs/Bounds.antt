@@ -1,5 +1,5 @@
 -- Sets and own additions stay within their limits.
-use Rattle.std.proofs.Common.{◌≡◌, ℕ, ◌+◌, ◌<◌, ◌≤◌, Bool, true, false, not, ◌||◌, nat_eq, nat_lt, nat_le, if◌then◌else◌, List, [], ◌∷◌, ◌++◌, length, Option, Some, None, is_some, Result, Ok, Err, refl, sym, arith}
+use Rattle.std.proofs.Common.{◌≡◌, ℕ, ◌+◌, ◌<◌, ◌≤◌, Bool, true, false, ◌||◌, nat_eq, nat_le, if◌then◌else◌, List, [], ◌∷◌, ◌++◌, length, Option, Some, None, is_some, Result, Ok, Err, refl, arith}
 use Rattle.std.specs.Option.{option_or}
 use Rattle.std.proofs.lemmas.Bool.Decides.{nat_tests}
 use Rattle.osi_base.specs.declared.syntax.Syntax.{Syntax}
@@ -14,9 +14,9 @@ use Rattle.context_sets.specs.declared.rules.Rejection.{Rejection}
 use Rattle.context_sets.specs.Sets.{ContextSet}
 use Rattle.context_sets.specs.Syntaxes.{is_same}
 use Rattle.context_sets.specs.Alterations.{additions, accepted_as}
-use Rattle.context_sets.specs.Asking.{is_bad, first_refusal, addition_refusal, deletion_refusal, is_over, refusal}
+use Rattle.context_sets.specs.Asking.{is_bad, is_over, refusal}
 use Rattle.context_sets.specs.Policy.{is_service, chosen, within_limit, judged, add_answer, taken_after, added_answers}
-use Rattle.context_sets.specs.Results.{all_fit, mismatch, acceptances}
+use Rattle.context_sets.specs.Results.{mismatch, acceptances}
 
 pub additions-push : (own : List Alteration) (asked : Alteration) → additions (own ++ asked ∷ []) ≡ additions own + length asked.added
 additions-push [] asked = omega arith

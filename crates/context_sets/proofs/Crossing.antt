@@ -6,11 +6,11 @@ use Rattle.osi_base.specs.declared.layer_words.Proposal.{Proposal}
 use Rattle.osi_base.specs.declared.layer_words.AddAnswer.{AddAnswer}
 use Rattle.osi_base.specs.declared.layer_words.Answers.{Answers}
 use Rattle.context_sets.specs.declared.alteration.Alteration.{Alteration}
-use Rattle.context_sets.specs.Sets.{ContextSet, IsRising, put}
+use Rattle.context_sets.specs.Sets.{ContextSet, IsRising}
 use Rattle.osi_base.specs.SetPlaces.{without_context}
-use Rattle.context_sets.specs.Alterations.{accepted_as, with_syntax, with_additions, without, without_deletions, altered, identifiers, named_by, is_among}
+use Rattle.context_sets.specs.Alterations.{accepted_as, with_syntax, with_additions, without, without_deletions, altered, identifiers, is_among}
 use Rattle.context_sets.specs.Laws.{IsApartFrom, AreApart}
-use Rattle.context_sets.proofs.Rising.{rising-with_syntax, rising-with_additions, rising-without, rising-without_deletions}
+use Rattle.context_sets.proofs.Rising.{rising-with_syntax, rising-with_additions, rising-without}
 use Rattle.context_sets.proofs.Order.{put-put, put-remove, remove-remove}
 
 or-left : (a b : Bool) → (a || b) ≡ false → a ≡ false

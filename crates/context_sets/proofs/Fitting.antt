@@ -1,5 +1,5 @@
 -- What the policy answers fits what was asked.
-use Rattle.std.proofs.Common.{◌≡◌, ℕ, suc, Bool, true, false, not, ◌||◌, ◌&&◌, nat_eq, nat_le, if◌then◌else◌, List, [], ◌∷◌, length, map, Option, Some, None, is_some, Result, Ok, Err, refl, sym, subst, ap, ◌∙◌, ◌+◌, arith}
+use Rattle.std.proofs.Common.{◌≡◌, ℕ, suc, Bool, true, false, ◌||◌, ◌&&◌, nat_le, if◌then◌else◌, List, [], ◌∷◌, length, Option, Some, None, is_some, Ok, Err, refl, sym, subst, ap, ◌∙◌, ◌+◌, arith}
 use Rattle.std.proofs.lemmas.List.{length-map}
 use Rattle.std.proofs.lemmas.Bool.Decides.{nat_tests}
 use Rattle.std.specs.Option.{option_or}
@@ -8,17 +8,15 @@ use Rattle.osi_base.proofs.Syntaxes.{named_back}
 use Rattle.osi_base.specs.declared.syntax.Syntax.{Syntax}
 use Rattle.osi_base.specs.declared.syntax.Syntax.TheVariants.{Ber, Der, Packed}
 use Rattle.osi_base.specs.declared.layer_words.Proposal.{Proposal}
-use Rattle.osi_base.specs.declared.layer_words.AddAnswer.{AddAnswer}
 use Rattle.osi_base.specs.declared.layer_words.Answers.{Answers}
 use Rattle.context_sets.specs.declared.alteration.Alteration.{Alteration}
 use Rattle.context_sets.specs.declared.rules.Rules.{Rules}
-use Rattle.context_sets.specs.declared.rules.Rejection.{Rejection}
 use Rattle.context_sets.specs.declared.rules.Rejection.TheVariants.{AbstractSyntax, LocalLimit}
 use Rattle.context_sets.specs.Sets.{ContextSet}
 use Rattle.context_sets.specs.Syntaxes.{is_same}
 use Rattle.context_sets.specs.Alterations.{additions}
 use Rattle.context_sets.specs.Policy.{is_service, accepts, acceptable, chosen, within_limit, judged, add_answer, taken_after, added_answers, deletion_answer, policy}
-use Rattle.context_sets.specs.Results.{is_offered, fits, all_fit, mismatch}
+use Rattle.context_sets.specs.Results.{fits, all_fit, mismatch}
 
 same_itself : (u : Syntax) → is_same (name_of u) (name_of u) ≡ true
 same_itself Ber = refl

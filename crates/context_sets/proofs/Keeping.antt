@@ -1,6 +1,5 @@
 -- What an end holds stays sound.
 use Rattle.std.proofs.Common.{◌≡◌, ◌∙◌, ap, Bool, ℕ, ◌+◌, ◌<◌, ◌≤◌, List, [], ◌∷◌, ◌++◌, length, length-append, get_or, remove, Option, None, refl, sym, subst, arith}
-use Rattle.osi_base.specs.declared.layer_words.AddAnswer.{AddAnswer}
 use Rattle.osi_base.specs.declared.layer_words.Answers.{Answers}
 use Rattle.context_sets.specs.declared.alteration.Alteration.{Alteration}
 use Rattle.context_sets.specs.Sets.{ContextSet, IsRising}

@@ -1,5 +1,5 @@
 -- Sets by rising identifier: equal look-ups are equal sets, and changes of different contexts commute.
-use Rattle.std.proofs.Common.{◌≡◌, ℕ, ◌<◌, ◌≤◌, Bool, true, false, nat_eq, nat_lt, [], ◌∷◌, Some, None, refl, sym, ap, ◌∙◌, arith, ap₂, le_of_lt, le_of_eq, eqb-true, nat_cmp, Ordering, Less, Equal, Greater}
+use Rattle.std.proofs.Common.{◌≡◌, ℕ, ◌<◌, ◌≤◌, Bool, true, false, nat_eq, [], ◌∷◌, Some, None, refl, sym, ap, ◌∙◌, arith, ap₂, le_of_lt, le_of_eq, eqb-true, nat_cmp, Ordering, Less, Equal, Greater}
 use Rattle.std.proofs.lemmas.Bool.{eqb-false}
 use Rattle.std.proofs.lemmas.Bool.Decides.{nat_tests}
 use Rattle.osi_base.specs.declared.layer_words.SetItem.{SetItem}

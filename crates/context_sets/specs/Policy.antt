@@ -1,5 +1,5 @@
 -- What an end answers to an alteration that the other asks for, and which it doesn't take (X.226 8.2).
-use Rattle.std.specs.Prelude.{◌≡◌, ◌≢◌, ℕ, ◌+◌, Bool, true, false, not, ◌&&◌, ◌||◌, nat_le, if◌then◌else◌, List, [], ◌∷◌, length, map, Option, Some, None, is_some, Result, Ok, Err}
+use Rattle.std.specs.Prelude.{◌≡◌, ◌≢◌, ℕ, ◌+◌, Bool, false, not, ◌&&◌, ◌||◌, nat_le, if◌then◌else◌, List, [], ◌∷◌, length, map, Option, Some, None, is_some, Result, Ok, Err}
 use Rattle.std.specs.Option.{option_or}
 use Rattle.osi_base.specs.Syntax.{name_of, syntax_named, is_listed, acse_name, rtse_name}
 use Rattle.osi_base.specs.declared.syntax.Pair.{Pair}

@@ -1,6 +1,6 @@
 -- In a value that has the form of a row of a table without `Any` the strings are octets.
-use Rattle.std.proofs.Common.{◌≡◌, refl, ◌∙◌, true, false, arith, ℕ, zero, suc, ◌<◌, List, [], ◌∷◌, length}
-use Rattle.std.specs.Prelude.{◌≢◌, Bool, not, ◌&&◌, Option, Some, None, nat_le, nat_lt, slice_get}
+use Rattle.std.proofs.Common.{◌≡◌, refl, ◌∙◌, true, arith, ℕ, zero, suc, ◌<◌, List, [], ◌∷◌, length}
+use Rattle.std.specs.Prelude.{◌≢◌, Bool, not, Option, Some, None, nat_le, nat_lt, slice_get}
 use Rattle.std.specs.List.{list_all}
 use Rattle.std.proofs.lemmas.Bool.Decides.{nat_tests}
 use Rattle.std.proofs.lemmas.Bool.{and_parts}
@@ -11,7 +11,7 @@ use Rattle.asn1_types.specs.Rows.{of_row, along}
 use Rattle.asn1_types.specs.Defaults.{is_default}
 use Rattle.asn1_types.specs.Fits.{is_octet, are_bits, is_text, part_fits, parts_fit, sequence_fits, values_fit, list_fits, alternative_fits, choice_fits, form_by, nothing_fits, has_form}
 use Rattle.asn1_types.specs.Rising.{set_rises}
-use Rattle.asn1_types.specs.Value.{Value, boolean, integer, null, octets, bits, object_id, text, parts, list, chosen, any, MaybeValues, no_parts, absent, present, Values, no_values, value}
+use Rattle.asn1_types.specs.Value.{Value, boolean, integer, null, octets, bits, object_id, text, parts, list, chosen, MaybeValues, no_parts, absent, present, Values, no_values, value}
 use Rattle.asn1_types.specs.Writing.{written}
 use Rattle.asn1_types.proofs.OctetTests.{octets_by_test}
 use Rattle.der_octets.specs.Laws.{LeavesAre, LeavesInParts, LeavesInValues, FittingLeavesAre}

@@ -1,6 +1,6 @@
 -- The DER spelling of a value are octets.
 use Rattle.std.proofs.Common.{◌≡◌, refl, true, false, ◌∙◌, ap, subst, sym, arith, ℕ, zero, suc, ◌+◌, ◌-◌, ◌*◌, ◌/◌, ◌%◌, ◌^◌, ◌≤◌, ◌<◌, ℤ, pos, negsuc, List, [], ◌∷◌, ◌++◌, map, length}
-use Rattle.std.specs.Prelude.{Bool, not, ◌&&◌, Option, Some, None, nat_eq, nat_lt, slice_get, if◌then◌else◌}
+use Rattle.std.specs.Prelude.{Bool, ◌&&◌, Option, Some, None, nat_eq, nat_lt, slice_get, if◌then◌else◌}
 use Rattle.std.specs.List.{list_all, flat_map}
 use Rattle.std.proofs.Math.Nat.{mod-lt}
 use Rattle.std.proofs.lemmas.Bool.{and_parts, lt-ltb}
@@ -12,10 +12,10 @@ use Rattle.asn1_types.specs.declared.row.Part.{Part}
 use Rattle.asn1_types.specs.declared.row.TypeRow.{TypeRow}
 use Rattle.asn1_types.specs.declared.row.TypeRow.TheVariants as row
 use Rattle.asn1_types.specs.declared.row.Tag as tags
-use Rattle.asn1_types.specs.Rows.{of_row, along, class_number, text_number}
+use Rattle.asn1_types.specs.Rows.{of_row, along, text_number}
 use Rattle.asn1_types.specs.Fits.{is_octet}
 use Rattle.asn1_types.specs.Tags.{tag_or, leading, ranks, front_rank}
-use Rattle.asn1_types.specs.Value.{Value, boolean, integer, null, octets, bits, object_id, text, parts, list, chosen, any, MaybeValues, no_parts, absent, present, Values, no_values, value}
+use Rattle.asn1_types.specs.Value.{Value, boolean, integer, octets, bits, object_id, text, parts, list, chosen, any, MaybeValues, no_parts, absent, present, Values, no_values, value}
 use Rattle.asn1_types.specs.Writing.{Writer, high_digits, base_128, digits_256, base_256, natural_octets, integer_octets, identifier, length_octets, definite, subidentifiers, boolean_contents, integer_contents, octets_contents, text_contents, bits_contents, object_id_contents, any_written, parts_contents, sequence_contents, of_rank, risen_parts, set_parts, values_contents, list_contents, alternative_written, choice_written, under, nothing_written, write_by, writes, written}
 use Rattle.asn1_types.proofs.OctetTests.{octets_by_test, octets_pass}
 use Rattle.der_octets.specs.Laws.{LeavesAre, LeavesInParts, LeavesInValues, DerAreOctets}

@@ -1,5 +1,5 @@
 -- The CP of a configuration is the one that the rules send.
-use Rattle.std.proofs.Common.{◌≡◌, pos, List, [], ◌∷◌, ◌++◌, map, Bool, true, false, Some, None, refl, ap, ◌∙◌}
+use Rattle.std.proofs.Common.{◌≡◌, pos, [], ◌∷◌, ◌++◌, map, Bool, true, false, Some, None, refl, ap, ◌∙◌}
 use Rattle.osi_base.specs.declared.presentation_word.PresentationConnect.{PresentationConnect}
 use Rattle.osi_base.specs.declared.acse_word.Acse.TheVariants as acse
 use Rattle.osi_base.specs.declared.rtse_word.Rtse.TheVariants as rtse
@@ -9,7 +9,7 @@ use Rattle.dialogue.specs.declared.config.Mode.{Mode}
 use Rattle.dialogue.specs.declared.config.Mode.TheVariants.{Bare, Direct, Reliable}
 use Rattle.association_ground.specs.end_rules.Base.{Base, application_context}
 use Rattle.association_ground.specs.end_rules.Writing.{acse_value, information, own_proposals, requirement_bits, connection_data}
-use Rattle.end_config.specs.Connecting.{pdv_of, externals, connect_of_rules, connect_of, ConnectIsOfRules}
+use Rattle.end_config.specs.Connecting.{pdv_of, externals, ConnectIsOfRules}
 
 module _ (base : Base) (recovers : Bool) where
   -- as the rules have it, in a mode

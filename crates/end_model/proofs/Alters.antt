@@ -27,7 +27,7 @@ use Rattle.end_rules.specs.Altering.{addition_refusal, deletion_refusal, or_else
 use Rattle.end_rules.specs.Altering.{deletions_refusal, is_set_full, alteration_refusal}
 use Rattle.end_rules.specs.TakesData.{alteration}
 use Rattle.agreement.specs.Sets as sets
-use Rattle.agreement.specs.Sets.Item.{Addition, Deletion}
+use Rattle.agreement.specs.Sets.Item.{Deletion}
 use Rattle.agreement.specs.Messages as model
 use Rattle.agreement.specs.Acts as acts
 use Rattle.agreement.specs.State.Progress.{Ending as model_ending}

@@ -22,12 +22,9 @@ use Rattle.agreement.specs.Messages.Act.{GivesTurn, Pleads, Restarts, Starts, En
 use Rattle.agreement.specs.Messages.Act.{Interrupts, Discards, Resumes, Releases, Aborts, Withdraws}
 use Rattle.agreement.specs.Messages.Act.{TransportFails as model_fails}
 use Rattle.agreement.specs.Laws.{handed_by}
-use Rattle.agreement.specs.Messages.Apdu.{Invoke, Outcome, Reject}
-use Rattle.agreement.specs.Messages.Message.{Data}
-use Rattle.agreement.specs.Messages.Choice.{Nothing}
+use Rattle.agreement.specs.Messages.Apdu.{Invoke}
 use Rattle.agreement.specs.State as states
-use Rattle.agreement.specs.State.Phase.{Up as model_up, Over as model_over}
-use Rattle.agreement.specs.State.Awaited.{NoAnswer as model_no_answer}
+use Rattle.agreement.specs.State.Phase.{Up as model_up}
 use Rattle.agreement.specs.Acts.{MayAct, acted, sent_by}
 use Rattle.agreement.specs.Worlds.{Sending, Step, World, IsRun, if_same, after, state_of, sent_in}
 use Rattle.agreement.specs.Worlds.{sendings, shared_at, taken_off, flight_to}

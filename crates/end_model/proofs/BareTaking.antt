@@ -26,7 +26,6 @@ use Rattle.agreement.specs.Messages.Message.{Data}
 use Rattle.agreement.specs.Messages.Choice.{Nothing}
 use Rattle.agreement.specs.State as states
 use Rattle.agreement.specs.State.Phase.{Up as model_up, Over as model_over}
-use Rattle.agreement.specs.State.Awaited.{NoAnswer as model_no_answer}
 use Rattle.agreement.specs.Calls.{is_open, may_answer}
 use Rattle.agreement.specs.Acts.{MayAct, acted, sent_by}
 use Rattle.agreement.specs.Takings.{MayTake, taken, is_purged as model_purged, broken}

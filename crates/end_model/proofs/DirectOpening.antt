@@ -46,8 +46,7 @@ use Rattle.end_rules.specs.Reacting.{answers_to_word, shown_of_word}
 use Rattle.agreement.specs.Sets.{Role, IsRising, IsKnownSet}
 use Rattle.agreement.specs.Sets.Role.{Initiator, Responder}
 use Rattle.agreement.specs.Messages as model
-use Rattle.agreement.specs.Messages.Message.{Connect as model_connect, Accept as model_accept}
-use Rattle.agreement.specs.Messages.Message.{Refuse as model_refuse}
+use Rattle.agreement.specs.Messages.Message.{Connect as model_connect}
 use Rattle.agreement.specs.Messages.Choice.{Nothing, Accepting as accepting, Refusing}
 use Rattle.agreement.specs.State as states
 use Rattle.agreement.specs.State.Phase.{Idle as model_idle, Opening as model_opening}

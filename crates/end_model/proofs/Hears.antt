@@ -28,7 +28,6 @@ use Rattle.end_rules.specs.Hearing.{invoked, unless_problem, rejected, result_pr
 use Rattle.end_rules.specs.Hearing.{error_problem, first_problem, problem_if}
 use Rattle.agreement.specs.Messages as model
 use Rattle.agreement.specs.Messages.Apdu.{Invoke as model_invoke, Outcome as model_outcome}
-use Rattle.agreement.specs.Messages.Apdu.{Reject as model_reject}
 use Rattle.agreement.specs.Messages.Problem.{OfInvocation as of_invocation}
 use Rattle.agreement.specs.State.{Handed}
 use Rattle.agreement.specs.Calls.{is_open, is_accepted, has_room, is_link_allowed, heard}

@@ -18,7 +18,7 @@ use Rattle.end_rules.specs.Reacting.{after_word, answers_to_word}
 use Rattle.end_rules.specs.History.{after_broke}
 use Rattle.agreement.specs.Sets as model_sets
 use Rattle.agreement.specs.Sets.{Role, ContextSet, other}
-use Rattle.agreement.specs.Sets.Role.{Initiator, Responder}
+use Rattle.agreement.specs.Sets.Role.{Initiator}
 use Rattle.agreement.specs.Messages as model
 use Rattle.agreement.specs.Messages.Mode.{Direct as model_direct}
 use Rattle.agreement.specs.Worlds as worlds

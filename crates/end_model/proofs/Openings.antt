@@ -24,7 +24,6 @@ use Rattle.agreement.specs.Messages.Choice.{Nothing, Accepting as accepting, Ref
 use Rattle.agreement.specs.Messages.Message.{Connect as model_connect, Recover as model_recover}
 use Rattle.agreement.specs.Messages.Message.{Accept as model_accept, Refuse as model_refuse}
 use Rattle.agreement.specs.State as states
-use Rattle.agreement.specs.State.Phase.{Idle as model_idle, Opening as model_opening}
 use Rattle.agreement.specs.State.Phase.{Over as model_over}
 use Rattle.agreement.specs.Takings.{refusing}
 use Rattle.end_model.specs.Seen.{Free, mode_seen, role_seen, set_seen, phase_seen, seen, setup_seen}

@@ -30,7 +30,6 @@ use Rattle.end_rules.specs.Requesting.{after_outcome, due_outcome, answering, re
 use Rattle.end_rules.specs.Requesting.{operation_opened, sent_at_once, queueing}
 use Rattle.agreement.specs.Messages as model
 use Rattle.agreement.specs.Messages.Act.{SaysValue, Queues}
-use Rattle.agreement.specs.Messages.Apdu.{Outcome as model_outcome}
 use Rattle.agreement.specs.State as states
 use Rattle.agreement.specs.Calls.{handed_in, due_after, close as model_close}
 use Rattle.agreement.specs.Acts.{acted}

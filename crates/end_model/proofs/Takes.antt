@@ -22,7 +22,7 @@ use Rattle.end_rules.specs.TakesMarks.{restored_set, list_fault}
 use Rattle.end_rules.specs.Reacting.{fault_above, word_fault}
 use Rattle.end_rules.specs.Messages.{Word, unit_of}
 use Rattle.agreement.specs.Sets as sets
-use Rattle.agreement.specs.Sets.Role.{Initiator, Responder}
+use Rattle.agreement.specs.Sets.Role.{Responder}
 use Rattle.agreement.specs.Sets.Item.{Deletion}
 use Rattle.agreement.specs.Takings.{additions}
 use Rattle.agreement.specs.State.Phase.{Up as model_up}

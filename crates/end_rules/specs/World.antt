@@ -1,17 +1,15 @@
 -- Two ends: the moments of both, and the one set that they share, from what is sent alone.
-use Rattle.std.specs.Prelude.{ℕ, zero, suc, ◌+◌, List, [], ◌∷◌, Bool, true, false, if◌then◌else◌, Option, Some, None}
+use Rattle.std.specs.Prelude.{ℕ, zero, suc, List, [], ◌∷◌, Bool, true, false, if◌then◌else◌, Option}
 use Rattle.osi_base.specs.declared.layer_words.Side.{Side}
 use Rattle.osi_base.specs.declared.layer_words.Side.TheVariants.{A, B}
 use Rattle.osi_base.specs.declared.layer_words.SetItem.{SetItem}
 use Rattle.osi_base.specs.declared.syntax.Pair.{Pair}
-use Rattle.osi_base.specs.declared.presentation_word.PresentationConnect.{PresentationConnect}
-use Rattle.osi_base.specs.declared.presentation_word.PresentationAccept.{PresentationAccept}
 use Rattle.dialogue.specs.declared.config.Mode.{Mode}
 use Rattle.dialogue.specs.declared.config.Mode.TheVariants.{Bare, Direct, Reliable}
 use Rattle.end_rules.specs.Base.{Base}
 use Rattle.end_rules.specs.Sets.{Saved, altered, accepted_set, below, newest}
 use Rattle.osi_base.specs.SetPlaces.{pair_of}
-use Rattle.end_rules.specs.Messages.{Message, Transport, Session, Word, OfAssociation, OfData, OfMarks, OfActivities, AssociationWord, Connect, Accept, DataWord, AlterContext, AlterContextAck, MarkWord, Mark, Restart, RestartAck, ActivityWord, Start, Resume, EndAck, InterruptAck, DiscardAck}
+use Rattle.end_rules.specs.Messages.{Message, Transport, Session, OfAssociation, OfData, OfMarks, OfActivities, AssociationWord, Connect, Accept, DataWord, AlterContext, AlterContextAck, MarkWord, Mark, RestartAck, ActivityWord, Start, Resume, EndAck, InterruptAck, DiscardAck}
 use Rattle.end_rules.specs.State.{Body, first_set, holds_turn}
 use Rattle.end_rules.specs.Connecting.{recovers_in}
 use Rattle.end_rules.specs.TakesData.{alteration}

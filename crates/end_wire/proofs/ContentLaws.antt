@@ -1,5 +1,5 @@
 -- What octets are as content is what they say.
-use Rattle.std.proofs.Common.{◌≡◌, ℕ, ℤ, ◌<◌, ◌^◌, ◌-◌, Bool, true, false, if◌then◌else◌, List, [], ◌∷◌, Option, Some, None, refl, sym, ap, subst, ◌∙◌, arith, option_map}
+use Rattle.std.proofs.Common.{◌≡◌, ℕ, ℤ, ◌<◌, ◌^◌, Bool, true, false, if◌then◌else◌, List, Option, Some, None, refl, sym, ap, subst, ◌∙◌, arith, option_map}
 use Rattle.osi_base.specs.declared.syntax.Syntax.{Syntax}
 use Rattle.osi_base.specs.declared.syntax.Syntax.TheVariants.{Ber, Der, Packed}
 use Rattle.osi_base.specs.declared.layer_words.SetItem.{SetItem}
@@ -18,14 +18,14 @@ use Rattle.apdu_spelling.specs.Heads as heads
 use Rattle.apdu_spelling.specs.Spellings.{CarriedAs, ReturnedAs, Says, Spells, SpellsHead, room_behind}
 use Rattle.apdu_spelling.proofs.OneHead.{one_apdu}
 use Rattle.dialogue.specs.declared.config.Config.{Config}
-use Rattle.end_rules.specs.Base.{Carried, Absent, Spelled, Unspelled, InvokeHead, ResultHead, ErrorHead, RejectHead}
+use Rattle.end_rules.specs.Base.{Carried, Absent, Spelled, Unspelled, InvokeHead, ResultHead, ErrorHead}
 use Rattle.osi_base.specs.SetPlaces.{pair_of}
 use Rattle.end_rules.specs.Messages.{ValueContent, Remote, Unread, Association, Plea, Part}
 use Rattle.end_rules.specs.Hearing.{carried_in, head_of_apdu, head_of, syntax_of}
-use Rattle.end_wire.specs.Heads.{spelled_head, typed_at, carried_at, heard_result, heard_head, heard_or_refused, head_at, value_or_lack, apdu_of}
+use Rattle.end_wire.specs.Heads.{carried_at, heard_result, heard_head, heard_or_refused, head_at, value_or_lack, apdu_of}
 use Rattle.end_wire.specs.Values.{IsContent, content_of, content_at}
 use Rattle.end_wire.specs.Bare.{bare_base, bare_value}
-use Rattle.end_wire.proofs.HeadLaws.{head_read, no_head}
+use Rattle.end_wire.proofs.HeadLaws.{head_read}
 use Rattle.end_wire.proofs.ValueLaws.{all_octets, carried_is, carried_read, carried_spelled}
 
 abbrev no_value : Option Val

@@ -1,16 +1,15 @@
 -- What stands first in octets.
-use Rattle.std.proofs.Common.{◌≡◌, ℕ, ◌<◌, ◌≤◌, ◌^◌, false, List, [], ◌++◌, length, take, drop, Result, Ok, Err, refl, sym, ap, subst, ◌∙◌, arith}
-use Rattle.std.proofs.lemmas.List.{append-nil, take-append-drop}
+use Rattle.std.proofs.Common.{◌≡◌, ℕ, ◌<◌, false, List, ◌++◌, length, Result, ap}
 use Rattle.asn1_types.specs.Value.{Value, any}
 use Rattle.ber_spelling.specs.declared.fault.ReadFault.{ReadFault}
 use Rattle.ber_spelling.specs.declared.fault.ReadFault.TheVariants as faults
 use Rattle.osi_base.specs.Octets.{AreOctets}
 use Rattle.ber_spelling.specs.Rules.{read_at}
-use Rattle.ber_spelling.proofs.WholeValues.{beginning_is_short, read_stays, fault_stays}
+use Rattle.ber_spelling.proofs.WholeValues.{beginning_is_short}
 use Rattle.stub_tables.specs.AnyValue.{any_value_rows, any_value_row}
 use Rattle.stub_tables.specs.Apdus.{IsWhole}
 use Rattle.stub_tables.proofs.Readings.{any_value_sound, whole_read}
-use Rattle.end_wire.specs.Bare.{First, Short, Whole, Faulty, beginning_of, first_at}
+use Rattle.end_wire.specs.Bare.{Short, Whole, beginning_of, first_at}
 
 abbrev read_any : List ℕ → Result (Value × ℕ) ReadFault
 read_any text = read_at any_value_rows any_value_row false 262144 text

@@ -1,11 +1,10 @@
 -- What a head says with its value is what octets spell.
-use Rattle.std.proofs.Common.{◌≡◌, ℕ, ℤ, ◌<◌, ◌≤◌, ◌^◌, ◌-◌, Bool, true, false, nat_eq, if◌then◌else◌, List, [], ◌++◌, length, take, Option, Some, None, Result, Ok, Err, refl, sym, ap, subst, ◌∙◌, arith, option_map}
+use Rattle.std.proofs.Common.{◌≡◌, ℕ, ◌<◌, ◌^◌, Bool, true, false, nat_eq, if◌then◌else◌, List, [], length, take, Option, Some, None, Result, Ok, Err, refl, sym, ap, subst, ◌∙◌}
 use Rattle.std.proofs.lemmas.List.{append-nil}
 use Rattle.std.proofs.lemmas.Bool.{eqb-true}
 use Rattle.std.proofs.Math.Seq.{take-length}
 use Rattle.osi_base.specs.declared.syntax.Syntax.{Syntax}
 use Rattle.osi_base.specs.declared.syntax.Syntax.TheVariants.{Ber, Der, Packed}
-use Rattle.osi_base.specs.declared.layer_words.Problem.{Problem}
 use Rattle.asn1_types.specs.Value.{Value}
 use Rattle.asn1_types.specs.Table.{AreSoundRows}
 use Rattle.asn1_types.specs.declared.value.Val.{Val}
@@ -21,18 +20,13 @@ use Rattle.packed_codec.specs.declared.fault.PackedFault.{PackedFault}
 use Rattle.packed_codec.specs.Rules as packed
 use Rattle.packed_codec.specs.Laws as packings
 use Rattle.packed_codec.proofs.WholeValues as packed_laws
-use Rattle.stub_tables.specs.declared.tables.Tables.{Tables}
 use Rattle.stub_tables.specs.declared.operation.Use.{Use}
-use Rattle.stub_tables.specs.declared.operation.Code.{Code}
-use Rattle.stub_tables.specs.declared.apdu.Apdu.{Apdu}
 use Rattle.stub_tables.specs.declared.apdu.Apdu.TheVariants as apdus
-use Rattle.stub_tables.specs.declared.apdu.Returned.{Returned}
 use Rattle.stub_tables.specs.Uses.{may_lack}
-use Rattle.stub_tables.specs.Apdus.{argument_of, result_of, parameter_of, operation_coded, error_coded}
 use Rattle.apdu_spelling.specs.Heads as heads
-use Rattle.apdu_spelling.specs.Spellings.{SpelledAs, TypedAs, CarriedAs, ReturnedAs, Says, Spells, SpellsHead, room_behind}
-use Rattle.end_rules.specs.Base.{Carried, Absent, Spelled, Unspelled, InvokeHead, ResultHead, ErrorHead, RejectHead}
-use Rattle.end_wire.specs.Heads.{whole_value, packed_value, value_at, typed_at, carried_at, heard_result, heard_head, value_or_lack, apdu_of}
+use Rattle.apdu_spelling.specs.Spellings.{SpelledAs, TypedAs, CarriedAs, Spells}
+use Rattle.end_rules.specs.Base.{Carried, Absent, Spelled, Unspelled}
+use Rattle.end_wire.specs.Heads.{whole_value, packed_value, value_at, typed_at, carried_at, value_or_lack}
 
 abbrev no_value : Option Val
 no_value = None

@@ -1,19 +1,17 @@
 -- Messages of bare mode in octets.
-use Rattle.std.proofs.Common.{◌≡◌, ℕ, ◌<◌, ◌≤◌, ◌^◌, Bool, true, false, List, [], ◌∷◌, ◌++◌, length, Option, Some, None, option_map, refl, sym, ap, subst, ◌∙◌, arith}
+use Rattle.std.proofs.Common.{◌≡◌, ℕ, ◌≤◌, true, false, List, ◌++◌, length, Option, Some, None, option_map, refl, sym, ap, subst, ◌∙◌, arith}
 use Rattle.std.proofs.lemmas.List.{append-nil}
 use Rattle.osi_base.specs.declared.syntax.Syntax.TheVariants.{Ber, Der}
 use Rattle.osi_base.specs.declared.layer_words.SetItem.{SetItem}
-use Rattle.asn1_types.specs.Value.{Value, any}
+use Rattle.asn1_types.specs.Value.{any}
 use Rattle.asn1_types.specs.Whole.{is_whole}
 use Rattle.asn1_types.specs.Fits.{has_form}
-use Rattle.osi_base.specs.Octets.{AreOctets}
 use Rattle.ber_spelling.specs.Spelling as spelling
 use Rattle.asn1_types.specs.Writing.{written as written_value}
 use Rattle.ber_spelling.proofs.WholeSpelled.{der_is_whole}
 use Rattle.stub_tables.specs.declared.tables.Tables.{Tables}
 use Rattle.stub_tables.specs.declared.apdu.Apdu.{Apdu}
 use Rattle.stub_tables.specs.declared.apdu.Apdu.TheVariants as apdus
-use Rattle.stub_tables.specs.declared.apdu.Returned.{Returned}
 use Rattle.stub_tables.specs.declared.operation.Use.{Use}
 use Rattle.asn1_types.specs.declared.value.Val.{Val}
 use Rattle.asn1_types.specs.declared.row.TypeId.{TypeId}
@@ -31,15 +29,14 @@ use Rattle.apdu_spelling.specs.Rows.{head_rows, apdu_row}
 use Rattle.apdu_spelling.specs.Values.{ber_value}
 use Rattle.apdu_spelling.proofs.HeadsSound.{heads_sound}
 use Rattle.apdu_spelling.specs.Spellings.{Spells}
-use Rattle.apdu_spelling.specs.Writing.{written_apdu, IsWritable, has_values, is_typed, may_carry, may_return, written_typed, written_carried, written_head, outcome_of, head_of}
+use Rattle.apdu_spelling.specs.Writing.{written_apdu, IsWritable, has_values, is_typed, may_carry, written_typed, written_carried, written_head, head_of}
 use Rattle.apdu_spelling.proofs.Written.{written_spelled}
 use Rattle.osi_base.specs.SetPlaces.{pair_of}
 use Rattle.end_rules.specs.State.{bare_set}
 use Rattle.end_rules.specs.Messages.{Remote, Message}
 use Rattle.end_rules.specs.Hearing.{syntax_of}
-use Rattle.end_wire.specs.Values.{IsContent}
 use Rattle.end_wire.specs.Bare.{IsWire, bare_message, written, first_at, Whole}
-use Rattle.end_wire.proofs.FirstLaws.{whole_first, beginning_short}
+use Rattle.end_wire.proofs.FirstLaws.{whole_first}
 use Rattle.end_wire.proofs.ContentLaws.{one_content}
 
 any_is : (text : List ℕ) → is_whole text ≡ true → length text ≤ 262144 → IsWhole text

@@ -1,7 +1,6 @@
 -- Messages of bare mode in octets: each is one whole BER value, one straight behind the other (this project's own
 -- mode; X.690 8.1).
-use Rattle.std.specs.Prelude.{◌≡◌, ℕ, ◌<◌, ◌≤◌, List, [], ◌∷◌, ◌++◌, length, take, drop, false, Option, Some, None, Result, Ok, Err}
-use Rattle.osi_base.specs.declared.syntax.Pair.{Pair}
+use Rattle.std.specs.Prelude.{◌≡◌, ℕ, List, [], ◌∷◌, ◌++◌, take, drop, false, Result, Ok, Err}
 use Rattle.osi_base.specs.declared.layer_words.SetItem.{SetItem}
 use Rattle.osi_base.specs.Limits.{most_octets}
 use Rattle.asn1_types.specs.Value.{Value}
@@ -9,7 +8,6 @@ use Rattle.ber_spelling.specs.declared.fault.ReadFault.{ReadFault}
 use Rattle.ber_spelling.specs.declared.fault.ReadFault.TheVariants as fault
 use Rattle.ber_spelling.specs.Rules.{read_at}
 use Rattle.stub_tables.specs.declared.tables.Tables.{Tables}
-use Rattle.stub_tables.specs.declared.apdu.Apdu.{Apdu}
 use Rattle.stub_tables.specs.AnyValue.{any_value_rows, any_value_row}
 use Rattle.stub_tables.specs.Apdus.{IsWhole}
 use Rattle.dialogue.specs.declared.config.Config.{Config}
@@ -18,7 +16,7 @@ use Rattle.end_rules.specs.Base.{Base}
 use Rattle.osi_base.specs.SetPlaces.{pair_of}
 use Rattle.end_rules.specs.Messages.{ValueContent, DataValue, Values, OfData, Message, Session, Transport, Word, DataWord, AlterContext, AlterContextAck, OfAssociation, OfMarks, OfActivities}
 use Rattle.end_rules.specs.Hearing.{syntax_of}
-use Rattle.end_wire.specs.Values.{IsContent, content_at, written_content, bare_spellings}
+use Rattle.end_wire.specs.Values.{IsContent, written_content, bare_spellings}
 
 -- the base of an end of bare mode
 abbrev pub bare_base : Tables → Config → Base

@@ -2,7 +2,7 @@
 use Rattle.std.specs.Prelude.{◌≡◌, ℕ, List, [], ◌∷◌, ◌++◌, map, true, false}
 use Rattle.osi_base.specs.declared.layer_words.Layer.TheVariants.{Rose}
 use Rattle.dialogue.specs.declared.indication.Indication.{Indication}
-use Rattle.end_rules.specs.Base.{Base, Fault}
+use Rattle.end_rules.specs.Base.{Base}
 use Rattle.end_rules.specs.Messages.{Message, ValueContent}
 use Rattle.end_rules.specs.State.{Body, passes_over}
 use Rattle.end_rules.specs.Faults.{fault_at, shown_at_fault}
@@ -11,7 +11,7 @@ use Rattle.osi_base.specs.SetPlaces.{pair_of}
 use Rattle.end_rules.specs.Reacting.{react, Takes}
 use Rattle.end_rules.specs.History.{Step, fed, took, answered, fault, feed_end}
 use Rattle.end_wire.specs.Values.{IsContent}
-use Rattle.end_wire.specs.Bare.{First, Short, Whole, Faulty, first_at, front, bare_message}
+use Rattle.end_wire.specs.Bare.{Short, Whole, Faulty, first_at, front, bare_message}
 use Rattle.end_wire.specs.Line.{End, after, after_all}
 
 -- the steps of a taking: the message, and the answers to it

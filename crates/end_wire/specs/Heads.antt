@@ -1,6 +1,6 @@
 -- What octets say of an APDU, as a function (X.882 9): the head that they spell, with its value read by the tables of
 -- the module; or the general problem of octets that spell none.
-use Rattle.std.specs.Prelude.{ℕ, ◌-◌, List, length, drop, Bool, true, false, nat_eq, if◌then◌else◌, Option, Some, None, option_map, Result, Ok, Err, min}
+use Rattle.std.specs.Prelude.{ℕ, List, length, drop, true, false, nat_eq, if◌then◌else◌, Option, Some, None, option_map, Result, Ok, Err, min}
 use Rattle.osi_base.specs.declared.syntax.Syntax.{Syntax}
 use Rattle.osi_base.specs.declared.syntax.Syntax.TheVariants.{Ber, Der, Packed}
 use Rattle.osi_base.specs.Limits.{most_octets}

@@ -7,8 +7,7 @@ use Rattle.osi_base.specs.Octets.{AreOctets}
 use Rattle.stub_tables.specs.declared.tables.Tables.{Tables}
 use Rattle.stub_tables.specs.declared.apdu.Apdu.{Apdu}
 use Rattle.stub_tables.specs.Readable.{IsReadable}
-use Rattle.stub_tables.specs.Apdus.{IsWhole}
-use Rattle.apdu_spelling.specs.Writing.{written_apdu, IsWritable}
+use Rattle.apdu_spelling.specs.Writing.{IsWritable}
 use Rattle.dialogue.specs.declared.config.Config.{Config}
 use Rattle.osi_base.specs.SetPlaces.{pair_of}
 use Rattle.end_rules.specs.State.{bare_set}

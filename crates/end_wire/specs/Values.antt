@@ -1,7 +1,6 @@
 -- Values of the module's abstract syntax in octets: what they are, and the one spelling in which they are written
 -- (X.226 8.4.2, X.882 9); and with it how the rules of an end see spellings.
 use Rattle.std.specs.Prelude.{◌≡◌, ℕ, List, [], Option, Some, None, Result, Err}
-use Rattle.osi_base.specs.declared.syntax.Pair.{Pair}
 use Rattle.osi_base.specs.declared.syntax.Syntax.{Syntax}
 use Rattle.osi_base.specs.declared.layer_words.SetItem.{SetItem}
 use Rattle.stub_tables.specs.declared.tables.Tables.{Tables}

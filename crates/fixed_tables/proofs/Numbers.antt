@@ -1,6 +1,6 @@
 -- Numbers that fit rows of INTEGER.
 use Rattle.std.proofs.Common.{◌≡◌, ℕ, ◌^◌, ◌≤◌, ◌<◌, true, refl, arith}
-use Rattle.std.specs.Prelude.{ℤ, pos, negsuc, nat_lt}
+use Rattle.std.specs.Prelude.{ℤ, pos, negsuc}
 use Rattle.std.proofs.lemmas.Bool.{lt-ltb, le-ltb, ltb-true}
 use Rattle.asn1_types.specs.Fits.{is_number, integer_fits}
 use Rattle.asn1_types.specs.Value.{integer}

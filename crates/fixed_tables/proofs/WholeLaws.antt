@@ -1,20 +1,18 @@
 -- What is read of all octets is spelled by them, and the other way round.
-use Rattle.std.proofs.Common.{◌≡◌, ℕ, Bool, true, false, cond, List, [], ◌++◌, length, take, Result, Ok, Err, refl, sym, ap, ◌∙◌, subst, arith}
+use Rattle.std.proofs.Common.{◌≡◌, ℕ, Bool, true, false, cond, List, [], length, Result, Ok, Err, refl, sym, ap, ◌∙◌, subst, arith}
 use Rattle.std.specs.Prelude.{nat_eq}
 use Rattle.std.proofs.lemmas.Bool.{eqb-true}
 use Rattle.std.proofs.Math.Seq.{take-length}
 use Rattle.std.proofs.lemmas.List.{append-nil}
-use Rattle.asn1_types.specs.declared.row.TypeRow.{TypeRow}
 use Rattle.asn1_types.specs.Value.{Value}
 use Rattle.osi_base.specs.declared.layer_words.Kind.TheVariants.{Extra}
-use Rattle.osi_base.specs.Octets.{AreOctets}
 use Rattle.ber_spelling.specs.Reading.{Reading}
 use Rattle.ber_spelling.specs.Rules.{read_at}
 use Rattle.ber_spelling.specs.Spelling.{Spells}
 use Rattle.ber_spelling.proofs.WholeValues.{read_is_spelled, spelled_is_read}
 use Rattle.fixed_tables.specs.declared.pdu.PduFault as units
 use Rattle.fixed_tables.specs.declared.pdu.PduFault.TheVariants as unit
-use Rattle.fixed_tables.specs.Whole.{of_whole, whole_at}
+use Rattle.fixed_tables.specs.Whole.{of_whole}
 use Rattle.fixed_tables.specs.Laws.{WholeIsSpelled, SpelledIsWhole}
 
 -- what was read used all octets

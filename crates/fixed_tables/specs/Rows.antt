@@ -1,6 +1,5 @@
 -- Rows of fixed tables of types.
 use Rattle.std.specs.Prelude.{◌^◌, Bool, true, ◌&&◌, List, [], ◌∷◌, ◌++◌, is_none, nat_lt}
-use Rattle.asn1_types.specs.declared.row.Class.{Class}
 use Rattle.asn1_types.specs.declared.row.TypeRow.{TypeRow}
 use Rattle.asn1_types.specs.declared.row.TypeRow.TheVariants.{Tagged}
 use Rattle.asn1_types.specs.Table.{refusal}

@@ -3,7 +3,6 @@ use Rattle.std.specs.Prelude.{◌≡◌, ◌==◌, ℕ, false, List, length, Res
 use Rattle.osi_base.specs.declared.layer_words.Kind.TheVariants.{Extra}
 use Rattle.asn1_types.specs.declared.row.TypeRow.{TypeRow}
 use Rattle.asn1_types.specs.Value.{Value}
-use Rattle.asn1_types.specs.declared.value.Val.{Val}
 use Rattle.ber_spelling.specs.Reading.{Reading}
 use Rattle.ber_spelling.specs.Rules.{read_at}
 use Rattle.fixed_tables.specs.declared.pdu.PduFault as units

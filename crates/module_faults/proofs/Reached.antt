@@ -3,10 +3,9 @@ use Rattle.std.proofs.Common.{◌≡◌, ℕ, zero, suc, ◌<◌, ◌≤◌, Boo
 use Rattle.std.specs.Prelude.{◌⊎◌, ◌||◌, nat_eq, slice_get, slice_set, if◌then◌else◌}
 use Rattle.std.specs.List.{list_any}
 use Rattle.std.proofs.lemmas.Bool.{eqb-true, eq-eqb, cases_lt}
-use Rattle.std.proofs.lemmas.Option.{slice_get_within}
 use Rattle.module_faults.specs.declared.reach_search.Standing.{Standing}
 use Rattle.module_faults.specs.Recursion.{list_at, Uses, Reaches, at_once, over}
-use Rattle.module_faults.specs.Standings.{flag, says}
+use Rattle.module_faults.specs.Standings.{says}
 use Rattle.module_faults.specs.ReachSets.{lacks, is_in, first_out, first_from, IsNext, IsClosed, outs, AreReached, IsReach, IsSurveyedBySet, IsRightSurvey}
 use Rattle.module_faults.proofs.Loops.{written_back}
 use Rattle.module_faults.proofs.Recursing.{either, right, place_in, flagged_within, ways}

@@ -6,8 +6,8 @@ use Rattle.std.proofs.lemmas.Bool.{eqb-true, eq-eqb, ltb-true}
 use Rattle.std.proofs.lemmas.Option.{slice_get_within}
 use Rattle.operation_notation.specs.declared.module.Assignment.{Assignment}
 use Rattle.module_faults.specs.declared.reach_search.Standing.{Standing}
-use Rattle.module_faults.specs.Recursion.{bodies_uses, list_by, list_at, Uses, Reaches, at_once, over, SaysRecursion}
-use Rattle.module_faults.specs.Standings.{flag, says, falls_to, all_fall, is_lower, leads_to, goes_on, is_earlier, is_place, comes_from, is_shown_by, is_shown_at, is_shown, AreShown}
+use Rattle.module_faults.specs.Recursion.{bodies_uses, list_at, Uses, Reaches, at_once, over, SaysRecursion}
+use Rattle.module_faults.specs.Standings.{flag, says, falls_to, all_fall, is_lower, leads_to, goes_on, is_earlier, is_place, comes_from, is_shown_by, is_shown_at, AreShown}
 use Rattle.module_faults.specs.ReachSets.{IsRightSurvey}
 
 -- ---- tests

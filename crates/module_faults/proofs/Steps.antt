@@ -1,16 +1,14 @@
 -- Types, level by level.
-use Rattle.std.proofs.Common.{◌≡◌, ℕ, zero, suc, List, [], ◌∷◌, ◌++◌, Option, Result, Ok, Err, refl, sym, ap, subst, ◌∙◌}
+use Rattle.std.proofs.Common.{◌≡◌, ℕ, zero, suc, List, [], ◌∷◌, ◌++◌, Option, Result, Ok, Err, refl, sym, ap, ◌∙◌}
 use Rattle.std.specs.Prelude.{IfOk, OnOk}
 use Rattle.operation_notation.specs.Tree.{TypeTree, type_tree, PlainTree}
 use Rattle.operation_notation.specs.declared.module.Assignment.{Assignment}
 use Rattle.operation_notation.specs.declared.module.TagText.{TagText}
-use Rattle.module_faults.specs.declared.type_facts.Facts.{Facts as FactsGiven}
 use Rattle.module_faults.specs.declared.least.Found.{Found}
 use Rattle.module_faults.specs.Least.{least_from}
 use Rattle.module_faults.specs.Locals.{tag_faults, plain_faults, type_faults}
 use Rattle.module_faults.specs.Recursion.{plain_uses, type_uses}
 use Rattle.module_faults.specs.Facts.{other, Facts, simple, plain_facts, tagged, type_facts, plain_shows, type_shows}
-use Rattle.module_faults.specs.Known.{facts_of}
 use Rattle.module_faults.proofs.LeastLaws.{least_two, least_none}
 
 -- what follows where it is Ok

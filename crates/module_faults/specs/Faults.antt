@@ -2,14 +2,13 @@
 use Rattle.std.specs.Prelude.{◌≡◌, ℕ, ◌+◌, Bool, true, false, max, List, [], ◌∷◌, ◌++◌, Option, None, Some, if◌then◌else◌}
 use Rattle.osi_base.specs.Limits.{most_type_levels}
 use Rattle.notation_tokens.specs.declared.token.Located.{Located}
-use Rattle.operation_notation.specs.Tree.{TypeTree}
 use Rattle.operation_notation.specs.declared.module.Assignment.{Assignment}
 use Rattle.operation_notation.specs.declared.module.Assigned.{Assigned}
 use Rattle.operation_notation.specs.declared.module.Assigned.TheVariants as bodies
 use Rattle.operation_notation.specs.declared.module.UseText.{UseText}
 use Rattle.module_faults.specs.declared.kind.TableKind.TheVariants as kinds
 use Rattle.module_faults.specs.declared.least.Found.{Found}
-use Rattle.module_faults.specs.Least.{fault, at_name, if_so, least}
+use Rattle.module_faults.specs.Least.{at_name, if_so, least}
 use Rattle.module_faults.specs.Met.{no_codes}
 use Rattle.module_faults.specs.Locals.{bodies_faults, double_names, double_codes}
 use Rattle.module_faults.specs.Recursion.{SaysRecursion}

@@ -1,5 +1,5 @@
 -- Faults that the words of an assignment show by themselves, and by what its names are assigned.
-use Rattle.std.specs.Prelude.{ℕ, zero, suc, ◌+◌, ℤ, nat_eq, Bool, true, false, not, ◌&&◌, ◌||◌, List, [], ◌∷◌, ◌++◌, Option, None, Some, is_some}
+use Rattle.std.specs.Prelude.{ℕ, zero, suc, ◌+◌, ℤ, nat_eq, Bool, true, false, not, ◌||◌, List, [], ◌∷◌, ◌++◌, Option, None, Some, is_some}
 use Rattle.osi_base.specs.Limits.{most_alternatives, most_type_levels}
 use Rattle.notation_tokens.specs.declared.token.Located.{Located}
 use Rattle.operation_notation.specs.Tree.{TypeTree, type_tree, PlainTree, integer, enumerated, octets, sequence_of, set_of, sequence, set, choice, named, PartTrees, no_parts, part}

@@ -1,5 +1,5 @@
 -- Which types name which, and which of them reach themselves.
-use Rattle.std.specs.Prelude.{◌≡◌, ℕ, zero, suc, nat_eq, Bool, true, List, [], ◌∷◌, ◌++◌, map, Option, None, Some, slice_get}
+use Rattle.std.specs.Prelude.{◌≡◌, ℕ, zero, suc, nat_eq, Bool, true, List, [], ◌∷◌, ◌++◌, Option, None, Some, slice_get}
 use Rattle.std.specs.List.{list_any}
 use Rattle.osi_base.specs.Limits.{most_type_levels}
 use Rattle.operation_notation.specs.Tree.{TypeTree, type_tree, PlainTree, sequence_of, set_of, sequence, set, choice, named, PartTrees, no_parts, part}

@@ -12,8 +12,7 @@ use Rattle.operation_notation.specs.ReadingModules.{flag_at, flag_2_at, flag_or_
 use Rattle.operation_notation.specs.Grammar.{One, Then, Nothing, Either, Where, Maybe, The, Behind, Listed, Placed}
 use Rattle.operation_notation.specs.GrammarTypes.{Extent, narrow, OidSpelled, Range, Number64, Size, Item, Items, Class, Explicit, Tag, dflt_of, standing, optional, by_default, Absent, Part, Parts, Alternatives, Integer, OctetString, Text, Named, Leaf, Sequence, Set, Choice, Plain, TypeBehind}
 use Rattle.operation_notation.specs.GrammarModules.{Flag, FlagOr, Names, NamedList, Priority, Local, Global, Code, Manner, Opens, Tagging, HeadingSpelled}
-use Rattle.operation_notation.specs.Tree.{TypeTree, type_tree, PlainTree, named, text, set}
-use Rattle.operation_notation.specs.TreeView.{parts_of}
+use Rattle.operation_notation.specs.Tree.{TypeTree, type_tree, PlainTree, named, text}
 use Rattle.notation_tokens.specs.declared.token.TokenKind.TheVariants.{Word, Number, Sign}
 use Rattle.notation_tokens.specs.declared.faults.NotationKind.{NotationKind}
 use Rattle.notation_tokens.specs.declared.faults.NotationKind.TheVariants.{Unsupported}
@@ -27,7 +26,7 @@ use Rattle.operation_notation.proofs.Local.{fault}
 use Rattle.operation_notation.proofs.TypeLaws.{any_token, starts_any, plain_words}
 use Rattle.operation_notation.proofs.Chains.{or_named}
 use Rattle.operation_notation.proofs.OidLaws.{Bracketed, ArcUpTo, NamedRoot, RootUpTo, FewArcs, ArcsUpTo, arcs_to, alone_found, root_found, root_step, root_plain, root_none, named_root_spelled}
-use Rattle.operation_notation.proofs.Begun.{Goes, KindOf, Halts, Begun, now, kind_map, kind_is, refused_at, begun_refuse, begun_one, begun_word, begun_give, bthen, bbehind, bwiden, bsame, bpick, bmaybe, begun_counted, blisted, bplaced}
+use Rattle.operation_notation.proofs.Begun.{Goes, KindOf, Halts, Begun, now, kind_map, kind_is, refused_at, begun_one, begun_word, begun_give, bthen, bbehind, bwiden, bsame, bpick, bmaybe, begun_counted, blisted, bplaced}
 
 -- ---- words and tokens
 

@@ -1,6 +1,6 @@
 -- What is refused is the text's first fault.
 use Rattle.std.proofs.Common.{◌≡◌, ℕ, ◌<◌, ◌≤◌, Bool, true, false, List, [], ◌∷◌, ◌++◌, length, Option, Some, None, Result, Ok, Err, refl, sym, ap, subst, ◌∙◌, append_assoc, append-nil, inl, inr}
-use Rattle.std.specs.Prelude.{IfErr, IsTrue, ◌⊎◌, ◌||◌, nat_lt, unwrap_or, if◌then◌else◌}
+use Rattle.std.specs.Prelude.{IfErr, IsTrue, ◌⊎◌, nat_lt, unwrap_or, if◌then◌else◌}
 use Rattle.std.specs.List.{AllByRecursion}
 use Rattle.std.proofs.lemmas.Bool.{ltb-true, ltb-false}
 use Rattle.std.proofs.lemmas.List.{append_cancel_right}
@@ -14,7 +14,7 @@ use Rattle.notation_tokens.specs.declared.token.TokenKind.TheVariants.{Word, Num
 use Rattle.notation_tokens.specs.Lexing.{lexed_of}
 use Rattle.operation_notation.specs.Reading.{Read, kind_at}
 use Rattle.operation_notation.specs.ReadingModules.{module_at, ended_at, whole_at}
-use Rattle.operation_notation.specs.GrammarTypes.{Extent, narrow, marked, wide, is_empty}
+use Rattle.operation_notation.specs.GrammarTypes.{narrow, marked, wide, is_empty}
 use Rattle.operation_notation.specs.GrammarModules.{Module}
 use Rattle.notation_tokens.specs.Texts.{Answers, unless_stopped, too_long}
 use Rattle.operation_notation.specs.Modules.{ReadsAsModule, module_of, verdict, refused}
@@ -27,7 +27,7 @@ use Rattle.operation_notation.specs.declared.module.ModuleText.{ModuleText}
 use Rattle.operation_notation.proofs.Means.{ok_is, after_ok}
 use Rattle.operation_notation.proofs.Local.{fault, failed}
 use Rattle.operation_notation.proofs.LocalRules.{none_goes_on}
-use Rattle.operation_notation.proofs.ModuleLaws.{whole_only, reads_only}
+use Rattle.operation_notation.proofs.ModuleLaws.{reads_only}
 use Rattle.operation_notation.proofs.Well.{Fine, fine_back, fine_lexemes}
 use Rattle.notation_tokens.proofs.Spans.{lexed_spans}
 use Rattle.operation_notation.proofs.Begun.{AreFillers, Goes, KindOf, Halts}

@@ -1,13 +1,11 @@
 -- How far reading looks: a token that it doesn't take decides, and nothing further does.
 use Rattle.std.proofs.Common.{◌≡◌, ℕ, zero, suc, ◌+◌, ◌<◌, ◌≤◌, Bool, true, false, List, [], ◌∷◌, ◌++◌, length, Option, Some, None, Ok, Err, refl, sym, ap, ◌∙◌, append_assoc, arith, inl, inr}
-use Rattle.std.specs.Prelude.{codes, ◌⊎◌, ◌||◌, if◌then◌else◌}
+use Rattle.std.specs.Prelude.{◌⊎◌, if◌then◌else◌}
 use Rattle.std.proofs.lemmas.List.{length-append, append_cancel_right}
-use Rattle.notation_tokens.specs.Lexeme.{Lexeme, same, begins, goes_on}
-use Rattle.notation_tokens.specs.Words.{place, word_of, is_unsupported}
+use Rattle.notation_tokens.specs.Lexeme.{Lexeme, begins, goes_on}
+use Rattle.notation_tokens.specs.Words.{word_of}
 use Rattle.operation_notation.specs.Reading.{◌>>=◌, after, give, here, place_of, Failure, Read, taken, token_at, refuse, refuse_as, kind_at, word_at, many_at, all_at, behind, listed_at, maybe_at}
 use Rattle.notation_tokens.specs.declared.faults.NotationKind.{NotationKind}
-use Rattle.notation_tokens.specs.declared.faults.NotationKind.TheVariants.{Unsupported, UnexpectedToken}
-use Rattle.notation_tokens.specs.declared.token.Place.{Place}
 use Rattle.operation_notation.proofs.Means.{ok_is, after_ok, law_word}
 use Rattle.operation_notation.proofs.Leaves.{Leaves, left_by, no_cut, leaves_one, leaves_then, leaves_choice, leaves_all}
 

@@ -4,15 +4,13 @@ use Rattle.std.specs.Prelude.{◌||◌, ◌&&◌, is_some, unwrap_or, if◌then�
 use Rattle.std.proofs.lemmas.List.{length-append}
 use Rattle.osi_base.specs.Limits.{most_32, most_signed}
 use Rattle.notation_tokens.specs.Lexeme.{Lexeme, same, goes_on}
-use Rattle.notation_tokens.specs.Words.{place, word_of, is_type_name, is_value_name, number, number_of, int, int_of, end_word, end_of, bool_word, bool_of, type_name_of, value_name_of, arc_name_of, text_kind_word, text_kind_of}
-use Rattle.operation_notation.specs.Reading.{◌>>=◌, after, give, Read, taken, refuse, refuse_as, token_at, word_at, number_at, number_64_at, int_at, end_at, bool_at, type_name_at, value_name_at}
+use Rattle.notation_tokens.specs.Words.{is_type_name, is_value_name, number, number_of, int, int_of, end_word, end_of, bool_word, bool_of, type_name_of, value_name_of, arc_name_of, text_kind_word, text_kind_of}
+use Rattle.operation_notation.specs.Reading.{◌>>=◌, give, Read, refuse_as, token_at, word_at, number_at, number_64_at, int_at, end_at, bool_at, type_name_at, value_name_at}
 use Rattle.operation_notation.specs.ReadingTypes.{starts_name, root_word, text_kind, arc_name_at, bracketed_at, arc_at, alone_at, named_root_at, root_at, most_second, oid_at, range_at, size_at, item_at, items_at, class_at, explicit_at, tag_at, dflt_at, absence_at, absent_at, part_at, parts_at, alternatives_at, integer_at, octets_at, text_kind_at, named_at, text_or_name_at, leaf_at, sequence_at, set_at, choice_at, plain_at, type_text_at, starts_type, deep_kind, starts_mark, type_at, outer_type_at}
 use Rattle.operation_notation.specs.ReadingModules.{flag_at, flag_2_at, flag_or_at, passed_flag_at, use_at, maybe_use_at, names_at, named_list_at, priority_at, passed_priority_at, invoke_priority_at, local_at, global_at, code_value_at, code_at, maybe_code_at, signature_at, manner_at, operation_at, error_at, typed_at, opens_at, operation_body_at, error_body_at, body_at, valued_at, assignment_at, assignments_at, class_kind, imported_at, listed_imports_at, maybe_oid_at, imports_at, maybe_imports_at, tagging_at, heading_at, module_at, ended_at, whole_at}
-use Rattle.operation_notation.specs.GrammarTypes.{Extent, is_empty, mark_of, dflt_of, standing, optional, by_default}
+use Rattle.operation_notation.specs.GrammarTypes.{Extent, mark_of, dflt_of, standing, optional, by_default}
 use Rattle.operation_notation.specs.GrammarModules.{name_of, Module}
-use Rattle.operation_notation.specs.Tree.{TypeTree, type_tree, PlainTree, named, set}
-use Rattle.operation_notation.specs.TreeView.{parts_of}
-use Rattle.notation_tokens.specs.declared.token.Place.{Place}
+use Rattle.operation_notation.specs.Tree.{TypeTree, type_tree, named}
 use Rattle.notation_tokens.specs.declared.faults.NotationKind.{NotationKind}
 use Rattle.notation_tokens.specs.declared.faults.NotationKind.TheVariants.{Unsupported}
 use Rattle.notation_tokens.specs.declared.token.Located.{Located}
@@ -20,7 +18,7 @@ use Rattle.operation_notation.specs.declared.module.ModuleText.{ModuleText}
 use Rattle.operation_notation.proofs.Starts.{headed_takes}
 use Rattle.operation_notation.proofs.Leaves.{Leaves, no_cut}
 use Rattle.operation_notation.proofs.ModuleLaws.{law_assign, starts_assign, whole_only, assigned}
-use Rattle.operation_notation.proofs.Local.{Looks, Local, fault, kind_local, refuse_by, local_refuse, local_give, local_one, local_choice, local_peek, local_here, goes_on_far, lthen, lpick, lmaybe, lword, lbehind, local_counted, Takes, local_all, llisted, lmore}
+use Rattle.operation_notation.proofs.Local.{Local, fault, kind_local, refuse_by, local_refuse, local_give, local_one, local_choice, local_peek, local_here, goes_on_far, lthen, lpick, lmaybe, lword, lbehind, local_counted, Takes, local_all, llisted, lmore}
 
 l_number : (most : ℕ) → Local (number_at most)
 unfolding number_at number

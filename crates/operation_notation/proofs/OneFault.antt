@@ -1,8 +1,8 @@
 -- A text reads as a module or has one first fault, and never both.
 use Rattle.std.proofs.Common.{◌≡◌, ℕ, Bool, true, false, List, [], ◌∷◌, ◌++◌, length, Option, Some, None, Result, Ok, Err, refl, sym, ap, subst, ◌∙◌, append_assoc, arith, inl, inr}
-use Rattle.std.specs.Prelude.{◌⊎◌, ◌&&◌, codes, nat_lt, if◌then◌else◌}
+use Rattle.std.specs.Prelude.{◌⊎◌, nat_lt, if◌then◌else◌}
 use Rattle.osi_base.specs.Limits.{most_module_octets}
-use Rattle.notation_tokens.specs.Lexeme.{Lexeme, lexemes, same}
+use Rattle.notation_tokens.specs.Lexeme.{Lexeme, lexemes}
 use Rattle.notation_tokens.specs.Lexing.{lexed_of}
 use Rattle.notation_tokens.specs.Texts.{unless_stopped, too_long}
 use Rattle.notation_tokens.specs.declared.token_cutting.Lexed.{Lexed}

@@ -1,10 +1,10 @@
 -- Types one level too deep: each token with which a type begins goes on in the wide grammar, and no other does.
-use Rattle.std.proofs.Common.{codes, ◌≡◌, ℕ, zero, suc, Bool, true, false, List, [], ◌∷◌, ◌++◌, Some, None, Ok, refl, sym, ap, subst, ◌∙◌, append-nil, inl, inr}
+use Rattle.std.proofs.Common.{codes, ◌≡◌, ℕ, zero, suc, Bool, true, false, List, [], ◌∷◌, Some, None, Ok, refl, sym, subst, ◌∙◌, append-nil, inl, inr}
 use Rattle.std.proofs.lemmas.Bool.{or_cases}
 use Rattle.std.specs.Prelude.{if◌then◌else◌}
 use Rattle.std.specs.List.{AllByRecursion}
 use Rattle.notation_tokens.specs.Lexeme.{Lexeme, same}
-use Rattle.notation_tokens.specs.Words.{place, located, word_of, number, int, is_unsupported, is_value_name, type_name_of, value_name_of, text_kind_word}
+use Rattle.notation_tokens.specs.Words.{place, located, word_of, number, int, is_value_name, type_name_of, value_name_of, text_kind_word}
 use Rattle.notation_tokens.specs.Lexing.{first_place}
 use Rattle.operation_notation.specs.Reading.{Read, refuse_as, kind_at, word_at, number_at, int_at, value_name_at, many_at}
 use Rattle.operation_notation.specs.ReadingTypes.{item_at, items_at, class_at, explicit_at, tag_at, absence_at, absent_at, part_at, parts_at, alternatives_at, integer_at, octets_at, text_kind_at, text_or_name_at, leaf_at, sequence_at, set_at, choice_at, plain_at, type_text_at, type_words, starts_type, deep_kind, type_at, outer_type_at}
@@ -15,8 +15,8 @@ use Rattle.operation_notation.specs.ReadingModules.{whole_at}
 use Rattle.operation_notation.specs.Tree.{TypeTree, type_tree, null, named}
 use Rattle.notation_tokens.specs.declared.token.TokenKind.{TokenKind}
 use Rattle.notation_tokens.specs.declared.token.TokenKind.TheVariants.{Word, Number, Sign}
-use Rattle.notation_tokens.specs.declared.faults.NotationKind.TheVariants.{Unsupported, UnexpectedToken}
-use Rattle.operation_notation.proofs.Starts.{among, among_all, type_named, excludes_type_name}
+use Rattle.notation_tokens.specs.declared.faults.NotationKind.TheVariants.{Unsupported}
+use Rattle.operation_notation.proofs.Starts.{among, among_all, type_named}
 use Rattle.operation_notation.proofs.TypeLaws.{law_type, starts_type_behind}
 use Rattle.operation_notation.proofs.Begun.{AreFillers, Filled, Goes, KindOf, Begun, begun_refuse, word_passes}
 use Rattle.operation_notation.proofs.BegunRules.{b_type_text}

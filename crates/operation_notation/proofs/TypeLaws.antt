@@ -7,12 +7,11 @@ use Rattle.std.proofs.lemmas.Bool.{not-false, or_parts}
 use Rattle.osi_base.specs.Limits.{most_32, most_signed}
 use Rattle.notation_tokens.specs.Lexeme.{Lexeme, same, begins}
 use Rattle.notation_tokens.specs.Words.{number, number_of, end_of, int_of, type_name_of, value_name_of, text_kind_of, text_kind_word, located}
-use Rattle.operation_notation.specs.Reading.{◌>>=◌, give, Read, refuse, refuse_as, token_at, word_at, number_at, number_64_at, int_at, end_at, type_name_at, value_name_at, maybe_at, listed_at}
+use Rattle.operation_notation.specs.Reading.{◌>>=◌, give, Read, refuse_as, token_at, word_at, number_at, number_64_at, int_at, end_at, type_name_at, value_name_at, maybe_at, listed_at}
 use Rattle.operation_notation.specs.ReadingTypes.{range_at, size_at, item_at, items_at, class_at, explicit_at, tag_at, dflt_at, absence_at, absent_at, part_at, parts_at, alternatives_at, integer_at, octets_at, text_kind, text_kind_at, text_or_name_at, named_at, leaf_at, sequence_at, set_at, choice_at, plain_at, type_text_at, deep_kind, starts_mark, type_at, outer_type_at}
 use Rattle.operation_notation.specs.Grammar.{One, Then, Nothing, Either, Where, The, Listed, Placed}
 use Rattle.operation_notation.specs.GrammarTypes.{Range, Number64, Size, Item, Items, Class, Explicit, Tag, dflt_of, standing, optional, by_default, Absent, Part, Parts, Alternatives, Integer, OctetString, Text, Named, Leaf, Sequence, Set, Choice, Plain, TypeBehind, Type_of, OuterType, Extent, is_empty, mark_of}
-use Rattle.operation_notation.specs.Tree.{TypeTree, type_tree, PlainTree, null, named, text, set}
-use Rattle.operation_notation.specs.TreeView.{parts_of}
+use Rattle.operation_notation.specs.Tree.{TypeTree, type_tree, null, named, text}
 use Rattle.notation_tokens.specs.declared.faults.NotationKind.TheVariants.{Unsupported}
 use Rattle.notation_tokens.specs.declared.token.Place.{Place}
 use Rattle.notation_tokens.specs.declared.token.Located.{Located}

@@ -1,5 +1,5 @@
 -- What a text's first fault is, beside its grammar: what stands before it begins a module, and with it no module begins so.
-use Rattle.std.specs.Prelude.{◌≡◌, ◌<◌, ◌≤◌, ◌⊎◌, ℕ, true, false, List, [], ◌∷◌, ◌++◌, length, unwrap_or}
+use Rattle.std.specs.Prelude.{◌≡◌, ◌≤◌, ◌⊎◌, ℕ, true, List, [], ◌∷◌, ◌++◌, length, unwrap_or}
 use Rattle.std.specs.List.{AllByRecursion}
 use Rattle.osi_base.specs.Limits.{most_module_octets}
 use Rattle.notation_tokens.specs.Stops.{IsTextTooLong}

@@ -1,6 +1,6 @@
 -- The limits that definitions and contracts cite, each once, as literals: what each is, and where it comes from.
 -- A number of a format, as the code of a unit, stands with the format.
-use Rattle.std.specs.Prelude.{ℕ, ◌≤◌, ◌^◌}
+use Rattle.std.specs.Prelude.{ℕ, ◌≤◌}
 
 -- ---- integers and places (what those of the code hold)
 

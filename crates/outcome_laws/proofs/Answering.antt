@@ -1,5 +1,5 @@
 -- Outside reliable mode each outcome that an end is told is one that the other end wrote.
-use Rattle.std.proofs.Common.{◌≡◌, refl, true, false, inl, ◌∙◌, sym, ap, subst, ℕ, List, [], ◌∷◌, ◌++◌}
+use Rattle.std.proofs.Common.{◌≡◌, refl, true, false, inl, sym, ap, subst, ℕ, List, [], ◌∷◌, ◌++◌}
 use Rattle.std.specs.Prelude.{ℤ, Bool, not, ◌&&◌, ◌||◌, Option, Some, None, Ok, is_some, if◌then◌else◌}
 use Rattle.asn1_types.specs.declared.value.Val.{Val}
 use Rattle.osi_base.specs.declared.layer_words.SetItem.{SetItem}
@@ -28,15 +28,14 @@ use Rattle.end_model.specs.end_rules.Faults.{abort_of, transport_fault}
 use Rattle.end_model.specs.end_rules.Purging.{is_purged, is_transport_purged}
 use Rattle.end_model.specs.end_rules.Connecting.{has_acse, set_for, results_for, context_named, the_one, lacks_request, rejecting_information, transfer_rejection, is_refused, refusal_message, acceptance_message, answer_to_connect}
 use Rattle.end_model.specs.end_rules.Invoking.{carrier_in}
-use Rattle.end_model.specs.end_rules.Calling.{can_call, can_stop, can_resume}
-use Rattle.end_model.specs.end_rules.Hearing.{take_values}
+use Rattle.end_model.specs.end_rules.Calling.{can_call}
 use Rattle.end_model.specs.end_rules.Requesting.{sent_at_once, due_invoke, due_outcome, result_in, error_for, due_of}
-use Rattle.end_model.specs.end_rules.ByItself.{OwnAct, leads, next_in, next_own}
+use Rattle.end_model.specs.end_rules.ByItself.{OwnAct, next_in, next_own}
 use Rattle.end_model.specs.end_rules.TakesTransport.{is_size, answer_to_request, transport_unit_fault, answers_to_transport, shown_of_transport}
 use Rattle.end_model.specs.end_rules.TakesAssociation.{answers_to_association, shown_of_association}
-use Rattle.end_model.specs.end_rules.TakesData.{values_taken, answers_to_data, shown_of_data}
+use Rattle.end_model.specs.end_rules.TakesData.{values_taken, shown_of_data}
 use Rattle.end_model.specs.end_rules.TakesMarks.{mark_answer, answers_to_mark, shown_of_mark}
-use Rattle.end_model.specs.end_rules.Reacting.{Reaction, Passes, Takes, Fails, fails, answers_to_word, shown_of_word, contexts_of_word, fault_above, word_fault, on_word, react_to_word, on_transport, react_to_transport, react_to_session, react_alive, react}
+use Rattle.end_model.specs.end_rules.Reacting.{Reaction, Passes, Takes, Fails, fails, answers_to_word, shown_of_word, contexts_of_word, fault_above, word_fault, on_word, react_to_word, on_transport, react_to_session, react_alive, react}
 use Rattle.agreement.specs.Sets.{Role, other}
 use Rattle.agreement.specs.Sets.Role.{Initiator, Responder}
 use Rattle.end_model.specs.Acting.{as_list, invoked_as, apdus_of}
@@ -47,7 +46,7 @@ use Rattle.outcome_laws.specs.Exchanges.{rejects_in, still_after, Exchanges, exc
 use Rattle.outcome_laws.specs.Outcomes.{AreAnswers, OutcomesAreAnswers}
 use Rattle.outcome_laws.proofs.Words.{association-none, marks-none, settled-none, transport-none}
 use Rattle.outcome_laws.proofs.Once.{keeps, still-keeps}
-use Rattle.outcome_laws.proofs.Writers.{Within, within-more, Carries, AllCarry, all-on, all-append, answers-on, answers-append, quiet, TakenWell, values-taken}
+use Rattle.outcome_laws.proofs.Writers.{within-more, Carries, AllCarry, all-on, all-append, answers-on, answers-append, quiet, TakenWell, values-taken}
 
 -- ---- what is sent for a message that is taken
 

@@ -1,9 +1,8 @@
 -- What is heard: an outcome is told of an open invocation, and closes it.
-use Rattle.std.proofs.Common.{◌≡◌, refl, true, false, ◌∙◌, sym, ap, subst, ℕ, List, [], ◌∷◌, ◌++◌, map}
+use Rattle.std.proofs.Common.{◌≡◌, refl, true, false, sym, subst, ℕ, List, [], ◌∷◌, ◌++◌}
 use Rattle.std.proofs.lemmas.List.{append_assoc}
 use Rattle.std.specs.Prelude.{ℤ, Bool, not, ◌&&◌, Option, Some, None, is_some, if◌then◌else◌}
 use Rattle.osi_base.specs.declared.layer_words.Problem.{Problem}
-use Rattle.osi_base.specs.declared.layer_words.ProblemKind.{ProblemKind}
 use Rattle.osi_base.specs.declared.layer_words.ProblemKind.TheVariants as problems
 use Rattle.stub_tables.specs.declared.operation.Code.{Code}
 use Rattle.stub_tables.specs.declared.operation.Operation.{Operation}
@@ -15,7 +14,7 @@ use Rattle.end_model.specs.end_rules.Base.{Base, Carried, HeardHead, General, Ba
 use Rattle.end_model.specs.end_rules.Messages.{DataValue}
 use Rattle.end_model.specs.end_rules.State.{Body, OpenCall, Calls, is_empty, opened_with, close}
 use Rattle.end_model.specs.end_rules.Invoking.{carrier_in}
-use Rattle.end_model.specs.end_rules.Hearing.{Rejecting, Heard, rejected, showing, unless_problem, first_problem, problem_if, invoke_problem, invoked, is_right_result, result_problem, known_error_problem, hear_result_of, error_problem, showing_error, hear_error_of, is_of_invocation, hear_reject, hear, value_in, Taken, sent_on, queued, with_reject, shown_first, on_heard, take_head, head_of, take_values}
+use Rattle.end_model.specs.end_rules.Hearing.{Rejecting, Heard, rejected, showing, unless_problem, first_problem, problem_if, invoke_problem, invoked, is_right_result, result_problem, known_error_problem, hear_result_of, error_problem, showing_error, hear_error_of, is_of_invocation, hear_reject, hear, value_in, Taken, sent_on, queued, with_reject, on_heard, take_head, head_of, take_values}
 use Rattle.outcome_laws.specs.Exchanges.{Asked}
 use Rattle.outcome_laws.specs.Outcomes.{returns_at, has_error}
 use Rattle.outcome_laws.proofs.Shown.{notes_in}

@@ -4,11 +4,9 @@ use Rattle.std.specs.Prelude.{ℤ, length, Bool, not, ◌&&◌, nat_le, Option, 
 use Rattle.osi_base.specs.declared.layer_words.Problem.{Problem}
 use Rattle.osi_base.specs.declared.layer_words.ProblemKind.TheVariants as problems
 use Rattle.osi_base.specs.Limits.{most_open}
-use Rattle.end_model.specs.end_rules.Members.{IsIn}
 use Rattle.stub_tables.specs.declared.tables.Tables.{Tables}
 use Rattle.stub_tables.specs.declared.operation.Code.{Code}
 use Rattle.stub_tables.specs.Lookup.{operation_at, operation_with, error_with}
-use Rattle.dialogue.specs.declared.call.Call.{Call}
 use Rattle.dialogue.specs.declared.indication.Indication.{Indication}
 use Rattle.dialogue.specs.declared.indication.Indication.TheVariants as indications
 use Rattle.end_model.specs.end_rules.Base.{Base, Carried, HeardHead, General, BadReject, InvokeHead, ResultHead, ErrorHead, RejectHead, is_reliable}
@@ -16,7 +14,7 @@ use Rattle.end_model.specs.end_rules.Messages.{DataValue, Message, Transport, Se
 use Rattle.end_model.specs.end_rules.Messages.{ActivityWord, Start, Resume, End, EndAck, Interrupt, InterruptAck, Discard, DiscardAck}
 use Rattle.end_model.specs.end_rules.State.{Body, OpenCall, Calls, opens_of, opened_with, close}
 use Rattle.end_model.specs.end_rules.Invoking.{is_linked_to, operation_of}
-use Rattle.end_model.specs.end_rules.Hearing.{Rejecting, Heard, rejected, showing, unless_problem, first_problem, problem_if, has_links, is_silent_at, link_problem, argument_problem, operation_problem, invoke_problem, invoked, result_problem, hear_result_of, error_problem, showing_error, hear_error_of, is_of_invocation, hear_reject, hear, value_in, with_reject, take_head, head_of, take_values}
+use Rattle.end_model.specs.end_rules.Hearing.{Heard, rejected, showing, unless_problem, first_problem, problem_if, has_links, is_silent_at, link_problem, argument_problem, operation_problem, invoke_problem, invoked, result_problem, hear_result_of, error_problem, showing_error, hear_error_of, is_of_invocation, hear_reject, hear, value_in, with_reject, take_head, head_of, take_values}
 use Rattle.end_model.specs.end_rules.TakesTransport.{shown_of_transport}
 use Rattle.end_model.specs.end_rules.TakesAssociation.{shown_of_association}
 use Rattle.end_model.specs.end_rules.TakesData.{values_taken, shown_of_data}
@@ -28,10 +26,10 @@ use Rattle.agreement.specs.Sets.Role.{Initiator, Responder}
 use Rattle.end_model.specs.BothEnds.{Common, base_at, Two}
 use Rattle.reliable_model.specs.Ledgers.{Ledger}
 use Rattle.outcome_laws.specs.Exchanges.{Asked, asked_by, still_after, Exchanges, exchange_of, ReachedWithExchanges, begins, calls as asks, acts, takes, passes, fails as aborts_of_itself, breaks}
-use Rattle.outcome_laws.specs.Links.{Link, link_in, links_in, IsAllowedLink, AreAllowedLinks, LinksAreAllowed}
+use Rattle.outcome_laws.specs.Links.{Link, links_in, IsAllowedLink, AreAllowedLinks, LinksAreAllowed}
 use Rattle.outcome_laws.proofs.Shown.{in-later, notes_in, links-append, unnoted-links}
 use Rattle.outcome_laws.proofs.Open.{asked_in, Once, Found, found}
-use Rattle.outcome_laws.proofs.Hearing.{no-first, rest-none, with-reject, head-once}
+use Rattle.outcome_laws.proofs.Hearing.{rest-none, with-reject, head-once}
 use Rattle.outcome_laws.proofs.Words.{association-none, settled-none, marks-none, transport-none, lost-more, discard-none}
 use Rattle.outcome_laws.proofs.Once.{keeps, still-keeps, once}
 use Rattle.outcome_laws.proofs.Transferred.{shown_of, shows-so}

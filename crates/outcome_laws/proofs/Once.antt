@@ -1,5 +1,5 @@
 -- One outcome: whatever two ends reach, what is open wasn't told, and nothing was told twice.
-use Rattle.std.proofs.Common.{◌≡◌, refl, ◌∙◌, sym, ap, subst, ℕ, suc, List, [], ◌∷◌, ◌++◌}
+use Rattle.std.proofs.Common.{◌≡◌, refl, ◌∙◌, sym, subst, ℕ, suc, List, [], ◌∷◌, ◌++◌}
 use Rattle.std.specs.Prelude.{ℤ, pos, Bool, true, false, ◌||◌, Option, Some, None, Ok, if◌then◌else◌}
 use Rattle.asn1_types.specs.declared.value.Val.{Val}
 use Rattle.stub_tables.specs.declared.apdu.Apdu.{Apdu}
@@ -21,7 +21,7 @@ use Rattle.end_model.specs.end_rules.Connecting.{is_refused, recovers_in}
 use Rattle.end_model.specs.end_rules.Calling.{can_call}
 use Rattle.end_model.specs.end_rules.Requesting.{handed_in, invoking, after_invoke, answering, after_outcome, result_in, error_for, after_accepted, due_of, mark_sent, values_sent, after_sent_association, after_sent_data, after_sent_mark, after_sent_activity, after_sent_word, after_sent_transport, after_sent}
 use Rattle.end_model.specs.end_rules.ByItself.{OwnAct, SendsNow, EncodesOn}
-use Rattle.end_model.specs.end_rules.Reacting.{Reaction, Passes, Takes, Fails, react}
+use Rattle.end_model.specs.end_rules.Reacting.{Takes, Fails, react}
 use Rattle.end_model.specs.end_rules.History.{after_step, step_of, after_broke, off_line}
 use Rattle.agreement.specs.Sets.{Role}
 use Rattle.agreement.specs.Sets.Role.{Initiator, Responder}

@@ -1,6 +1,6 @@
 -- What was told and what is open: no invocation is in both, whatever opens and closes.
 use Rattle.std.proofs.Common.{inl, ◌≡◌, refl, true, false, ◌∙◌, sym, ap, subst, arith, ℕ, suc, List, [], ◌∷◌, ◌++◌}
-use Rattle.std.specs.Prelude.{ℤ, pos, negsuc, Bool, not, ◌&&◌, ◌||◌, Option, Some, None, is_some, if◌then◌else◌, nat_eq, nat_le}
+use Rattle.std.specs.Prelude.{ℤ, pos, negsuc, Bool, ◌&&◌, ◌||◌, Some, is_some, if◌then◌else◌, nat_le}
 use Rattle.std.specs.Ordering.{int_eq}
 use Rattle.std.specs.List.{list_any}
 use Rattle.std.proofs.lemmas.Bool.Decides.{nat_tests, Decides-int_eq}
@@ -13,7 +13,7 @@ use Rattle.dialogue.specs.declared.indication.Indication.{Indication}
 use Rattle.end_model.specs.end_rules.Base.{Base}
 use Rattle.end_model.specs.end_rules.State.{OpenCall, Calls, is_key, opened_with, closed, close, orphaned}
 use Rattle.end_model.specs.end_rules.Hearing.{is_silent_at, with_opened}
-use Rattle.end_model.proofs.Numbered.{opened-snoc, opened-closed, same-own, same-id, same-key, or-first, or-second, or-none}
+use Rattle.end_model.proofs.Numbered.{opened-snoc, opened-closed, same-own, same-id, same-key, or-first, or-second}
 use Rattle.outcome_laws.specs.Exchanges.{AreDistinct, Asked, outcome_in, outcomes_in}
 use Rattle.outcome_laws.specs.Outcomes.{IfOutcome, allows, Allowed, AreAllowed}
 use Rattle.outcome_laws.proofs.Shown.{in-later, outcomes-append, each-on, each-append, each-quiet, notes_in, unnoted}

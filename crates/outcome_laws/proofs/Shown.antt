@@ -1,5 +1,5 @@
 -- Outcomes among what is shown.
-use Rattle.std.proofs.Common.{inl, inr, ◌≡◌, refl, ◌∙◌, sym, ap, subst, List, [], ◌∷◌, ◌++◌}
+use Rattle.std.proofs.Common.{inr, ◌≡◌, refl, ◌∙◌, sym, ap, subst, List, [], ◌∷◌, ◌++◌}
 use Rattle.std.proofs.lemmas.List.{append_assoc}
 use Rattle.std.specs.Prelude.{ℤ}
 use Rattle.end_model.specs.end_rules.Members.{IsIn}

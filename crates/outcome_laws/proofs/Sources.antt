@@ -22,17 +22,17 @@ use Rattle.end_model.specs.end_rules.Messages.{MarkWord, Mark, MarkAck, Restart,
 use Rattle.end_model.specs.end_rules.State.{Body, OpenCall, Queued, Transfer, Sending, on_current, opened_with, cut_all, is_carrying, is_joined, passes_over}
 use Rattle.end_model.specs.end_rules.Purging.{is_purged, is_transport_purged}
 use Rattle.end_model.specs.end_rules.Invoking.{carrier_in}
-use Rattle.end_model.specs.end_rules.Hearing.{Rejecting, Heard, hear, queued, sent_on, with_reject, on_heard, take_head, head_of, take_values}
+use Rattle.end_model.specs.end_rules.Hearing.{Rejecting, hear, queued, sent_on, with_reject, take_head, head_of, take_values}
 use Rattle.end_model.specs.end_rules.Connecting.{is_refused, recovers_in, refused_connect, accepted_connect, begun_with}
 use Rattle.end_model.specs.end_rules.Faults.{transport_fault}
 use Rattle.end_model.specs.end_rules.TakesTransport.{transport_unit_fault, after_transport, shown_of_transport}
 use Rattle.end_model.specs.end_rules.TakesAssociation.{after_association, shown_of_association}
-use Rattle.end_model.specs.end_rules.TakesData.{with_parts, values_taken, settled, after_data, shown_of_data}
+use Rattle.end_model.specs.end_rules.TakesData.{with_parts, values_taken, settled, shown_of_data}
 use Rattle.end_model.specs.end_rules.TakesMarks.{marked_in, confirmed_in, with_turn, after_mark, shown_of_mark}
-use Rattle.end_model.specs.end_rules.TakesActivities.{received, handed_up, after_activity, shown_of_activity}
-use Rattle.end_model.specs.end_rules.Requesting.{queueing, handed_in, invoking, after_invoke, answering, after_outcome, result_in, error_for, after_accepted, due_of, begun, mark_sent, values_sent, after_sent_association, after_sent_data, after_sent_mark, after_sent_activity, after_sent_word, after_sent_transport, after_sent}
+use Rattle.end_model.specs.end_rules.TakesActivities.{received, handed_up, shown_of_activity}
+use Rattle.end_model.specs.end_rules.Requesting.{handed_in, invoking, after_invoke, answering, after_outcome, result_in, error_for, after_accepted, due_of, begun, mark_sent, values_sent, after_sent_association, after_sent_data, after_sent_mark, after_sent_activity, after_sent_transport, after_sent}
 use Rattle.end_model.specs.end_rules.ByItself.{OwnAct, SendsNow, EncodesOn}
-use Rattle.end_model.specs.end_rules.Reacting.{Reaction, Passes, Takes, Fails, fails, after_word, shown_of_word, fault_above, word_fault, on_word, react_to_word, on_transport, react_to_transport, react_to_session, react_alive, react}
+use Rattle.end_model.specs.end_rules.Reacting.{Reaction, Passes, Takes, Fails, fails, after_word, shown_of_word, fault_above, word_fault, on_word, on_transport, react_to_session, react_alive, react}
 use Rattle.end_model.specs.end_rules.History.{after_step, step_of, after_broke, off_line}
 use Rattle.osi_base.specs.declared.layer_words.SetItem.{SetItem}
 use Rattle.end_model.specs.end_rules.Encodings.{Encoding}

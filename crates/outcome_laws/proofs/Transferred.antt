@@ -1,7 +1,6 @@
 -- In reliable mode an outcome comes with a transfer, which brings what the other end encoded, and so wrote.
 use Rattle.std.proofs.Common.{◌≡◌, refl, true, false, ◌∙◌, sym, ap, subst, ℕ, List, [], ◌∷◌, ◌++◌}
-use Rattle.std.specs.Prelude.{ℤ, Bool, not, ◌||◌, Option, Some, None, Result, Ok, Err, if◌then◌else◌}
-use Rattle.osi_base.specs.declared.layer_words.SetItem.{SetItem}
+use Rattle.std.specs.Prelude.{Bool, not, ◌||◌, Option, Some, None, Result, Ok, Err, if◌then◌else◌}
 use Rattle.end_model.specs.end_rules.Encodings.{Encoding, IsNewest}
 use Rattle.end_model.specs.end_rules.Members.{IsIn}
 use Rattle.stub_tables.specs.declared.tables.Tables.{Tables}
@@ -20,8 +19,8 @@ use Rattle.end_model.specs.end_rules.TakesTransport.{transport_unit_fault, shown
 use Rattle.end_model.specs.end_rules.TakesAssociation.{shown_of_association}
 use Rattle.end_model.specs.end_rules.TakesData.{values_taken, shown_of_data}
 use Rattle.end_model.specs.end_rules.TakesMarks.{shown_of_mark}
-use Rattle.end_model.specs.end_rules.TakesActivities.{received, arrived_now, arrived_value, values_arrived, handed_up, taken_at_end, shown_of_activity}
-use Rattle.end_model.specs.end_rules.Reacting.{Reaction, Passes, Takes, Fails, fails, shown_of_word, fault_above, word_fault, on_word, react_to_word, on_transport, react_to_session, react_alive, react}
+use Rattle.end_model.specs.end_rules.TakesActivities.{received, arrived_now, arrived_value, values_arrived, taken_at_end, shown_of_activity}
+use Rattle.end_model.specs.end_rules.Reacting.{Reaction, Passes, Takes, Fails, fails, shown_of_word, fault_above, word_fault, on_word, on_transport, react_to_session, react_alive, react}
 use Rattle.agreement.specs.Sets.{Role, other}
 use Rattle.agreement.specs.Sets.Role.{Initiator, Responder}
 use Rattle.end_model.specs.Seen.{Free}
@@ -36,7 +35,6 @@ use Rattle.outcome_laws.specs.Exchanges.{rejects_in, still_after, Exchanges, exc
 use Rattle.outcome_laws.specs.Outcomes.{AreAnswers}
 use Rattle.outcome_laws.specs.Transferred.{TransferredAnswers}
 use Rattle.outcome_laws.proofs.Words.{association-none, settled-none, marks-none, transport-none, lost-more, discard-none}
-use Rattle.outcome_laws.proofs.Once.{keeps, still-keeps}
 use Rattle.outcome_laws.proofs.Writers.{within-more, answers-on, answers-append, quiet, values-show}
 use Rattle.outcome_laws.proofs.Places.{exchanges-reached}
 use Rattle.outcome_laws.proofs.Sources.{EncodedIn, Source, source}

@@ -1,8 +1,6 @@
 -- What an end does with a message tells outcomes of its open invocations alone, and closes them.
 use Rattle.std.proofs.Common.{◌≡◌, refl, true, false, ◌∙◌, sym, ap, subst, ℕ, List, [], ◌∷◌, ◌++◌, map}
-use Rattle.std.proofs.lemmas.List.{append-nil}
-use Rattle.std.specs.Prelude.{ℤ, Bool, not, ◌||◌, Option, Some, None, is_some, if◌then◌else◌, Result, Ok, Err}
-use Rattle.osi_base.specs.declared.layer_words.SetItem.{SetItem}
+use Rattle.std.specs.Prelude.{ℤ, Bool, not, ◌||◌, Option, Some, None, is_some, if◌then◌else◌}
 use Rattle.osi_base.specs.declared.layer_words.Answers.{Answers}
 use Rattle.osi_base.specs.declared.session_word.SessionConnect.{SessionConnect}
 use Rattle.osi_base.specs.declared.presentation_word.PresentationConnect.{PresentationConnect}
@@ -16,17 +14,17 @@ use Rattle.end_model.specs.end_rules.Messages.{DataValue, Message, Transport, Se
 use Rattle.end_model.specs.end_rules.Messages.{AssociationWord, Connect, Accept, Refuse, Finish, Disconnect, Abort, AbortAccept, DataWord, Values, AlterContext, AlterContextAck}
 use Rattle.end_model.specs.end_rules.Messages.{MarkWord, Mark, MarkAck, Restart, RestartAck, Give, Please, GiveConfirm, GiveAck, ActivityWord, Start, Resume, End, EndAck, Interrupt, InterruptAck, Discard, DiscardAck}
 use Rattle.end_model.specs.end_rules.Messages.{unit_of}
-use Rattle.end_model.specs.end_rules.State.{Body, OpenCall, Calls, is_broken, is_carrying, is_joined, opened_with, close, passes_over, post_order}
+use Rattle.end_model.specs.end_rules.State.{Body, OpenCall, Calls, is_broken, is_carrying, is_joined, opened_with, passes_over, post_order}
 use Rattle.end_model.specs.end_rules.Faults.{cut_of, cuts, losses, transport_fault}
 use Rattle.end_model.specs.end_rules.Writing.{is_recovering}
 use Rattle.end_model.specs.end_rules.Purging.{is_purged, is_transport_purged}
-use Rattle.end_model.specs.end_rules.Connecting.{is_refused, recovers_in, refused_connect, accepted_connect, begun_with, joined_with, shown_opening, set_for, agreed_for}
+use Rattle.end_model.specs.end_rules.Connecting.{is_refused, recovers_in, refused_connect, accepted_connect, begun_with, shown_opening}
 use Rattle.end_model.specs.end_rules.TakesAssociation.{aborted_by_peer, shown_of_association}
 use Rattle.end_model.specs.end_rules.TakesTransport.{transport_unit_fault, after_transport, shown_of_transport}
 use Rattle.end_model.specs.end_rules.TakesData.{with_parts, values_taken, settled, shown_settled, shown_of_data}
 use Rattle.end_model.specs.end_rules.TakesMarks.{marked_in, mark_shown, confirmed_in, with_turn, shown_turn, priority_in, shown_plea, shown_please, shown_of_mark}
 use Rattle.end_model.specs.end_rules.TakesActivities.{invocation_in, cut_invocation, shown_cut, received, handed_up, shown_of_activity}
-use Rattle.end_model.specs.end_rules.Reacting.{Reaction, Passes, Takes, Fails, fails, after_word, shown_of_word, fault_above, word_fault, contexts_of_word, on_word, react_to_word, on_transport, react_to_transport, react_to_session, react_alive, react}
+use Rattle.end_model.specs.end_rules.Reacting.{Reaction, Passes, Takes, Fails, fails, after_word, shown_of_word, fault_above, word_fault, on_word, react_to_word, on_transport, react_to_session, react_alive, react}
 use Rattle.outcome_laws.specs.Exchanges.{Asked, kept_unless, still_after}
 use Rattle.outcome_laws.proofs.Open.{Once, once-new, once-still, once-cut, once-close}
 use Rattle.outcome_laws.proofs.Shown.{notes_in, notes-append}

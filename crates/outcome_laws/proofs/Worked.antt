@@ -1,5 +1,5 @@
 -- The worked history, step by step.
-use Rattle.std.proofs.Common.{refl, [], ◌∷◌}
+use Rattle.std.proofs.Common.{refl}
 use Rattle.std.specs.Prelude.{pos, Some, None}
 use Rattle.dialogue.specs.declared.call.Call.TheVariants as the_calls
 use Rattle.agreement.specs.Sets.Role.{Initiator, Responder}

@@ -15,10 +15,10 @@ use Rattle.stub_tables.specs.Lookup.{operation_at, operation_with, error_with}
 use Rattle.dialogue.specs.declared.indication.Indication.{Indication}
 use Rattle.dialogue.specs.declared.indication.Indication.TheVariants as indications
 use Rattle.end_model.specs.end_rules.Base.{Base, Carried, HeardHead, is_reliable}
-use Rattle.end_model.specs.end_rules.Messages.{ValueContent, Remote, DataValue, Message, Transport, Session, Word, OfAssociation, OfData, OfMarks, OfActivities, Values, AlterContext, AlterContextAck}
+use Rattle.end_model.specs.end_rules.Messages.{ValueContent, Remote, DataValue, Message, Transport, Session, OfAssociation, OfData, OfMarks, OfActivities, Values, AlterContext, AlterContextAck}
 use Rattle.end_model.specs.end_rules.State.{Body, OpenCall, Calls, opened_with, close}
 use Rattle.end_model.specs.end_rules.Invoking.{carrier_in}
-use Rattle.end_model.specs.end_rules.Hearing.{Rejecting, Heard, rejected, showing, unless_problem, invoke_problem, invoked, result_problem, hear_result_of, error_problem, showing_error, hear_error_of, is_of_invocation, hear_reject, hear, carried_in, code_returned, value_returned, value_in, head_of_apdu, Taken, sent_on, queued, with_reject, on_heard, take_head, head_of, take_values}
+use Rattle.end_model.specs.end_rules.Hearing.{Rejecting, Heard, rejected, showing, unless_problem, invoke_problem, invoked, result_problem, hear_result_of, error_problem, showing_error, hear_error_of, is_of_invocation, hear_reject, hear, carried_in, code_returned, value_returned, value_in, head_of_apdu, sent_on, queued, with_reject, take_head, head_of, take_values}
 use Rattle.outcome_laws.specs.Exchanges.{reject_in, rejects_in}
 use Rattle.outcome_laws.specs.Outcomes.{value_of, Answered, AreAnswers}
 use Rattle.outcome_laws.proofs.Shown.{in-later, each-on, each-append, each-quiet, notes_in, unnoted}

@@ -1,5 +1,5 @@
 -- Two ends of every mode, with what each handed in and which outcomes it was told (X.880 8, 9).
-use Rattle.std.specs.Prelude.{◌≡◌, ℕ, ℤ, List, [], ◌∷◌, ◌++◌, Bool, true, false, ◌||◌, if◌then◌else◌, Option, Some, Ok}
+use Rattle.std.specs.Prelude.{◌≡◌, ℕ, ℤ, List, [], ◌∷◌, ◌++◌, Bool, false, ◌||◌, if◌then◌else◌, Option, Some, Ok}
 use Rattle.std.specs.Ordering.{int_eq}
 use Rattle.std.specs.List.{list_any}
 use Rattle.stub_tables.specs.declared.tables.Tables.{Tables}
@@ -18,7 +18,7 @@ use Rattle.end_model.specs.end_rules.Requesting.{due_of}
 use Rattle.end_model.specs.end_rules.ByItself.{OwnAct, next_own}
 use Rattle.end_model.specs.end_rules.Reacting.{Passes, Takes, Fails, react}
 use Rattle.end_model.specs.end_rules.History.{after_step, step_of}
-use Rattle.agreement.specs.Sets.{Role, other}
+use Rattle.agreement.specs.Sets.{Role}
 use Rattle.agreement.specs.Sets.Role.{Initiator, Responder}
 use Rattle.end_model.specs.Acting.{apdus_of}
 use Rattle.end_model.specs.Requests.{after_called}

@@ -1,13 +1,12 @@
 -- A worked history of two ends of bare mode: one invokes, the other answers, and the first is told of it once.
-use Rattle.std.specs.Prelude.{◌≡◌, ℤ, pos, List, [], ◌∷◌, true, false, None}
+use Rattle.std.specs.Prelude.{◌≡◌, pos, [], ◌∷◌, true, false, None}
 use Rattle.stub_tables.specs.declared.apdu.Apdu.TheVariants as apdus
 use Rattle.stub_tables.specs.declared.operation.Code.TheVariants.{Local}
 use Rattle.dialogue.specs.declared.config.Mode.TheVariants.{Bare}
 use Rattle.end_model.specs.end_rules.Cases.{calc, plain_spellings, config_of}
-use Rattle.end_model.specs.end_rules.Messages.{Message}
 use Rattle.end_model.specs.BothEnds.{Common, Two}
 use Rattle.reliable_model.specs.Ledgers.{Ledger}
-use Rattle.outcome_laws.specs.Exchanges.{outcomes_in, Asked, Exchanges, ReachedWithExchanges}
+use Rattle.outcome_laws.specs.Exchanges.{outcomes_in, Exchanges, ReachedWithExchanges}
 
 abbrev pub bare_calc : Common
 bare_calc =

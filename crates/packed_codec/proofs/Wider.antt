@@ -1,23 +1,21 @@
 -- Under a larger limit all stays but what was too long.
-use Rattle.std.proofs.Common.{◌++◌, ◌≡◌, ◌≢◌, sym, ap, ◌∙◌, ◌<◌, ℕ, zero, suc, ◌+◌, ◌≤◌, Bool, true, false, cond, List, [], ◌∷◌, length, take, Option, Some, None, Ok, Err, refl, subst, arith, inl, inr}
+use Rattle.std.proofs.Common.{◌++◌, ◌≡◌, ◌≢◌, sym, ap, ◌∙◌, ◌<◌, ℕ, zero, suc, ◌+◌, ◌≤◌, Bool, true, false, cond, List, [], ◌∷◌, length, Option, Some, None, Ok, Err, refl, arith}
 use Rattle.std.specs.Prelude.{nat_lt, nat_eq, slice_get}
-use Rattle.std.proofs.lemmas.Bool.{lt-ltb, le-ltb, ltb-false}
-use Rattle.std.proofs.lemmas.List.{length-drop}
+use Rattle.std.proofs.lemmas.Bool.{le-ltb, ltb-false}
 use Rattle.asn1_types.specs.declared.row.Part.{Part}
 use Rattle.asn1_types.specs.declared.row.TypeRow.{TypeRow}
 use Rattle.asn1_types.specs.declared.row.TypeRow.TheVariants as row
 use Rattle.asn1_types.specs.Rows.{of_row, along}
 use Rattle.asn1_types.specs.Value.{Value}
-use Rattle.asn1_types.specs.Defaults.{may_be_absent, is_default}
+use Rattle.asn1_types.specs.Defaults.{may_be_absent}
 use Rattle.packed_codec.specs.declared.fault.PackedFault.TheVariants as faults
 use Rattle.packed_codec.specs.Reading.{Spot, Reading, ◌>>=◌, within}
-use Rattle.packed_codec.specs.Fields.{moved, announced_at, field_at, octet_at, count_at}
+use Rattle.packed_codec.specs.Fields.{announced_at, field_at, octet_at, count_at}
 use Rattle.packed_codec.specs.Numbers.{is_size}
 use Rattle.packed_codec.specs.Laws.{WiderStays, WiderIsLong}
 use Rattle.packed_codec.proofs.Reach.{used_within}
-use Rattle.packed_codec.specs.Rules.{start, reads, read_at, Reader, some_or_refuse, boolean_rule, boolean_at, null_at, sized_at, number_at, string_at, bits_at, bits_size, bits_rule, present_at, marked_at, part_at, parts_at, sequence_at, items_at, spent, list_at, alternative_at, choice_at, dead, read_by, set_item_at, set_items_at, set_of_at}
+use Rattle.packed_codec.specs.Rules.{start, reads, read_at, Reader, boolean_at, null_at, sized_at, number_at, string_at, bits_at, bits_size, bits_rule, present_at, marked_at, part_at, parts_at, sequence_at, items_at, spent, list_at, alternative_at, choice_at, dead, read_by, set_item_at, set_items_at, set_of_at}
 use Rattle.asn1_types.specs.Writing.{written}
-use Rattle.asn1_types.specs.Rising.{behind_last}
 
 -- what was read, and what is read under a larger limit
 abbrev Wider : {A : Type 0} → Reading A → Reading A → Type 0

@@ -1,5 +1,5 @@
 -- What each row is read as, from what the rows that it names are read as.
-use Rattle.std.specs.Prelude.{ℕ, zero, suc, ◌-◌, ℤ, Bool, true, false, not, ◌&&◌, ◌||◌, Option, Some, None, option_map, List, [], ◌∷◌, ◌++◌, length, Ok, nat_lt, nat_le, nat_eq, slice_get, if◌then◌else◌}
+use Rattle.std.specs.Prelude.{ℕ, zero, suc, ◌-◌, ℤ, Bool, true, false, not, ◌||◌, Option, Some, None, option_map, List, [], ◌∷◌, ◌++◌, length, Ok, nat_lt, nat_le, nat_eq, slice_get, if◌then◌else◌}
 use Rattle.osi_base.specs.Limits.{most_items}
 use Rattle.asn1_types.specs.declared.row.Part.{Part}
 use Rattle.asn1_types.specs.declared.row.TextKind.{TextKind}

@@ -17,9 +17,9 @@ use Rattle.passed_fields.specs.declared.field.Holds.{Holds}
 use Rattle.passed_fields.specs.declared.field.Holds.TheVariants as holds
 use Rattle.passed_fields.specs.Passing.{are_optional, nones}
 use Rattle.passed_fields.specs.Reading.{tag_of, fields_done}
-use Rattle.passed_fields.specs.Spelling.{HasTag, HeldIs, KnownStep, PassedStep, FieldStep, FieldsAre}
+use Rattle.passed_fields.specs.Spelling.{HasTag, HeldIs, KnownStep, FieldStep, FieldsAre}
 use Rattle.passed_fields.proofs.MoreTurns.{turns_fewer}
-use Rattle.passed_fields.proofs.PlainFields.{FieldsStand, IsPart}
+use Rattle.passed_fields.proofs.PlainFields.{FieldsStand}
 
 module _ (rows : List TypeRow) (sound : AreSoundRows rows) where
   -- ---- one field after the other

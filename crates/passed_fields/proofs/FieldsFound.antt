@@ -1,5 +1,5 @@
 -- Fields: what is read is spelled so.
-use Rattle.std.proofs.Common.{◌≡◌, ℕ, zero, suc, ◌-◌, ◌+◌, ◌<◌, Bool, true, false, ◌&&◌, List, [], ◌∷◌, ◌++◌, length, take, drop, Option, Some, None, Ok, Err, refl, sym, ap, ◌∙◌, subst, arith, append_assoc, inl, inr}
+use Rattle.std.proofs.Common.{◌≡◌, ℕ, suc, ◌-◌, ◌+◌, ◌<◌, Bool, true, false, ◌&&◌, List, [], ◌∷◌, ◌++◌, length, take, drop, Option, Some, None, Ok, Err, refl, sym, ap, ◌∙◌, subst, arith, append_assoc, inl, inr}
 use Rattle.std.specs.Prelude.{nat_lt, nat_le, nat_eq, if◌then◌else◌}
 use Rattle.std.proofs.lemmas.Bool.{and_parts, ltb-true, eqb-true}
 use Rattle.osi_base.specs.declared.layer_words.Kind.TheVariants.{Missing, Extra}
@@ -14,8 +14,8 @@ use Rattle.ber_spelling.specs.declared.spot.Scope.{Scope}
 use Rattle.asn1_types.specs.declared.row.Tag as tags
 use Rattle.osi_base.specs.Octets.{AreOctets}
 use Rattle.ber_spelling.specs.Fields.{identifier_at}
-use Rattle.ber_spelling.specs.Reading.{Spot, Reading, Opened}
-use Rattle.ber_spelling.specs.Rules.{plain, reads, list_item_at, all_items_at, constructed_at, any_at, whole_at}
+use Rattle.ber_spelling.specs.Reading.{Spot, Opened}
+use Rattle.ber_spelling.specs.Rules.{plain, reads, list_item_at, whole_at}
 use Rattle.ber_spelling.specs.Spelling.{AnyIs, ListStep, ItemsAre, SpelledBy, IsConstructed}
 use Rattle.ber_spelling.proofs.Identifiers.{bind_ok, chosen_ok, ok_is, done}
 use Rattle.ber_spelling.proofs.Steady.{ReadAs, Found, same_classes}
@@ -29,9 +29,9 @@ use Rattle.passed_fields.specs.declared.field.Field as known
 use Rattle.passed_fields.specs.declared.field.Passed as over
 use Rattle.passed_fields.specs.declared.field.Holds.{Holds}
 use Rattle.passed_fields.specs.declared.field.Holds.TheVariants as holds
-use Rattle.passed_fields.specs.Passing.{is_of, are_optional, nones, is_over, settled_behind, settled_by, or_else, passes}
-use Rattle.passed_fields.specs.Reading.{some_done, some_items_at, some_at, tag_of, held_by, known_at, pass_at, field_by, field_at, fields_done, fields_at, fielded_at}
-use Rattle.passed_fields.specs.Spelling.{HasTag, SomeItems, HeldIs, KnownStep, PassedStep, FieldStep, FieldsAre, FieldedIs}
+use Rattle.passed_fields.specs.Passing.{is_of, are_optional, nones, is_over, settled_behind, or_else, passes}
+use Rattle.passed_fields.specs.Reading.{some_done, some_items_at, some_at, tag_of, held_by, known_at, field_by, field_at, fields_done, fields_at, fielded_at}
+use Rattle.passed_fields.specs.Spelling.{HasTag, SomeItems, HeldIs, KnownStep, FieldStep, FieldsAre, FieldedIs}
 use Rattle.passed_fields.proofs.Tags.{headed_some, constructed_some, whole_some, text_tag}
 
 module _ (rows : List TypeRow) where

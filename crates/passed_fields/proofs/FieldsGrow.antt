@@ -1,11 +1,11 @@
 -- Fields: what was read stays so, whatever octets follow.
-use Rattle.std.proofs.Common.{◌≡◌, ℕ, List, [], ◌∷◌, ◌++◌, length, drop, Option, Some, None, Ok, refl}
+use Rattle.std.proofs.Common.{ℕ, List, [], ◌∷◌, ◌++◌, length, drop, Option, Some, None, refl}
 use Rattle.asn1_types.specs.declared.row.TypeRow.{TypeRow}
 use Rattle.asn1_types.specs.Value.{Value}
 use Rattle.ber_spelling.specs.declared.spot.Scope.{Scope}
 use Rattle.asn1_types.specs.declared.row.Tag as tags
 use Rattle.ber_spelling.specs.Reading.{Spot, Opened}
-use Rattle.ber_spelling.specs.Rules.{plain, reads, list_item_at, any_at, whole_at}
+use Rattle.ber_spelling.specs.Rules.{plain, reads, list_item_at, whole_at}
 use Rattle.ber_spelling.proofs.Growing.{grown, grown_opened, Grows, Grows-bind, Grows-cond, with_spot}
 use Rattle.ber_spelling.proofs.GrowingRules.{any_grows, along_grows}
 use Rattle.ber_spelling.proofs.WholeReads.{whole_grows}
@@ -14,7 +14,7 @@ use Rattle.passed_fields.specs.declared.field.Field as known
 use Rattle.passed_fields.specs.declared.field.Passed as over
 use Rattle.passed_fields.specs.declared.field.Holds.{Holds}
 use Rattle.passed_fields.specs.declared.field.Holds.TheVariants as holds
-use Rattle.passed_fields.specs.Passing.{is_of, nones, passes}
+use Rattle.passed_fields.specs.Passing.{is_of, passes}
 use Rattle.passed_fields.specs.Reading.{some_done, some_items_at, some_at, tag_of, held_by, known_at, field_by, field_at, fields_done, fields_at, fielded_at}
 
 module _ (rows : List TypeRow) where

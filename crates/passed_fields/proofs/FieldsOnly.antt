@@ -1,16 +1,16 @@
 -- Fields: what is spelled so is read.
-use Rattle.std.proofs.Common.{◌≡◌, ℕ, zero, suc, ◌-◌, ◌+◌, ◌<◌, Bool, true, false, not, ◌&&◌, cond, List, [], ◌∷◌, ◌++◌, length, take, drop, Option, Some, None, Ok, Err, refl, sym, ap, ◌∙◌, subst, arith, append_assoc, inl, inr}
+use Rattle.std.proofs.Common.{◌≡◌, ℕ, zero, suc, ◌+◌, ◌<◌, Bool, true, false, not, ◌&&◌, List, [], ◌∷◌, ◌++◌, length, take, drop, Option, Some, None, Ok, refl, sym, ap, ◌∙◌, subst, append_assoc, inl, inr}
 use Rattle.std.specs.Prelude.{slice_get}
 use Rattle.std.proofs.lemmas.Bool.{and_parts}
 use Rattle.asn1_types.specs.declared.row.Class.{Class}
 use Rattle.asn1_types.specs.declared.row.TypeRow.{TypeRow}
-use Rattle.asn1_types.specs.Rows.{is_no_tag, same_class}
+use Rattle.asn1_types.specs.Rows.{is_no_tag}
 use Rattle.asn1_types.specs.Table.{AreSoundRows}
 use Rattle.asn1_types.specs.Value.{Value}
 use Rattle.ber_spelling.specs.declared.spot.Scope.{Scope}
 use Rattle.asn1_types.specs.declared.row.Tag as tags
 use Rattle.ber_spelling.specs.Reading.{Spot, Reading, Opened}
-use Rattle.ber_spelling.specs.Rules.{plain, reads, list_item_at, all_items_at, constructed_at, any_at, whole_at}
+use Rattle.ber_spelling.specs.Rules.{plain, reads, list_item_at, any_at, whole_at}
 use Rattle.ber_spelling.specs.Spelling.{AnyIs, ListStep, ItemsAre, SpelledBy, IsConstructed}
 use Rattle.ber_spelling.proofs.Identifiers.{IsIn}
 use Rattle.ber_spelling.proofs.Steady.{RunOf, ReadBack, Only, only_wider, OfTag, class_itself, eqb_itself}
@@ -25,9 +25,9 @@ use Rattle.passed_fields.specs.declared.field.Passed as over
 use Rattle.passed_fields.specs.declared.field.Holds.{Holds}
 use Rattle.passed_fields.specs.declared.field.Holds.TheVariants as holds
 use Rattle.passed_fields.specs.Known.{is_kept, has_other_tag, are_apart}
-use Rattle.passed_fields.specs.Passing.{is_of, are_optional, nones, is_over, settled_by, or_else, passes}
-use Rattle.passed_fields.specs.Reading.{some_done, some_items_at, some_at, tag_of, held_by, known_at, field_by, field_at, fields_done, fields_at, fielded_at}
-use Rattle.passed_fields.specs.Spelling.{HasTag, SomeItems, HeldIs, KnownStep, PassedStep, FieldStep, FieldsAre, FieldedIs}
+use Rattle.passed_fields.specs.Passing.{is_of, are_optional, nones, is_over, passes}
+use Rattle.passed_fields.specs.Reading.{some_done, some_items_at, some_at, tag_of, held_by, known_at, field_at, fields_done, fields_at, fielded_at}
+use Rattle.passed_fields.specs.Spelling.{HasTag, SomeItems, HeldIs, FieldStep, FieldsAre, FieldedIs}
 use Rattle.passed_fields.proofs.Tags.{tag_opens}
 
 abbrev Whatever : Class → ℕ → Type 0

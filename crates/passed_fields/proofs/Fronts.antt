@@ -1,7 +1,7 @@
 -- Values that all of the octets are: what is read is spelled so, what is spelled so is read, and a fault is the first.
-use Rattle.std.proofs.Common.{◌≡◌, ◌≢◌, ℕ, ◌+◌, ◌≤◌, ◌<◌, Bool, true, false, cond, List, [], ◌∷◌, ◌++◌, length, take, drop, Result, Ok, Err, None, refl, sym, ap, ◌∙◌, subst, arith, length-append}
+use Rattle.std.proofs.Common.{◌≡◌, ◌≢◌, ℕ, ◌+◌, ◌≤◌, ◌<◌, Bool, true, false, cond, List, [], ◌++◌, length, take, drop, Result, Ok, Err, refl, sym, ap, ◌∙◌, subst, arith}
 use Rattle.std.specs.Prelude.{nat_eq}
-use Rattle.std.proofs.lemmas.Bool.{eqb-true, eqb-false}
+use Rattle.std.proofs.lemmas.Bool.{eqb-true}
 use Rattle.std.proofs.lemmas.List.{append-nil, take_at, take-append-drop, length-take}
 use Rattle.std.proofs.Math.Seq.{take-length}
 use Rattle.osi_base.specs.declared.layer_words.Kind.{Kind}
@@ -9,10 +9,9 @@ use Rattle.osi_base.specs.declared.layer_words.Kind.TheVariants.{Missing, Extra}
 use Rattle.osi_base.specs.declared.layer_words.Kind.TheVariants as why
 use Rattle.asn1_types.specs.declared.row.Class.{Class}
 use Rattle.asn1_types.specs.Value.{Value}
-use Rattle.ber_spelling.specs.declared.fault.ReadFault.{ReadFault}
 use Rattle.ber_spelling.specs.declared.fault.ReadFault.TheVariants as faults
 use Rattle.osi_base.specs.Octets.{AreOctets}
-use Rattle.ber_spelling.specs.Reading.{Spot, Opened, Reading, ◌>>=◌}
+use Rattle.ber_spelling.specs.Reading.{Spot, Reading}
 use Rattle.ber_spelling.specs.Fields.{identifier_at}
 use Rattle.ber_spelling.specs.Rules.{outermost}
 use Rattle.ber_spelling.proofs.Identifiers.{IsIn, bind_ok, ok_is}
@@ -23,7 +22,6 @@ use Rattle.ber_spelling.proofs.Inside.{Inside, Inside-bind, second, Begun, ident
 use Rattle.ber_spelling.proofs.InsideRules.{InsideRun}
 use Rattle.fixed_tables.specs.declared.pdu.PduFault as units
 use Rattle.fixed_tables.specs.declared.pdu.PduFault.TheVariants as unit
-use Rattle.fixed_tables.specs.Faults.{fault_in}
 use Rattle.fixed_tables.specs.Whole.{of_whole}
 use Rattle.passed_fields.specs.AllOctets.{front_at, all_at, IsFirstOf}
 

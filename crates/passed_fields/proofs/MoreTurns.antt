@@ -8,15 +8,13 @@ use Rattle.asn1_types.specs.declared.row.Class.TheVariants.{Universal}
 use Rattle.std.specs.List.{AllByRecursion}
 use Rattle.asn1_types.specs.Rows.{rows_of_parts, names_of}
 use Rattle.asn1_types.specs.Table.{AreSoundRows}
-use Rattle.asn1_types.proofs.Along.{IsDown}
 use Rattle.asn1_types.proofs.Sound.{is_down}
 use Rattle.asn1_types.specs.Value.{Value, parts, chosen, MaybeValues, no_parts, absent, present}
 use Rattle.asn1_types.specs.declared.row.Tag as tags
-use Rattle.ber_spelling.specs.Order.{Filled}
 use Rattle.asn1_types.specs.Tags.{tag_or}
 use Rattle.asn1_types.specs.Writing.{written}
-use Rattle.ber_spelling.specs.Rules.{Guise, plain, list_done, nothing_filled, set_done}
-use Rattle.ber_spelling.specs.Spelling.{Spelled, IsConstructed, IsDefinite, IsIndefinite, PartIs, PartsAre, SequenceIs, Steps, ItemsAre, ListStep, ListIs, SetItemStep, SetOfIs, SetStep, SetIs, ChoiceIs, OrExplicit, AnyIs, RowIs, RowOr, SpelledBy}
+use Rattle.ber_spelling.specs.Rules.{Guise, plain, nothing_filled}
+use Rattle.ber_spelling.specs.Spelling.{Spelled, IsConstructed, IsDefinite, IsIndefinite, PartIs, PartsAre, SequenceIs, Steps, ListStep, ListIs, SetItemStep, SetOfIs, SetStep, SetIs, ChoiceIs, OrExplicit, RowIs, RowOr, SpelledBy}
 
 pub constructed_more : (tag : tags.Tag) (strict : Bool) (levels : ℕ) (P Q : ℕ → List ℕ → Type 0) → ((l : ℕ) (c : List ℕ) → P l c → Q l c) → (s : List ℕ) → IsConstructed tag strict levels P s → IsConstructed tag strict levels Q s
 constructed_more tag strict levels P Q k s p = record { inner = p.inner; level = p.level; small = p.small; form = by_form p.form }

@@ -1,5 +1,5 @@
 -- Parts of a SEQUENCE, one after the other, are fields of which none is passed over.
-use Rattle.std.proofs.Common.{◌≡◌, ℕ, zero, suc, ◌+◌, ◌-◌, ◌<◌, ◌≤◌, Bool, true, false, not, ◌&&◌, ◌||◌, List, [], ◌∷◌, ◌++◌, length, take, drop, Option, Some, None, Ok, refl, sym, ap, ◌∙◌, subst, arith, append_assoc, length-append, inl, inr}
+use Rattle.std.proofs.Common.{◌≡◌, ℕ, zero, suc, ◌+◌, ◌-◌, ◌<◌, ◌≤◌, Bool, true, false, not, ◌&&◌, ◌||◌, List, [], ◌∷◌, ◌++◌, length, take, drop, Option, Some, None, refl, sym, ap, ◌∙◌, subst, arith, append_assoc, length-append, inl, inr}
 use Rattle.std.specs.Prelude.{slice_get, nat_eq}
 use Rattle.std.specs.List.{list_any}
 use Rattle.std.proofs.lemmas.Bool.{and_parts, eqb-true}
@@ -13,18 +13,18 @@ use Rattle.asn1_types.specs.Value.{Value, parts, MaybeValues, no_parts, absent, 
 use Rattle.asn1_types.specs.ValueView.{parts_of}
 use Rattle.asn1_types.specs.FixedRows.{part}
 use Rattle.ber_spelling.specs.declared.spot.Scope.{Scope}
-use Rattle.ber_spelling.specs.Rules.{Guise, plain}
+use Rattle.ber_spelling.specs.Rules.{plain}
 use Rattle.ber_spelling.specs.Spelling.{PartIs, PartsAre, SequenceIs, Steps, SpelledBy}
 use Rattle.ber_spelling.proofs.Identifiers.{IsIn}
 use Rattle.ber_spelling.proofs.Steady.{same_classes}
-use Rattle.ber_spelling.proofs.RowLaws.{Allowed, along_only}
+use Rattle.ber_spelling.proofs.RowLaws.{along_only}
 use Rattle.passed_fields.specs.declared.field.Field as known
 use Rattle.passed_fields.specs.declared.field.Passed as over
 use Rattle.passed_fields.specs.declared.field.Holds.{Holds}
 use Rattle.passed_fields.specs.declared.field.Holds.TheVariants as holds
 use Rattle.passed_fields.specs.Passing.{are_optional, nones}
 use Rattle.passed_fields.specs.Reading.{tag_of, fields_done}
-use Rattle.passed_fields.specs.Spelling.{HasTag, HeldIs, KnownStep, FieldStep, FieldsAre}
+use Rattle.passed_fields.specs.Spelling.{HasTag, HeldIs, FieldStep, FieldsAre}
 use Rattle.passed_fields.proofs.Tags.{text_tag}
 use Rattle.passed_fields.proofs.MoreTurns.{turns_more}
 

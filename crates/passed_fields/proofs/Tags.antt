@@ -1,7 +1,7 @@
 -- Tags below 31, which stand in the first octet.
-use Rattle.std.proofs.Common.{◌≡◌, ◌≢◌, ℕ, zero, suc, ◌+◌, ◌%◌, ◌<◌, ◌≤◌, Bool, true, false, ◌||◌, List, [], ◌∷◌, ◌++◌, length, Ok, Err, refl, sym, ap, ◌∙◌, subst, arith, length-append, inl, inr}
+use Rattle.std.proofs.Common.{◌≡◌, ℕ, zero, suc, ◌+◌, ◌%◌, ◌<◌, Bool, true, false, ◌||◌, List, [], ◌∷◌, ◌++◌, length, Ok, sym, ap, ◌∙◌, arith, length-append, inl, inr}
 use Rattle.std.specs.Prelude.{nat_lt, nat_eq, slice_index}
-use Rattle.std.proofs.lemmas.Bool.{ltb-true, lt-ltb, eqb-true, eqb-false, or_parts}
+use Rattle.std.proofs.lemmas.Bool.{lt-ltb, eqb-true}
 use Rattle.osi_base.specs.declared.layer_words.Kind.TheVariants.{Tag}
 use Rattle.asn1_types.specs.declared.row.Class.{Class}
 use Rattle.ber_spelling.specs.declared.fault.ReadFault.TheVariants as faults

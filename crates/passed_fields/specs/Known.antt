@@ -1,5 +1,5 @@
 -- Fields that can be told apart, and rows that there are.
-use Rattle.std.specs.Prelude.{ℕ, ◌<◌, Bool, true, not, ◌&&◌, Option, Some, None, List, [], ◌∷◌, length}
+use Rattle.std.specs.Prelude.{ℕ, ◌<◌, Bool, true, not, ◌&&◌, Some, None, List, [], ◌∷◌, length}
 use Rattle.asn1_types.specs.declared.row.Class.{Class}
 use Rattle.asn1_types.specs.declared.row.TypeRow.{TypeRow}
 use Rattle.asn1_types.specs.Rows.{is_no_tag}

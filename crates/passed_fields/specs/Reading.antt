@@ -2,7 +2,6 @@
 use Rattle.std.specs.Prelude.{ℕ, ◌-◌, Option, Some, None, List, [], ◌∷◌, ◌++◌, length, drop, Ok, if◌then◌else◌}
 use Rattle.osi_base.specs.declared.layer_words.Kind.TheVariants.{Missing, Extra}
 use Rattle.osi_base.specs.Limits.{most_levels}
-use Rattle.asn1_types.specs.declared.row.Class.{Class}
 use Rattle.asn1_types.specs.declared.row.TypeRow.{TypeRow}
 use Rattle.asn1_types.specs.Value.{Value, parts, list}
 use Rattle.asn1_types.specs.ValueView.{parts_of, values_of}

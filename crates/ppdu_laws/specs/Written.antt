@@ -1,5 +1,5 @@
 -- Which units may be written, and that they are read back.
-use Rattle.std.specs.Prelude.{◌≡◌, ℕ, ◌≤◌, ◌^◌, Bool, true, false, ◌&&◌, [], ◌∷◌, length, Option, Some, None, nat_lt, is_none}
+use Rattle.std.specs.Prelude.{◌≡◌, ℕ, ◌≤◌, Bool, true, false, ◌&&◌, [], ◌∷◌, length, Option, Some, None, nat_lt, is_none}
 use Rattle.std.specs.List.{list_all}
 use Rattle.osi_base.specs.declared.layer_words.Proposal as proposals
 use Rattle.osi_base.specs.declared.layer_words.AddAnswer as answers

@@ -18,14 +18,11 @@ use Rattle.end_model.specs.end_rules.Reacting.{Passes, Takes, react, on_word, wo
 use Rattle.agreement.specs.Sets.{Role, other, is_initiator}
 use Rattle.agreement.specs.Sets.Role.{Initiator, Responder}
 use Rattle.agreement.specs.Messages as model
-use Rattle.agreement.specs.Messages.Message.{End as model_end}
 use Rattle.agreement.specs.Messages.Choice.{Nothing}
 use Rattle.agreement.specs.State as states
-use Rattle.agreement.specs.State.{Handed}
 use Rattle.agreement.specs.Takings.{value_read, handed_up}
 use Rattle.agreement.specs.Worlds.{World, state_of}
 use Rattle.agreement.specs.Laws as model_laws
-use Rattle.agreement.specs.Laws.{HoldsTurn, AreFalling}
 use Rattle.agreement.proofs.Interface.{laws}
 use Rattle.end_model.specs.Seen.{Free, pair_seen, set_seen, item_seen, apdu_seen, incoming_seen}
 use Rattle.end_model.specs.BothEnds.{Common, base_at, Two, body_at}

@@ -13,8 +13,6 @@ use Rattle.end_model.specs.end_rules.Encodings.{item_of, IsOf, Encoding, IsNewes
 use Rattle.agreement.specs.Sets.{Role, other}
 use Rattle.agreement.specs.Sets.Role.{Initiator, Responder}
 use Rattle.agreement.specs.Messages as model
-use Rattle.agreement.specs.Messages.Message.{End as model_end}
-use Rattle.agreement.specs.Messages.Choice.{Nothing}
 use Rattle.agreement.specs.Laws as model_laws
 use Rattle.agreement.specs.Laws.{HoldsTurn, AreFalling}
 use Rattle.agreement.proofs.Interface.{laws}
@@ -32,12 +30,9 @@ use Rattle.reliable_model.specs.Transfers.{ReliableItems, ReliableArriveOnce}
 use Rattle.reliable_model.proofs.Ledgers.{AreEncodable}
 use Rattle.reliable_model.proofs.SameApdus.{apdus-same}
 use Rattle.reliable_model.proofs.Taking as taking
-use Rattle.reliable_model.proofs.Taking.{reacts-so}
 use Rattle.reliable_model.proofs.Machine as machine
 use Rattle.reliable_model.proofs.Arriving as arriving
 use Rattle.reliable_model.proofs.Placing as placing
-use Rattle.reliable_model.proofs.Machine.{Resting, Calling, Confirming, Connecting, Accepting, Refusing, Deaf, Gone, Standing}
-use Rattle.reliable_model.proofs.Machine.{DeafRest, DeafAsked, DeafCarrying, LeftIdle, LeftJoined, LeftBroken}
 
 item-found : (base : Base) (k : ℕ) (apdu : Apdu) (items : List Queued) → ReadsBack base → AreTransferable base items → IsTransferable base apdu → model_laws.IsOf (apdu_seen base apdu) (model_laws.item_of k (map (queued_seen base) items)) → IsOf apdu (item_of k items)
 item-found base k apdu [] back t u h = absurd h

@@ -52,7 +52,7 @@ use Rattle.reliable_model.proofs.Taking as taking
 use Rattle.reliable_model.proofs.Taking.{Passed, Took}
 use Rattle.reliable_model.proofs.Calling as calling
 use Rattle.reliable_model.proofs.Opening as opening
-use Rattle.reliable_model.proofs.Opening.{Way, First, Again, rests, asks, joins, recovers, Accepts, Refuses}
+use Rattle.reliable_model.proofs.Opening.{Way, First, Again, rests, asks, joins, Accepts, Refuses}
 use Rattle.reliable_model.proofs.Phases as phases
 use Rattle.reliable_model.proofs.Phases.{only-open, only-recover, only-abort, over-calls, aborted-over, OnlyAborts, aborts-own, own-up, AsModel, BeforeCn}
 use Rattle.reliable_model.proofs.Phases.{EndsOver, EndsBroken, rests-still, asked-outcome, carrying-outcome, joined-outcome, refused-outcome, over-outcome}

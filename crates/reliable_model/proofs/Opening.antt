@@ -41,7 +41,7 @@ use Rattle.end_model.specs.end_rules.Reacting.{word_fault, after_word, answers_t
 use Rattle.agreement.specs.Sets.{Role, IsRising}
 use Rattle.agreement.specs.Sets.Role.{Initiator, Responder}
 use Rattle.agreement.specs.Messages as model
-use Rattle.agreement.specs.Messages.Message.{Connect as model_connect, Recover as model_recover, Accept as model_accept}
+use Rattle.agreement.specs.Messages.Message.{Connect as model_connect, Recover as model_recover}
 use Rattle.agreement.specs.Messages.Message.{Refuse as model_refuse, UserAbort as model_abort}
 use Rattle.agreement.specs.Messages.Choice.{Nothing, Accepting as accepting, Refusing}
 use Rattle.agreement.specs.Messages.Act.{Connects, Recovers}

@@ -24,7 +24,6 @@ use Rattle.agreement.specs.Sets as model_sets
 use Rattle.agreement.specs.Messages.Act.{Marks, EndsActivity, Sends, Starts, Encodes}
 use Rattle.agreement.specs.Messages.Message.{Mark as model_mark, End as model_end}
 use Rattle.agreement.specs.State as states
-use Rattle.agreement.specs.State.Progress.{Running as model_running}
 use Rattle.agreement.specs.Laws.{Encoding as ModelEncoding, next_queued as model_first, encoding_of as model_encoding}
 use Rattle.agreement.specs.Acts.{Leads, OnEncoded as ModelEncoded, OnRunning, acted, pieces_of as model_pieces}
 use Rattle.end_model.specs.Seen.{Free, set_seen, apdu_seen, queued_seen, item_seen, piece_seen, progress_seen, encoded_seen, transfer_seen, seen, setup_seen}

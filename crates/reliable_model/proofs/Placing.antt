@@ -61,7 +61,7 @@ use Rattle.reliable_model.proofs.Leading.{leads-shared}
 use Rattle.reliable_model.proofs.Words.{OwnWord, AreOwn, Live, Side as Standing_side, Stands, IsOver}
 use Rattle.reliable_model.proofs.Phases.{only-open, only-abort, over-calls, own-up, aborted-over, OnlyAborts}
 use Rattle.reliable_model.proofs.Opening as opening
-use Rattle.reliable_model.proofs.Opening.{Way, First, Again, asks, joins}
+use Rattle.reliable_model.proofs.Opening.{Way, First, Again, joins}
 use Rattle.reliable_model.proofs.Machine as machine
 use Rattle.reliable_model.proofs.Machine.{Resting, Calling, Confirming, Connecting, Accepting, Refusing, Deaf, Gone, Standing}
 use Rattle.reliable_model.proofs.Machine.{DeafRest, DeafAsked, DeafCarrying, LeftIdle, LeftJoined, LeftBroken}

@@ -1,5 +1,5 @@
 -- At most 4,096 invocations of an end stay open, whatever is heard.
-use Rattle.std.proofs.Common.{◌≡◌, ℕ, ℤ, suc, ◌+◌, ◌≤◌, ◌<◌, Bool, true, false, not, ◌&&◌, cond, List, [], ◌∷◌, ◌++◌, length, map, Option, Some, None, is_some, refl, sym, ap, subst, ◌∙◌, arith, length-append}
+use Rattle.std.proofs.Common.{◌≡◌, ℕ, ℤ, ◌+◌, ◌≤◌, ◌<◌, Bool, true, false, not, ◌&&◌, cond, List, [], ◌∷◌, ◌++◌, length, map, Option, Some, None, is_some, refl, ap, ◌∙◌, arith, length-append}
 use Rattle.std.specs.Prelude.{nat_le, filter}
 use Rattle.std.proofs.lemmas.Bool.Decides.{nat_tests}
 use Rattle.std.proofs.lemmas.List.Elements.{filter-append}
@@ -9,7 +9,7 @@ use Rattle.stub_tables.specs.declared.operation.Code.{Code}
 use Rattle.stub_tables.specs.Lookup.{operation_with}
 use Rattle.end_wire.specs.end_rules.Base.{Base, Carried, HeardHead, General, BadReject, InvokeHead, ResultHead, ErrorHead, RejectHead}
 use Rattle.end_wire.specs.end_rules.State.{Calls, OpenCall, is_whose, is_key, opened_with, opens_of, orphaned, closed, close}
-use Rattle.end_wire.specs.end_rules.Hearing.{Heard, first_problem, problem_if, unless_problem, rejected, is_silent_at, invoke_problem, invoked, hear_invoke, hear_result_of, hear_error_of, showing_error, hear_reject, is_of_invocation, hear}
+use Rattle.end_wire.specs.end_rules.Hearing.{Heard, first_problem, problem_if, unless_problem, rejected, is_silent_at, invoke_problem, invoked, hear_result_of, hear_error_of, showing_error, hear_reject, is_of_invocation, hear}
 
 abbrev Within : Bool → Calls → Type 0
 Within own calls = length (opens_of own calls.opens) ≤ 4096

@@ -1,5 +1,5 @@
 -- APDUs of reliable transfer and their octets stand for each other.
-use Rattle.std.proofs.Common.{◌≡◌, ℕ, ◌^◌, ◌≤◌, ◌<◌, Bool, true, false, ◌&&◌, cond, List, length, Result, Ok, Err, refl, sym, ap, ◌∙◌, arith}
+use Rattle.std.proofs.Common.{◌≡◌, ℕ, ◌^◌, ◌≤◌, ◌<◌, Bool, true, false, ◌&&◌, cond, List, Result, Ok, Err, refl, ap, ◌∙◌, arith}
 use Rattle.std.specs.Prelude.{pos, nat_lt, slice_index, nat_eq, ◌||◌}
 use Rattle.std.proofs.lemmas.Bool.{and_parts, ltb-true, leb-true, lt-ltb}
 use Rattle.osi_base.specs.declared.rtse_word.ConnectionData.TheVariants as connection
@@ -8,7 +8,6 @@ use Rattle.osi_base.specs.declared.rtse_word.Rtse.TheVariants as apdu
 use Rattle.asn1_types.specs.Fits.{has_form, is_number}
 use Rattle.asn1_types.specs.Value.{Value}
 use Rattle.asn1_types.specs.Whole.{is_whole}
-use Rattle.osi_base.specs.Octets.{AreOctets}
 use Rattle.ber_spelling.proofs.Wholes.{whole_is}
 use Rattle.ber_spelling.proofs.Written.{written_spelled}
 use Rattle.fixed_tables.specs.declared.pdu.PduFault as units
@@ -18,8 +17,8 @@ use Rattle.fixed_tables.proofs.Numbers.{natural_fits, number_fits}
 use Rattle.fixed_tables.proofs.WholeLaws.{whole_is_spelled, spelled_is_whole}
 use Rattle.rtse_apdus.specs.Rows.{rtse_row, rtse_rows}
 use Rattle.rtse_apdus.specs.Words.{apdu_in, value_of}
-use Rattle.rtse_apdus.specs.Reading.{SpellsRtse, limit_of, of_value, rtse_at}
-use Rattle.rtse_apdus.specs.Written.{are_octets, can_write, written_rtse, IsWritable}
+use Rattle.rtse_apdus.specs.Reading.{SpellsRtse, limit_of, of_value}
+use Rattle.rtse_apdus.specs.Written.{are_octets, can_write, written_rtse}
 use Rattle.rtse_apdus.specs.Laws.{RtseIsSpelled, SpelledRtseIsRead, WrittenRtseIsRead}
 use Rattle.rtse_apdus.proofs.Added.{rtse_sound}
 

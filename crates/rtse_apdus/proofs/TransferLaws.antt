@@ -1,5 +1,5 @@
 -- The octets of a transfer and their one value stand for each other.
-use Rattle.std.proofs.Common.{◌≡◌, ℕ, ◌^◌, ◌≤◌, ◌<◌, true, false, [], List, length, Option, Some, None, Result, Ok, Err, refl, ap, ◌∙◌, arith}
+use Rattle.std.proofs.Common.{◌≡◌, ℕ, ◌^◌, ◌≤◌, ◌<◌, true, false, [], List, Option, Some, None, Result, Ok, Err, refl, ap, ◌∙◌, arith}
 use Rattle.std.specs.Prelude.{pos}
 use Rattle.std.proofs.lemmas.Bool.{lt-ltb}
 use Rattle.osi_base.specs.declared.presentation_word.Pdv as pdvs
@@ -9,7 +9,6 @@ use Rattle.osi_base.specs.Limits.{most_transferred}
 use Rattle.asn1_types.specs.Table.{refusal, AreSoundRows}
 use Rattle.asn1_types.specs.Rows.{nesting, openings}
 use Rattle.asn1_types.specs.Value.{Value}
-use Rattle.osi_base.specs.Octets.{AreOctets}
 use Rattle.ber_spelling.proofs.Wholes.{whole_is}
 use Rattle.ber_spelling.proofs.Written.{written_spelled}
 use Rattle.fixed_tables.specs.declared.pdu.PduFault as units
@@ -20,7 +19,7 @@ use Rattle.fixed_tables.proofs.Sound.{sound_of}
 use Rattle.fixed_tables.proofs.WholeLaws.{whole_is_spelled, spelled_is_whole}
 use Rattle.rtse_apdus.specs.TransferRows.{transfer_row, transfer_rows}
 use Rattle.fixed_tables.specs.Pdvs.{content_in, content_value, pdv_in, pdv_value}
-use Rattle.rtse_apdus.specs.Transfer.{of_pdv, transfer_at, written_transfer, SpellsTransfer, IsTransfer, TransferIsSpelled, SpelledTransferIsRead, WrittenTransferIsRead}
+use Rattle.rtse_apdus.specs.Transfer.{of_pdv, written_transfer, SpellsTransfer, TransferIsSpelled, SpelledTransferIsRead, WrittenTransferIsRead}
 
 pub transfer_rows_added : all_added [] transfer_rows ≡ true
 unfolding refusal nesting openings

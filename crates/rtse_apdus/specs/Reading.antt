@@ -1,5 +1,5 @@
 -- The APDUs of reliable transfer as octets (X.228 9).
-use Rattle.std.specs.Prelude.{◌≡◌, ◌==◌, ◌||◌, ℕ, false, List, [], ◌∷◌, slice_index, Result, Ok, Err, if◌then◌else◌}
+use Rattle.std.specs.Prelude.{◌≡◌, ◌==◌, ◌||◌, ℕ, false, List, slice_index, Result, Ok, Err, if◌then◌else◌}
 use Rattle.osi_base.specs.declared.rtse_word.Rtse as apdus
 use Rattle.osi_base.specs.Limits.{tsdu_limit, most_octets}
 use Rattle.asn1_types.specs.Value.{Value}

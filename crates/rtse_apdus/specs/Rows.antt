@@ -1,5 +1,5 @@
 -- The APDUs of reliable transfer as rows of types (X.228 9).
-use Rattle.std.specs.Prelude.{ℕ, ℤ, pos, negsuc, true, false, List, [], ◌∷◌, codes}
+use Rattle.std.specs.Prelude.{ℕ, pos, negsuc, true, false, List, [], ◌∷◌, codes}
 use Rattle.osi_base.specs.Limits.{most_checkpoint, most_32, most_spelled, most_signed}
 use Rattle.asn1_types.specs.declared.row.Class.TheVariants.{Universal}
 use Rattle.asn1_types.specs.declared.row.TypeRow.{TypeRow}

@@ -1,6 +1,5 @@
 -- What may be written of reliable transfer, and as what octets.
 use Rattle.std.specs.Prelude.{◌≡◌, ◌&&◌, ℕ, Bool, true, List, length, ◌≤◌, nat_lt, nat_le, ◌+◌}
-use Rattle.std.specs.List.{list_all}
 use Rattle.osi_base.specs.declared.rtse_word.ConnectionData as connections
 use Rattle.osi_base.specs.declared.rtse_word.ConnectionData.TheVariants as connection
 use Rattle.osi_base.specs.declared.rtse_word.Rtse as apdus

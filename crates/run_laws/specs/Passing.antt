@@ -1,12 +1,12 @@
 -- What two ends send and take: each message that is taken is the one that was sent in its place of the connection, and each of its
 -- presentation data values is read under the pair that the one shared set gave its context at the sending (X.226 6.2, 8.4.2).
-use Rattle.std.specs.Prelude.{◌≡◌, ℕ, List, [], ◌∷◌, ◌++◌, map, Bool, true, false, if◌then◌else◌, Option, Some, None}
+use Rattle.std.specs.Prelude.{◌≡◌, List, [], ◌∷◌, ◌++◌, map, if◌then◌else◌, Option, Some, None}
 use Rattle.osi_base.specs.declared.layer_words.Side.{Side}
 use Rattle.osi_base.specs.declared.syntax.Pair.{Pair}
 use Rattle.dialogue.specs.Sides.{other}
 use Rattle.end_rules.specs.Messages.{Message, Session, Word, OfAssociation, OfData, OfMarks, OfActivities, DataValue, AssociationWord, Finish, Disconnect, DataWord, Values, MarkWord, Please}
 use Rattle.end_rules.specs.History.{Step, sent, took, answered, passed, aborted, broke}
-use Rattle.end_rules.specs.World.{World, Moment, Ends, is_side, pair_at_sending}
+use Rattle.end_rules.specs.World.{World, Ends, is_side, pair_at_sending}
 
 -- ---- what is sent and taken
 

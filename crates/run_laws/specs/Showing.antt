@@ -1,5 +1,5 @@
 -- What is shown: each carry shows what the messages show that are taken in it, in their order, and nothing else.
-use Rattle.std.specs.Prelude.{◌≡◌, List, [], ◌∷◌, ◌++◌, Bool, true, false, if◌then◌else◌}
+use Rattle.std.specs.Prelude.{◌≡◌, List, [], ◌∷◌, ◌++◌, if◌then◌else◌}
 use Rattle.osi_base.specs.declared.layer_words.Side.{Side}
 use Rattle.dialogue.specs.Sides.{other}
 use Rattle.dialogue.specs.declared.event.Entry.{Entry}

@@ -1,13 +1,13 @@
 -- Transfers between two ends: what each started and encoded, and what arrived at the other (X.228 7; the numbers of activities and
 -- what is kept of them are this project's own rule).
-use Rattle.std.specs.Prelude.{◌≡◌, ℕ, ◌<◌, List, [], ◌∷◌, ◌++◌, Bool, true, false, if◌then◌else◌, Option, Some, None}
+use Rattle.std.specs.Prelude.{◌≡◌, ℕ, ◌<◌, List, [], ◌∷◌, ◌++◌, if◌then◌else◌, Option, Some, None}
 use Rattle.osi_base.specs.declared.layer_words.Side.{Side}
 use Rattle.osi_base.specs.declared.syntax.Pair.{Pair}
 use Rattle.end_rules.specs.Encodings.{next_queued, item_of, IsOf, Encoding, IsNewest}
 use Rattle.dialogue.specs.Sides.{other}
 use Rattle.stub_tables.specs.declared.apdu.Apdu.{Apdu}
-use Rattle.end_rules.specs.Base.{Base, Item}
-use Rattle.end_rules.specs.Messages.{Message, Session, OfActivities, Start, End, Remote, DataValue}
+use Rattle.end_rules.specs.Base.{Base}
+use Rattle.end_rules.specs.Messages.{Session, OfActivities, Start, End, Remote, DataValue}
 use Rattle.end_rules.specs.State.{Body, Queued, Transfer}
 use Rattle.end_rules.specs.TakesActivities.{handed_up}
 use Rattle.end_rules.specs.History.{Step, sent, encoded, took}

@@ -32,7 +32,7 @@ use Rattle.reliable_model.proofs.Firm.{Firm, IsLoose, module-loose, context_of}
 use Rattle.reliable_model.proofs.FirmSteps.{in-place, ArrivesIn}
 use Rattle.reliable_model.proofs.OnWay.{took-word}
 use Rattle.reliable_model.proofs.Opening as opening
-use Rattle.reliable_model.proofs.Opening.{Way, First, Again, joins, recovers}
+use Rattle.reliable_model.proofs.Opening.{Way, First, Again, joins}
 use Rattle.reliable_model.proofs.Machine as machine
 use Rattle.reliable_model.proofs.Machine.{Resting, Calling, Confirming, Connecting, Accepting, Refusing, Deaf, Gone, Standing, LeftIdle, LeftJoined, LeftBroken}
 use Rattle.reliable_model.proofs.Phases.{OnlyAborts}
@@ -45,7 +45,7 @@ use Rattle.said_words.specs.Words.{rtse_pair, IsMessage, AreMessages}
 use Rattle.said_words.specs.Laws.{ReliableSaysWords}
 use Rattle.said_words.proofs.First.{first_accepted}
 use Rattle.said_words.proofs.TransferEnds as ends
-use Rattle.said_words.proofs.TransferEnds.{IsYoung, IsStood, IsOver}
+use Rattle.said_words.proofs.TransferEnds.{IsYoung}
 
 clash : (x : Bool) → x ≡ true → x ≡ false → ⊥
 clash x h i = cc

@@ -1,11 +1,11 @@
 -- Configurations that meet in bare mode.
-use Rattle.std.proofs.Common.{◌≡◌, true, false, Option, None, Some, refl, sym, ◌∙◌}
+use Rattle.std.proofs.Common.{◌≡◌, true, false, Option, None, Some, refl, ◌∙◌}
 use Rattle.dialogue.specs.declared.config.Config.{Config}
 use Rattle.dialogue.specs.declared.config.ConfigRefusal.{ConfigRefusal}
 use Rattle.dialogue.specs.declared.config.Mode.TheVariants.{Bare}
 use Rattle.dialogue.specs.Config as values
 use Rattle.dialogue.specs.Config.{IsBare}
-use Rattle.end_config.specs.Refusing.{or_refusal, context_refusal, bad_context, late_refusal, config_refusal}
+use Rattle.end_config.specs.Refusing.{or_refusal, late_refusal, config_refusal}
 use Rattle.schedule_text.specs.Meeting.{Meet}
 
 first_none : (a b : Option ConfigRefusal) → or_refusal a b ≡ None → a ≡ None

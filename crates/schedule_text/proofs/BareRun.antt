@@ -1,5 +1,5 @@
 -- Where bare mode alone is run.
-use Rattle.std.proofs.Common.{◌≡◌, ℕ, Bool, true, false, List, Ok, refl, sym, ap, ◌∙◌}
+use Rattle.std.proofs.Common.{◌≡◌, ℕ, true, false, List, Ok, refl}
 use Rattle.stub_tables.specs.declared.tables.Tables.{Tables}
 use Rattle.dialogue.specs.declared.config.Mode.{Mode}
 use Rattle.dialogue.specs.declared.config.Mode.TheVariants.{Bare, Direct, Reliable}
@@ -7,7 +7,6 @@ use Rattle.dialogue.specs.Config.{IsBare}
 use Rattle.schedule_text.specs.declared.setting.Modes.{Modes}
 use Rattle.schedule_text.specs.Settings.{runs}
 use Rattle.schedule_text.specs.Schedules.{Said, schedule_of}
-use Rattle.schedule_text.specs.Laws.{IsRun}
 use Rattle.schedule_text.proofs.Bare.{bare_common}
 use Rattle.schedule_text.proofs.Run.{is_run}
 

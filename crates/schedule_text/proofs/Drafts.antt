@@ -1,5 +1,5 @@
 -- Lines that are read one after the other.
-use Rattle.std.proofs.Common.{◌≡◌, ℕ, ◌+◌, List, ◌∷◌, refl, Result, Ok, Err}
+use Rattle.std.proofs.Common.{◌≡◌, ℕ, ◌+◌, List, ◌∷◌, refl, Ok, Err}
 use Rattle.stub_tables.specs.declared.tables.Tables.{Tables}
 use Rattle.script_lines.specs.declared.fault.ScriptKind.{ScriptKind}
 use Rattle.script_lines.specs.declared.fault.ScriptFault.TheVariants.{At}

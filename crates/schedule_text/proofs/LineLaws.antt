@@ -1,5 +1,5 @@
 -- Lines that are read one after the other, and the first that breaks the grammar.
-use Rattle.std.proofs.Common.{◌≡◌, ◌≤◌, ◌⊎◌, inl, inr, ℕ, zero, suc, ◌+◌, Bool, true, false, not, ◌&&◌, List, [], ◌∷◌, length, take, Option, Some, None, slice_get, Result, Ok, Err, refl, sym, ap, ◌∙◌, arith, add-one, if◌then◌else◌, nat_lt}
+use Rattle.std.proofs.Common.{◌≡◌, ◌≤◌, ◌⊎◌, inl, inr, ℕ, zero, suc, ◌+◌, true, false, List, [], ◌∷◌, length, take, Option, Some, None, slice_get, Result, Ok, Err, refl, sym, ap, ◌∙◌, arith, nat_lt}
 use Rattle.std.proofs.lemmas.Bool.Decides.{nat_tests}
 use Rattle.osi_base.specs.Limits.{text_most}
 use Rattle.stub_tables.specs.declared.tables.Tables.{Tables}
@@ -11,7 +11,7 @@ use Rattle.script_lines.specs.Reading.{Reading, ◌>>=◌}
 use Rattle.schedule_text.specs.declared.draft.Draft.{Draft}
 use Rattle.schedule_text.specs.declared.setting.Modes.{Modes}
 use Rattle.schedule_text.specs.Events.{no_draft}
-use Rattle.schedule_text.specs.Schedules.{Said, after_line, at_line, then_lines, lines_read, finished, then_finished, schedule_of, of_lines, lacks_mode, first_or_lack}
+use Rattle.schedule_text.specs.Schedules.{Said, after_line, at_line, then_lines, lines_read, finished, then_finished, schedule_of}
 use Rattle.schedule_text.specs.Laws.{said_by, BreaksFirst, SaysAll, result_at_line_one, HasOneReading}
 
 -- from this draft on: the line behind so many breaks the grammar, and none before it

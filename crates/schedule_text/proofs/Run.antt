@@ -13,7 +13,7 @@ use Rattle.schedule_text.specs.declared.setting.Modes.{Modes}
 use Rattle.schedule_text.specs.Meeting.{Meet}
 use Rattle.schedule_text.specs.Events.{no_draft}
 use Rattle.schedule_text.specs.Settings.{runs, settled}
-use Rattle.schedule_text.specs.Schedules.{Said, at_line, lines_read, finished, then_finished, lacks_mode, first_or_lack, of_lines, schedule_of}
+use Rattle.schedule_text.specs.Schedules.{Said, at_line, lines_read, finished, then_finished, lacks_mode, first_or_lack, schedule_of}
 use Rattle.schedule_text.specs.Laws.{IsRun}
 use Rattle.schedule_text.proofs.Settled.{settled_meet, settled_runs}
 

@@ -5,7 +5,6 @@ use Rattle.dialogue.specs.Config.{refused_if}
 use Rattle.dialogue.specs.declared.config.Config.{Config}
 use Rattle.dialogue.specs.declared.config.ConfigRefusal.{ConfigRefusal}
 use Rattle.dialogue.specs.declared.config.ConfigRefusal.TheVariants as refusals
-use Rattle.dialogue.specs.declared.config.Mode.{Mode}
 use Rattle.dialogue.specs.declared.config.Mode.TheVariants.{Bare}
 use Rattle.end_config.specs.Refusing.{config_refusal}
 use Rattle.script_lines.specs.declared.fault.ScriptKind.TheVariants.{BadSetup}

@@ -1,5 +1,5 @@
 -- Turns of the loops over an alteration that are left.
-use Rattle.std.proofs.Common.{◌≡◌, ℕ, ◌+◌, ◌-◌, ◌<◌, ◌≤◌, true, false, List, [], ◌∷◌, ◌++◌, refl, Result, Ok, Err, if◌then◌else◌, codes}
+use Rattle.std.proofs.Common.{◌≡◌, ℕ, ◌+◌, ◌-◌, ◌<◌, ◌≤◌, true, false, List, [], ◌∷◌, ◌++◌, refl, Ok, Err, if◌then◌else◌, codes}
 use Rattle.osi_base.specs.declared.layer_words.Proposal.{Proposal}
 use Rattle.stub_tables.specs.declared.tables.Tables.{Tables}
 use Rattle.script_lines.specs.declared.fault.ScriptKind.{ScriptKind}

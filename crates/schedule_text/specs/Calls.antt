@@ -1,5 +1,5 @@
 -- Calls as fields.
-use Rattle.std.specs.Prelude.{ℕ, ℤ, ◌^◌, Bool, true, false, if◌then◌else◌, List, Option, None, Some, option_and_then, position, Result, Ok, Err, codes, bytes_eq}
+use Rattle.std.specs.Prelude.{ℕ, ℤ, ◌^◌, true, false, if◌then◌else◌, List, Option, None, Some, option_and_then, position, Ok, Err, codes, bytes_eq}
 use Rattle.stub_tables.specs.declared.operation.ErrorRow.{ErrorRow}
 use Rattle.stub_tables.specs.declared.operation.Operation.{Operation}
 use Rattle.stub_tables.specs.declared.operation.Use.{Use}

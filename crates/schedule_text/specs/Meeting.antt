@@ -1,5 +1,5 @@
 -- Configurations of two ends that meet.
-use Rattle.std.specs.Prelude.{◌≡◌, List, [], Bool, true, false, None}
+use Rattle.std.specs.Prelude.{◌≡◌, [], true, false, None}
 use Rattle.dialogue.specs.declared.config.Config.{Config}
 use Rattle.dialogue.specs.declared.config.Mode.TheVariants.{Bare}
 use Rattle.end_config.specs.Refusing.{config_refusal}

@@ -1,11 +1,10 @@
 -- Lines of the setup: mode bare|direct, mode reliable CHECKPOINT WINDOW, context ID SYNTAX.., accepts A|B SYNTAX..
-use Rattle.std.specs.Prelude.{ℕ, nat_eq, Bool, true, false, not, ◌||◌, ◌&&◌, is_some, if◌then◌else◌, List, [], ◌∷◌, ◌++◌, Option, None, Some, Result, Ok, Err, codes, bytes_eq}
+use Rattle.std.specs.Prelude.{ℕ, nat_eq, Bool, true, false, ◌||◌, ◌&&◌, is_some, if◌then◌else◌, List, [], ◌∷◌, ◌++◌, Some, Ok, Err, codes, bytes_eq}
 use Rattle.std.specs.List.{list_any}
 use Rattle.osi_base.specs.declared.layer_words.Side.{Side}
 use Rattle.osi_base.specs.declared.layer_words.Side.TheVariants.{A, B}
 use Rattle.osi_base.specs.declared.layer_words.Proposal.{Proposal}
 use Rattle.stub_tables.specs.declared.tables.Tables.{Tables}
-use Rattle.dialogue.specs.declared.config.Config.{Config}
 use Rattle.dialogue.specs.declared.config.Mode.TheVariants.{Bare, Direct, Reliable}
 use Rattle.end_rules.specs.Base.{is_bare}
 use Rattle.script_lines.specs.declared.fault.ScriptKind.TheVariants.{UnknownWord, BadSetup}

@@ -1,5 +1,5 @@
 -- Turns of a loop over fields that are left.
-use Rattle.std.proofs.Common.{◌≡◌, ℕ, zero, suc, ◌+◌, ◌-◌, ◌<◌, ◌≤◌, true, false, List, [], ◌∷◌, ◌++◌, refl, arith, Result, Ok, Err, if◌then◌else◌}
+use Rattle.std.proofs.Common.{◌≡◌, ℕ, zero, suc, ◌+◌, ◌-◌, ◌<◌, ◌≤◌, true, false, List, [], ◌∷◌, ◌++◌, refl, arith, Ok, Err, if◌then◌else◌}
 use Rattle.script_lines.specs.declared.fault.ScriptKind.{ScriptKind}
 use Rattle.script_lines.specs.declared.syntax.EndsBefore.{EndsBefore}
 use Rattle.script_lines.specs.declared.line_fault.ScriptLineFault.{ScriptLineFault}

@@ -1,5 +1,5 @@
 -- Fields of a line: one or more spaces part two of them.
-use Rattle.std.specs.Prelude.{ℕ, ℤ, ◌==◌, Bool, true, false, if◌then◌else◌, List, [], ◌∷◌, take, drop, Result, Ok, Err}
+use Rattle.std.specs.Prelude.{ℕ, ℤ, ◌==◌, Bool, true, false, if◌then◌else◌, List, [], ◌∷◌, take, drop, Ok, Err}
 use Rattle.std.specs.Str.{bytes_eq, is_utf8}
 use Rattle.value_text.specs.Numbers.{number_of, identifier_of}
 use Rattle.value_reading.specs.Words.{len_to, after_spaces}

@@ -1,5 +1,5 @@
 -- Reading a line from the left: a value and what follows it, or how the first faulty field breaks the grammar.
-use Rattle.std.specs.Prelude.{◌≡◌, ℕ, List, Option, None, Some, Result, Ok, Err}
+use Rattle.std.specs.Prelude.{◌≡◌, Option, None, Some, Result, Ok, Err}
 use Rattle.script_lines.specs.declared.fault.ScriptKind.{ScriptKind}
 use Rattle.script_lines.specs.declared.line_fault.ScriptLineFault.{ScriptLineFault}
 use Rattle.script_lines.specs.declared.line_fault.ScriptLineFault.TheVariants as faults

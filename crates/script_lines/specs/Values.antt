@@ -1,5 +1,5 @@
 -- Values in a line: by their type, and those of results by their form where they aren't of it.
-use Rattle.std.specs.Prelude.{ℕ, Bool, true, false, ◌||◌, ◌&&◌, if◌then◌else◌, List, [], ◌∷◌, Option, None, Some, Result, Ok, Err, codes}
+use Rattle.std.specs.Prelude.{ℕ, Bool, ◌||◌, ◌&&◌, if◌then◌else◌, List, Option, None, Some, Ok, Err, codes}
 use Rattle.std.specs.Str.{is_utf8}
 use Rattle.asn1_types.specs.declared.row.TypeId.{TypeId}
 use Rattle.asn1_types.specs.declared.row.TypeRow.{TypeRow}
@@ -12,7 +12,7 @@ use Rattle.value_reading.specs.Typed.{value_at}
 use Rattle.value_reading.specs.Words.{after_spaces}
 use Rattle.script_lines.specs.declared.fault.ScriptKind.{ScriptKind}
 use Rattle.script_lines.specs.declared.fault.ScriptKind.TheVariants.{BadValue, BadField}
-use Rattle.script_lines.specs.Reading.{Reading, ◌>>=◌}
+use Rattle.script_lines.specs.Reading.{Reading}
 use Rattle.script_lines.specs.Fields.{is_empty, is_next, is_parted}
 
 -- the value of a type, where there is one, that stands first

@@ -1,5 +1,5 @@
 -- At the places of user data stand the user data of the words that are read.
-use Rattle.std.proofs.Common.{◌≡◌, ℕ, zero, suc, ◌+◌, ◌-◌, ◌<◌, ◌≤◌, ◌==◌, Bool, true, false, cond, List, [], ◌∷◌, ◌++◌, length, take, drop, Option, Some, None, Result, Ok, Err, refl, sym, ap, subst, ◌∙◌, append_assoc, inl, inr, arith}
+use Rattle.std.proofs.Common.{◌≡◌, ℕ, zero, suc, ◌+◌, ◌-◌, ◌==◌, Bool, true, false, cond, List, [], ◌∷◌, ◌++◌, length, take, drop, Option, Some, None, Result, Ok, Err, refl, sym, ap, subst, ◌∙◌, append_assoc, inl, inr, arith}
 use Rattle.std.specs.Prelude.{◌⊎◌, is_some}
 use Rattle.std.proofs.lemmas.List.{length-append, append-nil, take_at, drop_at}
 use Rattle.osi_base.specs.declared.session_word.SessionWord.{SessionWord}
@@ -10,13 +10,13 @@ use Rattle.spdu_codec.specs.declared.parameters.Slot.{Slot}
 use Rattle.spdu_codec.specs.declared.parameters.Slot.TheVariants.{Identifier, ConnectItem, AcceptItem, Linking, CallingReference, CommonReference, Options, Version, Initial, TokenSetting, Requirements, CallingSelector, CalledSelector, ConnectData, ExtendedData, UserData, Transport, RefuseReason, ActivityReason, Tokens, ResyncType, Number, Activity, OldActivity, OldMark}
 use Rattle.spdu_codec.specs.declared.parameters.Parameters.{Parameters}
 use Rattle.spdu_codec.specs.declared.places.UserPlaces.{UserPlaces}
-use Rattle.spdu_codec.specs.Tables.{row_of, first_units, second_units, parameters_of, items_of}
+use Rattle.spdu_codec.specs.Tables.{row_of, first_units, second_units, parameters_of}
 use Rattle.spdu_codec.specs.Values.{octet_of, number_of, pair_of, mark_of}
 use Rattle.spdu_codec.specs.Parameters.{none_yet, put, with_value, refusal}
 use Rattle.spdu_codec.specs.Words.{has_information, word_of, needed, leads}
 use Rattle.spdu_codec.specs.Reading.{UnitFault, front, value_at}
-use Rattle.spdu_codec.specs.Wire.{AreParameters, AllPut, ItemPut, IsInside, GroupPut, ParameterPut, IsUnit, IsLast, IsFront, AreUnits}
-use Rattle.spdu_codec.specs.Places.{place, behind_code, placed, on_value, user_among, user_of, StandsAt, HoldUser, head, user_in, user_of_last, places, user_places}
+use Rattle.spdu_codec.specs.Wire.{AreParameters, AllPut, ItemPut, IsInside, GroupPut, ParameterPut, IsUnit, IsLast, AreUnits}
+use Rattle.spdu_codec.specs.Places.{place, behind_code, placed, on_value, user_among, user_of, StandsAt, HoldUser, head, user_in, user_places}
 use Rattle.spdu_codec.proofs.PlaceLoop.{among, goes_on}
 use Rattle.spdu_codec.proofs.PlaceLaws.{places_of_one, places_of_two}
 use Rattle.spdu_codec.proofs.WireLaws.{value_again}

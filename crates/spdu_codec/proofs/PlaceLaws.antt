@@ -1,6 +1,5 @@
 -- The places of user data that are computed are those of the grammar.
-use Rattle.std.proofs.Common.{◌≡◌, ℕ, zero, suc, ◌+◌, ◌-◌, ◌<◌, ◌≤◌, ◌==◌, Bool, true, false, cond, List, [], ◌∷◌, ◌++◌, length, Option, Some, None, Result, Ok, Err, refl, sym, ap, subst, ◌∙◌, append_assoc, inl, inr, arith}
-use Rattle.std.specs.Prelude.{◌⊎◌, not}
+use Rattle.std.proofs.Common.{◌≡◌, ℕ, ◌+◌, ◌-◌, ◌==◌, true, false, cond, List, [], ◌∷◌, ◌++◌, length, Option, Some, None, refl, sym, ap, subst, ◌∙◌, append_assoc, arith}
 use Rattle.std.proofs.lemmas.List.{length-append}
 use Rattle.osi_base.specs.declared.session_word.SessionWord.{SessionWord}
 use Rattle.spdu_codec.specs.declared.kind.SpduKind.{SpduKind}
@@ -9,7 +8,7 @@ use Rattle.spdu_codec.specs.declared.parameters.Parameters.{Parameters}
 use Rattle.spdu_codec.specs.declared.places.UserPlaces.{UserPlaces}
 use Rattle.spdu_codec.specs.Tables.{row_of, first_units, second_units, parameters_of}
 use Rattle.spdu_codec.specs.Words.{has_information, leads}
-use Rattle.spdu_codec.specs.Reading.{front, value_at, is_first}
+use Rattle.spdu_codec.specs.Reading.{front, is_first}
 use Rattle.spdu_codec.specs.Wire.{IsLength, AreParameters, IsUnit, IsLast, IsFront, AreUnits}
 use Rattle.spdu_codec.specs.Places.{place, placed, user_among, UserAmong, UserIn, UserOfLast, ArePlaced, head, head_at, user_in, user_of_last, place_in_second, places, places_of, user_places}
 use Rattle.spdu_codec.proofs.PlaceLoop.{among, goes_on}

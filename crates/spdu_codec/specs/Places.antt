@@ -10,7 +10,7 @@ use Rattle.spdu_codec.specs.Tables.{row_of, first_units, second_units, parameter
 use Rattle.spdu_codec.specs.Parameters.{refusal}
 use Rattle.spdu_codec.specs.Words.{has_information}
 use Rattle.spdu_codec.specs.Reading.{UnitFault, front, value_at, is_first}
-use Rattle.spdu_codec.specs.Wire.{IsLength, AreParameters, IsUnit, IsLast, IsFront}
+use Rattle.spdu_codec.specs.Wire.{IsLength}
 
 abbrev pub place : ℕ → Option ℕ
 place n = Some n

@@ -1,22 +1,21 @@
 -- Fields that come octet by octet.
-use Rattle.std.proofs.Common.{◌≡◌, ℕ, zero, suc, ◌+◌, ◌-◌, ◌*◌, ◌%◌, ◌^◌, ◌<◌, ◌≤◌, ◌⊎◌, inl, inr, Bool, true, false, ◌&&◌, ◌||◌, cond, List, [], ◌∷◌, length, take, drop, Option, Some, None, Ok, Err, refl, sym, ap, subst, ◌∙◌, arith}
+use Rattle.std.proofs.Common.{◌≡◌, ℕ, ◌+◌, ◌-◌, ◌%◌, ◌<◌, ◌≤◌, inl, inr, Bool, true, false, ◌&&◌, ◌||◌, List, ◌∷◌, Ok, Err, refl, sym, ap, ◌∙◌, arith}
 use Rattle.std.proofs.lemmas.Bool.Decides.{nat_tests}
-use Rattle.std.specs.Prelude.{nat_lt, nat_le, nat_eq, min, slice_index, if◌then◌else◌}
-use Rattle.osi_base.specs.declared.layer_words.Kind.TheVariants.{Tag, Length}
+use Rattle.std.specs.Prelude.{nat_lt, nat_eq, slice_index, if◌then◌else◌}
+use Rattle.osi_base.specs.declared.layer_words.Kind.TheVariants.{Tag}
 use Rattle.asn1_types.specs.declared.row.Class.{Class}
 use Rattle.asn1_types.specs.Rows.{is_no_tag, same_class}
 use Rattle.asn1_types.specs.declared.row.Class.TheVariants.{Universal}
-use Rattle.ber_spelling.specs.declared.fault.ReadFault.{ReadFault}
 use Rattle.ber_spelling.specs.declared.fault.ReadFault.TheVariants as faults
-use Rattle.ber_spelling.specs.Reading.{Spot, Opened, Ahead, ended, begun, Reading, ◌>>=◌, within, refuse}
-use Rattle.ber_spelling.specs.Fields.{identifier_at, high_at, digits_at, is_lax, opened_at, is_constructed, announced_at, long_at, definite_at, contents_at, cut_off, look_at}
-use Rattle.asn1_types.specs.Tags.{class_of, capped}
+use Rattle.ber_spelling.specs.Reading.{Spot, Opened, Reading, ◌>>=◌, within, refuse}
+use Rattle.ber_spelling.specs.Fields.{identifier_at, high_at, digits_at, is_lax, opened_at, is_constructed}
+use Rattle.asn1_types.specs.Tags.{class_of}
 use Rattle.ber_spelling.specs.Rules.{whole_at}
 use Rattle.ber_spelling.proofs.Turns.{whole_no_tag}
-use Rattle.stream_front.specs.declared.first_value.FirstValue.TheVariants.{Whole, Faulty}
-use Rattle.stream_front.specs.Resuming.{End, spot, scope_in, goes_on, next_at, zero_at, length_at, number_then, contents_left, counted, size_left, outcome}
+use Rattle.stream_front.specs.declared.first_value.FirstValue.TheVariants.{Faulty}
+use Rattle.stream_front.specs.Resuming.{End, spot, scope_in, goes_on, length_at, number_then, outcome}
 use Rattle.stream_front.proofs.Shrinking.{bind_same}
-use Rattle.stream_front.proofs.Turning.{bool_is, bind_bind, next_in, after_look, whole_then}
+use Rattle.stream_front.proofs.Turning.{bool_is, bind_bind, whole_then}
 
 pub past : (depth place until : ℕ) → nat_lt 262144 until ≡ true → within (scope_in depth) place until ≡ Err (faults.TooLong place)
 unfolding within

@@ -1,17 +1,15 @@
 -- Lengths and contents that come octet by octet.
-use Rattle.std.proofs.Common.{◌≡◌, ℕ, zero, suc, ◌+◌, ◌-◌, ◌*◌, ◌%◌, ◌^◌, ◌<◌, ◌≤◌, ◌⊎◌, inl, inr, Bool, true, false, ◌&&◌, ◌||◌, cond, List, [], ◌∷◌, length, take, drop, Option, Some, None, Ok, Err, refl, sym, ap, subst, ◌∙◌, arith}
+use Rattle.std.proofs.Common.{◌≡◌, ℕ, suc, ◌+◌, ◌*◌, ◌^◌, ◌<◌, ◌≤◌, inl, inr, Bool, true, false, List, [], ◌∷◌, length, take, drop, Ok, Err, refl, sym, ap, ◌∙◌, arith}
 use Rattle.std.proofs.lemmas.Bool.Decides.{nat_tests}
-use Rattle.std.specs.Prelude.{nat_lt, nat_le, nat_eq, min, if◌then◌else◌}
-use Rattle.osi_base.specs.declared.layer_words.Kind.TheVariants.{Tag, Length}
+use Rattle.std.specs.Prelude.{nat_lt, if◌then◌else◌}
+use Rattle.osi_base.specs.declared.layer_words.Kind.TheVariants.{Length}
 use Rattle.asn1_types.specs.Whole.{number_256}
-use Rattle.ber_spelling.specs.declared.fault.ReadFault.{ReadFault}
 use Rattle.ber_spelling.specs.declared.fault.ReadFault.TheVariants as faults
-use Rattle.ber_spelling.specs.Reading.{Spot, Reading, ◌>>=◌, within, refuse}
-use Rattle.ber_spelling.specs.Fields.{announced_at, long_at, definite_at, contents_at, cut_off}
+use Rattle.ber_spelling.specs.Reading.{Spot, Reading, ◌>>=◌, refuse}
+use Rattle.ber_spelling.specs.Fields.{announced_at, definite_at, contents_at}
 use Rattle.asn1_types.specs.Tags.{capped}
-use Rattle.stream_front.specs.declared.first_value.FirstValue.{FirstValue}
-use Rattle.stream_front.specs.declared.first_value.FirstValue.TheVariants.{Short, Whole, Faulty}
-use Rattle.stream_front.specs.Resuming.{End, spot, scope_in, goes_on, next_at, length_at, contents_left, counted, size_left, outcome}
+use Rattle.stream_front.specs.declared.first_value.FirstValue.TheVariants.{Short, Faulty}
+use Rattle.stream_front.specs.Resuming.{End, spot, scope_in, goes_on, contents_left, counted, size_left, outcome}
 use Rattle.stream_front.proofs.Shrinking.{bind_same}
 use Rattle.stream_front.proofs.Turning.{bool_is, bind_bind}
 use Rattle.stream_front.proofs.Fields.{past, within_limit}

@@ -1,23 +1,20 @@
 -- What one octet makes of a scanner is what reading makes of it.
-use Rattle.std.proofs.Common.{◌≡◌, ℕ, zero, suc, ◌+◌, ◌-◌, ◌*◌, ◌%◌, ◌^◌, ◌<◌, ◌≤◌, ◌⊎◌, inl, inr, Bool, true, false, ◌&&◌, ◌||◌, cond, List, [], ◌∷◌, length, take, drop, Option, Some, None, Ok, Err, refl, sym, ap, subst, ◌∙◌, arith}
+use Rattle.std.proofs.Common.{◌≡◌, ℕ, zero, suc, ◌+◌, ◌-◌, ◌*◌, ◌%◌, ◌<◌, ◌≤◌, inl, inr, Bool, true, false, ◌&&◌, ◌||◌, List, [], ◌∷◌, length, take, drop, Ok, Err, refl, sym, ap, ◌∙◌, arith}
 use Rattle.std.proofs.lemmas.Bool.Decides.{nat_tests}
-use Rattle.std.specs.Prelude.{nat_lt, nat_le, nat_eq, slice_index, if◌then◌else◌}
-use Rattle.osi_base.specs.declared.layer_words.Kind.TheVariants.{Tag, Length}
+use Rattle.std.specs.Prelude.{nat_lt, nat_le, nat_eq, if◌then◌else◌}
+use Rattle.osi_base.specs.declared.layer_words.Kind.TheVariants.{Length}
 use Rattle.asn1_types.specs.Rows.{is_no_tag}
-use Rattle.asn1_types.specs.declared.row.Class.TheVariants.{Universal}
 use Rattle.asn1_types.specs.Whole.{number_256}
-use Rattle.ber_spelling.specs.declared.fault.ReadFault.{ReadFault}
 use Rattle.ber_spelling.specs.declared.fault.ReadFault.TheVariants as faults
-use Rattle.ber_spelling.specs.Reading.{Spot, Opened, Ahead, ended, begun, Reading, ◌>>=◌, within, refuse}
-use Rattle.ber_spelling.specs.Fields.{identifier_at, digits_at, opened_at, is_constructed, definite_at, long_at, cut_off, begin_at, look_at, second_zero_at}
+use Rattle.ber_spelling.specs.Reading.{Spot, begun, Reading, ◌>>=◌, within}
+use Rattle.ber_spelling.specs.Fields.{identifier_at, digits_at, definite_at, long_at, cut_off, begin_at, look_at, second_zero_at}
 use Rattle.asn1_types.specs.Tags.{class_of, capped}
 use Rattle.ber_spelling.specs.Rules.{whole_at}
-use Rattle.stream_front.specs.declared.first_value.FirstValue.{FirstValue}
-use Rattle.stream_front.specs.declared.first_value.FirstValue.TheVariants.{Short, Whole, Faulty}
+use Rattle.stream_front.specs.declared.first_value.FirstValue.TheVariants.{Whole, Faulty}
 use Rattle.stream_front.specs.declared.scanner.Scanner.{Scanner}
 use Rattle.stream_front.specs.declared.scanner.ScanStage as stages
 use Rattle.stream_front.specs.declared.scanner.ScanStage.TheVariants as stage
-use Rattle.stream_front.specs.Resuming.{End, spot, scope_in, is_inside, goes_on, next_at, zero_at, outermost, length_at, number_then, contents_left, counted, size_left, outcome, resume, IsSoundStage}
+use Rattle.stream_front.specs.Resuming.{End, spot, scope_in, goes_on, next_at, zero_at, outermost, length_at, number_then, contents_left, counted, size_left, outcome, resume, IsSoundStage}
 use Rattle.stream_front.specs.Steps as steps
 use Rattle.stream_front.specs.Steps.{step}
 use Rattle.stream_front.proofs.Shrinking.{bind_same}

@@ -1,26 +1,24 @@
 -- What a scanner has seen of octets.
-use Rattle.std.proofs.Common.{◌≡◌, ℕ, zero, suc, ◌+◌, ◌-◌, ◌*◌, ◌%◌, ◌<◌, ◌≤◌, ◌⊎◌, inl, inr, Bool, true, false, ◌&&◌, List, [], ◌∷◌, ◌++◌, length, take, drop, get_or, Some, None, Ok, Err, refl, sym, ap, subst, ◌∙◌, arith, append_assoc, length-append}
+use Rattle.std.proofs.Common.{◌≡◌, ℕ, zero, suc, ◌+◌, ◌-◌, ◌*◌, ◌%◌, ◌<◌, ◌≤◌, inl, inr, Bool, true, false, List, [], ◌∷◌, ◌++◌, length, take, drop, get_or, Some, Ok, Err, refl, sym, ap, ◌∙◌, arith, append_assoc, length-append}
 use Rattle.std.proofs.lemmas.Bool.Decides.{nat_tests}
 use Rattle.std.proofs.Math.ListN.{drop_of_length-le}
 use Rattle.std.proofs.lemmas.Option.{slice_get_within, get_or_from_slice_get}
 use Rattle.osi_base.specs.declared.layer_words.Kind.TheVariants.{Tag}
-use Rattle.std.proofs.lemmas.List.{take_more, take-append-drop, take-append-le, drop-append-le, append-nil}
+use Rattle.std.proofs.lemmas.List.{take_more, take-append-drop, take-append-le}
 use Rattle.std.specs.Prelude.{nat_lt, nat_eq, slice_get, if◌then◌else◌}
 use Rattle.asn1_types.specs.Value.{Value, any}
-use Rattle.ber_spelling.specs.declared.fault.ReadFault.{ReadFault}
 use Rattle.ber_spelling.specs.declared.fault.ReadFault.TheVariants as faults
 use Rattle.ber_spelling.specs.Reading.{Spot, Opened, Reading, ◌>>=◌, within, refuse}
 use Rattle.ber_spelling.specs.Fields.{identifier_at, high_at, digits_at, is_lax, opened_at, definite_at, contents_at, look_at}
 use Rattle.asn1_types.specs.Tags.{capped}
 use Rattle.ber_spelling.specs.Rules.{whole_at, any_at, reads, plain, value_at, read_at, outermost as outermost_scope}
 use Rattle.stub_tables.specs.AnyValue.{any_value_rows, any_value_row}
-use Rattle.stream_front.specs.declared.first_value.FirstValue.{FirstValue}
 use Rattle.stream_front.specs.declared.first_value.FirstValue.TheVariants.{Short, Whole, Faulty}
 use Rattle.stream_front.specs.declared.scanner.Scanner.{Scanner}
 use Rattle.stream_front.specs.declared.scanner.ScanStage as stages
 use Rattle.stream_front.specs.declared.scanner.ScanStage.TheVariants as stage
 use Rattle.stream_front.specs.Fronts.{front_of, front_at}
-use Rattle.stream_front.specs.Resuming.{End, spot, scope_in, next_at, outermost, goes_on, size_left, outcome, resume, is_done, first_value_of, IsSoundStage, HasSeen}
+use Rattle.stream_front.specs.Resuming.{End, spot, scope_in, next_at, outcome, resume, is_done, first_value_of, IsSoundStage, HasSeen}
 use Rattle.stream_front.specs.Steps as steps
 use Rattle.stream_front.proofs.Turning.{bool_is, next_in}
 use Rattle.stream_front.proofs.Lengths.{size_short}

@@ -1,5 +1,5 @@
 -- Reading leaves no more octets than there were, and an identifier takes one at least.
-use Rattle.std.proofs.Common.{◌≡◌, ℕ, zero, suc, ◌+◌, ◌-◌, ◌*◌, ◌<◌, ◌≤◌, ◌%◌, Bool, true, false, ◌&&◌, ◌||◌, not, cond, List, [], ◌∷◌, length, take, drop, Option, Some, None, Ok, Err, refl, sym, ap, subst, ◌∙◌, arith}
+use Rattle.std.proofs.Common.{◌≡◌, ℕ, zero, suc, ◌+◌, ◌-◌, ◌*◌, ◌<◌, ◌≤◌, ◌%◌, Bool, true, false, ◌&&◌, ◌||◌, not, cond, List, [], ◌∷◌, length, drop, Option, Some, Ok, Err, refl, subst, arith}
 use Rattle.std.proofs.lemmas.List.{length-drop}
 use Rattle.std.specs.Prelude.{nat_lt, nat_eq}
 use Rattle.asn1_types.specs.Rows.{is_no_tag}
@@ -8,7 +8,7 @@ use Rattle.ber_spelling.specs.declared.spot.Scope.{Scope}
 use Rattle.ber_spelling.specs.Reading.{Spot, Opened, Ahead, ended, begun, Reading, ◌>>=◌, within, is_past}
 use Rattle.ber_spelling.specs.Fields.{digits_at, high_at, identifier_at, announced_at, long_at, definite_at, extent_at, contents_at, look_at, mark_at, second_zero_at, begin_at, lacking_from, cut_off, is_lax, is_end}
 use Rattle.asn1_types.specs.Tags.{capped}
-use Rattle.ber_spelling.specs.Rules.{item_at, items_at, all_items_at, anew, whole_at}
+use Rattle.ber_spelling.specs.Rules.{item_at, items_at, anew, whole_at}
 
 -- ---- what holds of what is read
 

@@ -1,7 +1,7 @@
 -- What holds of a scanner holds after one more octet.
-use Rattle.std.proofs.Common.{◌≡◌, ℕ, zero, suc, ◌+◌, ◌-◌, ◌*◌, ◌%◌, ◌^◌, ◌<◌, ◌≤◌, ◌⊎◌, inl, inr, Bool, true, false, ◌&&◌, ◌||◌, refl, sym, subst, arith}
+use Rattle.std.proofs.Common.{◌≡◌, ℕ, zero, suc, ◌+◌, ◌-◌, ◌*◌, ◌%◌, ◌^◌, ◌<◌, ◌≤◌, Bool, true, false, ◌&&◌, ◌||◌, refl, arith}
 use Rattle.std.proofs.lemmas.Bool.Decides.{nat_tests}
-use Rattle.std.specs.Prelude.{nat_lt, nat_le, nat_eq, min, if◌then◌else◌}
+use Rattle.std.specs.Prelude.{nat_lt, nat_le, nat_eq, if◌then◌else◌}
 use Rattle.asn1_types.specs.Rows.{is_no_tag}
 use Rattle.ber_spelling.specs.Fields.{is_constructed}
 use Rattle.asn1_types.specs.Tags.{class_of, capped}
@@ -11,7 +11,6 @@ use Rattle.stream_front.specs.declared.scanner.ScanStage.TheVariants as stage
 use Rattle.stream_front.specs.Resuming.{is_inside, is_done, IsSoundStage}
 use Rattle.stream_front.specs.Steps as steps
 use Rattle.stream_front.specs.Steps.{step}
-use Rattle.stream_front.proofs.Turning.{bool_is}
 
 -- it is sound, and it has seen one octet more
 pub record IsNext (s t : Scanner) : Type 0 where

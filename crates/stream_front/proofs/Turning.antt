@@ -1,16 +1,14 @@
 -- Values one after the other inside indefinite lengths, one at a time.
-use Rattle.std.proofs.Common.{◌≡◌, ℕ, zero, suc, ◌+◌, ◌-◌, ◌<◌, ◌≤◌, ◌⊎◌, inl, inr, Bool, true, false, ◌&&◌, ◌||◌, cond, List, [], ◌∷◌, length, take, drop, Option, Some, None, Ok, Err, refl, sym, ap, subst, ◌∙◌, arith}
-use Rattle.std.specs.Prelude.{nat_lt, nat_eq, if◌then◌else◌}
+use Rattle.std.proofs.Common.{◌≡◌, ℕ, suc, ◌+◌, ◌-◌, ◌<◌, ◌⊎◌, inl, inr, Bool, true, false, ◌&&◌, List, [], ◌∷◌, length, drop, Some, None, Ok, Err, refl, sym, ap, ◌∙◌, arith}
 use Rattle.asn1_types.specs.Rows.{is_no_tag}
 use Rattle.asn1_types.specs.Whole.{is_marked}
-use Rattle.ber_spelling.specs.declared.fault.ReadFault.{ReadFault}
 use Rattle.ber_spelling.specs.declared.fault.ReadFault.TheVariants as faults
 use Rattle.ber_spelling.specs.declared.spot.Scope.{Scope}
-use Rattle.ber_spelling.specs.Reading.{Spot, Opened, Ahead, ended, begun, Reading, ◌>>=◌, within, refuse}
+use Rattle.ber_spelling.specs.Reading.{Spot, Opened, Ahead, ended, begun, Reading, ◌>>=◌, within}
 use Rattle.ber_spelling.specs.Fields.{extent_at, contents_at, look_at, inside}
-use Rattle.ber_spelling.specs.Rules.{item_at, items_at, all_items_at, anew, sized_at, marked_at, whole_at}
+use Rattle.ber_spelling.specs.Rules.{item_at, items_at, all_items_at, sized_at, marked_at, whole_at}
 use Rattle.ber_spelling.proofs.Turns.{whole_marked, whole_sized}
-use Rattle.stream_front.specs.Resuming.{End, spot, scope_in, is_inside, values_in, goes_on, next_at, length_at}
+use Rattle.stream_front.specs.Resuming.{End, spot, scope_in, goes_on, next_at, length_at}
 use Rattle.stream_front.proofs.Shrinking.{bind_same, look_shrink, whole_shrink, turns_same}
 
 pub bool_is : (b : Bool) → (b ≡ true) ⊎ (b ≡ false)

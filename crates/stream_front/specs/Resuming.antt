@@ -1,5 +1,5 @@
 -- Reading that is left somewhere in a value, and goes on there: what the octets that follow make of it.
-use Rattle.std.specs.Prelude.{◌≡◌, ℕ, zero, suc, ◌+◌, ◌-◌, ◌<◌, ◌≤◌, ◌^◌, Bool, true, false, ◌&&◌, ◌||◌, Option, Some, None, List, [], ◌∷◌, ◌++◌, length, take, drop, Ok, Err, nat_lt, nat_eq, slice_index, if◌then◌else◌}
+use Rattle.std.specs.Prelude.{◌≡◌, ℕ, zero, suc, ◌+◌, ◌-◌, ◌<◌, ◌≤◌, ◌^◌, Bool, true, false, ◌&&◌, ◌||◌, Some, None, List, [], ◌∷◌, ◌++◌, length, take, drop, Ok, Err, nat_lt, nat_eq, slice_index, if◌then◌else◌}
 use Rattle.osi_base.specs.declared.layer_words.Kind.TheVariants.{Tag, Length}
 use Rattle.osi_base.specs.Limits.{most_octets, most_levels}
 use Rattle.asn1_types.specs.Whole.{is_marked, number_256}

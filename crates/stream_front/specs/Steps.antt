@@ -1,5 +1,5 @@
 -- What one octet makes of a scanner.
-use Rattle.std.specs.Prelude.{ℕ, zero, suc, ◌+◌, ◌-◌, ◌*◌, ◌%◌, Bool, true, false, ◌&&◌, ◌||◌, nat_lt, nat_le, nat_eq, if◌then◌else◌}
+use Rattle.std.specs.Prelude.{ℕ, ◌+◌, ◌-◌, ◌*◌, ◌%◌, Bool, ◌&&◌, ◌||◌, nat_lt, nat_le, nat_eq, if◌then◌else◌}
 use Rattle.osi_base.specs.Limits.{most_octets, most_levels}
 use Rattle.asn1_types.specs.Rows.{is_no_tag}
 use Rattle.ber_spelling.specs.Fields.{is_constructed}

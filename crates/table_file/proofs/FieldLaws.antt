@@ -1,6 +1,6 @@
 -- Fields: what is written comes back, and what is read was written so.
-use Rattle.std.proofs.Common.{◌≡◌, ℕ, zero, suc, ◌+◌, ◌-◌, ◌*◌, ◌/◌, ◌%◌, ◌^◌, ◌≤◌, ◌<◌, Bool, true, false, cond, List, [], ◌∷◌, ◌++◌, length, take, Option, Some, None, Result, Ok, Err, refl, sym, ap, ◌∙◌, subst, arith, length-append}
-use Rattle.std.specs.Prelude.{ℤ, pos, negsuc, nat_lt, slice_index}
+use Rattle.std.proofs.Common.{◌≡◌, ℕ, zero, suc, ◌+◌, ◌-◌, ◌*◌, ◌/◌, ◌%◌, ◌^◌, ◌≤◌, ◌<◌, Bool, true, false, cond, List, [], ◌∷◌, ◌++◌, length, take, Option, Some, None, Result, Ok, Err, refl, sym, ap, subst, arith, length-append}
+use Rattle.std.specs.Prelude.{ℤ, nat_lt, slice_index}
 use Rattle.std.specs.List.{list_all}
 use Rattle.std.proofs.lemmas.Bool.{le-ltb, ltb-false, and_parts}
 use Rattle.osi_base.specs.Oid.{IsOid, is_oid}
@@ -21,12 +21,12 @@ use Rattle.packed_codec.specs.Fields.{moved}
 use Rattle.packed_codec.specs.Reading.{Spot}
 use Rattle.table_file.specs.declared.fault.Stop.{Stop}
 use Rattle.table_file.specs.FieldTypes.{field_types}
-use Rattle.table_file.specs.Reading.{Reading, ◌>>=◌, refuse}
+use Rattle.table_file.specs.Reading.{Reading}
 use Rattle.table_file.specs.Fields.{octets_at, octet_at, count_at, counted_at, truth_of, judged, truth_at, text_at, shifted, value_at, number_in, arcs_in, integer_at, object_id_at}
 use Rattle.table_file.specs.Files.{integer_file, oid_file, truth_file}
 use Rattle.table_file.specs.Sound.{IsNumber, AreArcs}
 use Rattle.table_file.proofs.Sizes.{integer_room, oid_room}
-use Rattle.table_file.proofs.Spots.{at, Comes, comes_here, then_comes, comes_from, comes_apart, Went, went_then, went_as, went_octets, bind_ok, done, ok_is}
+use Rattle.table_file.proofs.Spots.{at, Comes, comes_here, then_comes, comes_from, comes_apart, Went, went_then, went_as, bind_ok, done, ok_is}
 
 -- ---- octets
 

@@ -1,7 +1,7 @@
 -- Whole table files: those of sound tables are loaded, and what is loaded is one.
-use Rattle.std.proofs.Common.{◌≡◌, ℕ, zero, suc, ◌+◌, ◌-◌, ◌≤◌, ◌<◌, Bool, true, false, cond, List, [], ◌∷◌, ◌++◌, length, take, drop, Option, Some, None, Result, Ok, Err, refl, sym, ap, ◌∙◌, subst, append_assoc, arith}
+use Rattle.std.proofs.Common.{◌≡◌, ℕ, ◌+◌, ◌-◌, ◌≤◌, Bool, true, false, cond, List, [], ◌∷◌, ◌++◌, length, take, drop, Option, Ok, Err, refl, sym, ap, ◌∙◌, subst, append_assoc, arith}
 use Rattle.std.specs.Prelude.{◌&&◌, ◌==◌, ℤ, nat_lt, nat_eq, if◌then◌else◌}
-use Rattle.std.proofs.lemmas.Bool.{le-ltb, ltb-false, ltb-true, and_parts}
+use Rattle.std.proofs.lemmas.Bool.{le-ltb, ltb-false, and_parts}
 use Rattle.std.proofs.lemmas.Bool.Decides.{nat_tests}
 use Rattle.std.proofs.lemmas.List.{append-nil}
 use Rattle.asn1_types.specs.declared.row.Part.{Part}
@@ -12,9 +12,7 @@ use Rattle.osi_base.specs.Octets.{AreOctets}
 use Rattle.osi_base.proofs.OctetLaws.{octets_right}
 use Rattle.packed_codec.specs.Writing.{counted}
 use Rattle.packed_codec.specs.Reading.{Spot}
-use Rattle.stub_tables.specs.declared.operation.Operation.{Operation}
 use Rattle.stub_tables.specs.declared.operation.ErrorRow.{ErrorRow}
-use Rattle.table_file.specs.declared.fault.Stop.{Stop}
 use Rattle.table_file.specs.declared.fault.Stop.TheVariants.{Cut, Bad, NoMemory}
 use Rattle.table_file.specs.declared.fault.LoadFault.{LoadFault}
 use Rattle.table_file.specs.declared.row_parts.Version.{Version}
@@ -29,9 +27,9 @@ use Rattle.table_file.specs.Loading.{is_magic, version_of, version_at, module_na
 use Rattle.table_file.specs.Sound.{Along, Each, IsTitled, IsDefault, IsPart, HasRowForm, IsRow, IsError, IsOperation, items_in_row, items_in_operation, AreSound, items_in, sum_of, counted_in}
 use Rattle.table_file.specs.Laws.{IsTableFile, FilesAreLoaded, LoadedAreFiles, StoredIsLoaded, MigratedIsLoaded}
 use Rattle.table_file.proofs.Names.{title_is_text}
-use Rattle.table_file.proofs.Spots.{at, Comes, comes_here, then_comes, comes_from, comes_apart, Went, went_then, went_as, went_octets, bind_ok, done, ok_is}
+use Rattle.table_file.proofs.Spots.{at, Comes, comes_here, then_comes, comes_from, Went, went_then, went_octets, bind_ok, done, ok_is}
 use Rattle.table_file.proofs.FieldLaws.{text_back, text_found, oid_back, oid_found}
-use Rattle.table_file.proofs.ListLaws.{Listed, many_back, many_found}
+use Rattle.table_file.proofs.ListLaws.{many_back, many_found}
 use Rattle.table_file.proofs.RowBack.{rows_step}
 use Rattle.table_file.proofs.RowFound.{ends_as, rows_found}
 use Rattle.table_file.proofs.SectionLaws.{errors_step, errors_found, operations_step, operations_found}

@@ -1,5 +1,5 @@
 -- Many steps, one after the other.
-use Rattle.std.proofs.Common.{◌≡◌, ℕ, zero, suc, ◌+◌, ◌-◌, ◌<◌, ◌≤◌, Ok, Err, refl, sym, ap, subst, ◌∙◌, arith}
+use Rattle.std.proofs.Common.{◌≡◌, ℕ, zero, suc, ◌+◌, ◌-◌, ◌<◌, ◌≤◌, Ok, refl, sym, ap, subst, ◌∙◌, arith}
 use Rattle.table_file.specs.declared.fault.Stop.{Stop}
 use Rattle.table_file.specs.declared.fault.Stop.TheVariants.{Cut, Bad, NoMemory}
 use Rattle.packed_codec.specs.Reading.{Spot}

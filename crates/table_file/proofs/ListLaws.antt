@@ -1,16 +1,16 @@
 -- Lists: what is written comes back item by item, and what is read was written so.
-use Rattle.std.proofs.Common.{◌≡◌, ℕ, zero, suc, ◌+◌, ◌^◌, ◌≤◌, ◌<◌, List, [], ◌∷◌, ◌++◌, length, Option, Some, None, Ok, Err, refl, sym, ap, ◌∙◌, subst, append_assoc, arith}
+use Rattle.std.proofs.Common.{◌≡◌, ℕ, zero, suc, ◌+◌, ◌^◌, ◌≤◌, ◌<◌, List, [], ◌∷◌, ◌++◌, length, Option, Some, None, Ok, refl, sym, ap, ◌∙◌, subst, append_assoc, arith}
 use Rattle.std.specs.List.{flat_map}
 use Rattle.std.proofs.lemmas.List.{append-nil}
 use Rattle.byteorder.specs.Endian.{big_bytes}
 use Rattle.osi_base.specs.Octets.{AreOctets}
 use Rattle.packed_codec.specs.Reading.{Spot}
-use Rattle.table_file.specs.Reading.{Reading, ◌>>=◌, fold_at}
+use Rattle.table_file.specs.Reading.{Reading, fold_at}
 use Rattle.table_file.specs.Fields.{counted_at, many_at}
 use Rattle.table_file.specs.RowParts.{joined, joins, list_at}
 use Rattle.table_file.specs.Files.{list_file}
 use Rattle.table_file.specs.Sound.{Along, Each, sum_of, counted_in}
-use Rattle.table_file.proofs.Spots.{at, Comes, comes_here, then_comes, comes_from, comes_apart, Went, went_then, went_as, went_octets, bind_ok, done, ok_is}
+use Rattle.table_file.proofs.Spots.{at, Comes, comes_here, then_comes, comes_from, Went, went_then, went_as, went_octets, bind_ok, ok_is}
 use Rattle.table_file.proofs.FieldLaws.{counted_back, counted_found}
 
 module _ {A X : Type 0} (step : A → Spot → Reading (A × Spot)) (inj : List X → A) (W : X → List ℕ) (C : X → ℕ) (V : List X → X → Type 0) where

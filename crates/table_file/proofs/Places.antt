@@ -1,9 +1,9 @@
 -- Places of faults within fields.
-use Rattle.std.proofs.Common.{◌≡◌, ℕ, ◌+◌, ◌<◌, ◌≤◌, ◌^◌, List, length, Ok, Err, refl, arith}
+use Rattle.std.proofs.Common.{ℕ, ◌+◌, ◌<◌, ◌^◌, List, length, refl, arith}
 use Rattle.asn1_types.specs.declared.row.TypeRow.{TypeRow}
 use Rattle.packed_codec.specs.declared.fault.PackedFault.{PackedFault}
 use Rattle.packed_codec.specs.declared.fault.PackedFault.TheVariants as packed
-use Rattle.packed_codec.specs.Reading.{Reading, FailsWith}
+use Rattle.packed_codec.specs.Reading.{FailsWith}
 use Rattle.packed_codec.specs.Rules.{read_at}
 use Rattle.packed_codec.specs.Laws.{FaultIsFirst}
 use Rattle.table_file.specs.Fields.{IsNear}

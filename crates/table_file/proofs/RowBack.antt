@@ -1,7 +1,7 @@
 -- Rows of types, items and parts: what is written comes back.
-use Rattle.std.proofs.Common.{◌≡◌, ℕ, zero, suc, ◌+◌, ◌^◌, ◌≤◌, ◌<◌, Bool, true, false, List, [], ◌∷◌, ◌++◌, length, Option, Some, None, Ok, Err, refl, sym, ap, ◌∙◌, subst, append_assoc, arith}
-use Rattle.std.specs.Prelude.{ℤ, pos, negsuc, option_map, nat_lt, if◌then◌else◌}
-use Rattle.std.proofs.lemmas.Bool.{le-ltb, ltb-false, lt-ltb, le-leb}
+use Rattle.std.proofs.Common.{◌≡◌, ℕ, ◌+◌, ◌≤◌, Bool, true, false, List, [], ◌∷◌, ◌++◌, length, Option, Some, None, Ok, refl, sym, ap, ◌∙◌, append_assoc, arith}
+use Rattle.std.specs.Prelude.{ℤ, pos, nat_lt}
+use Rattle.std.proofs.lemmas.Bool.{le-ltb, lt-ltb, le-leb}
 use Rattle.asn1_types.specs.declared.row.Item.{Item}
 use Rattle.asn1_types.specs.declared.row.Part.{Part}
 use Rattle.asn1_types.specs.declared.row.TypeId.{TypeId}
@@ -12,20 +12,16 @@ use Rattle.asn1_types.specs.declared.row.TextKind.TheVariants.{Utf8, Ia5, Visibl
 use Rattle.asn1_types.specs.declared.row.TypeRow.{TypeRow}
 use Rattle.asn1_types.specs.declared.row.TypeRow.TheVariants as rows
 use Rattle.asn1_types.specs.Rows.{class_number}
-use Rattle.asn1_types.specs.Table.{refusal}
-use Rattle.notation_tokens.specs.Words.{is_name_of_value}
 use Rattle.packed_codec.specs.Writing.{counted}
-use Rattle.packed_codec.specs.Reading.{Spot}
 use Rattle.table_file.specs.declared.row_parts.Version.{Version}
 use Rattle.table_file.specs.declared.row_parts.Version.TheVariants as versions
 use Rattle.table_file.specs.declared.rows.Made.{Made}
 use Rattle.table_file.specs.declared.rows.Made.TheVariants as makes
-use Rattle.table_file.specs.Reading.{Reading, ◌>>=◌}
 use Rattle.table_file.specs.Fields.{octet_at, truth_at, text_at, integer_at}
-use Rattle.table_file.specs.RowParts.{number_32, name_at, id_of, row_number_at, list_at, item_of, item_at, default_if, default_at, part_of, part_at, index_of, index_at}
+use Rattle.table_file.specs.RowParts.{number_32, name_at, row_number_at, list_at, item_at, default_if, default_at, part_at, index_at}
 use Rattle.asn1_types.specs.Numbered.{kind_numbered, class_numbered}
-use Rattle.table_file.specs.Rows.{range_at, most_at, kind_at, tag_of, tagged_at, enumerated_at, sequence_of_at, set_of_at, of_parts_at, made_row, row_behind, row_at, unless_refused, added, adds}
-use Rattle.table_file.specs.Files.{integer_file, number_file, truth_file, maybe_file, list_file, kind_number, item_file, default_file, part_file, row_file}
+use Rattle.table_file.specs.Rows.{range_at, most_at, kind_at, tagged_at, enumerated_at, sequence_of_at, set_of_at, of_parts_at, made_row, row_behind, row_at, adds}
+use Rattle.table_file.specs.Files.{integer_file, number_file, truth_file, list_file, kind_number, item_file, default_file, part_file, row_file}
 use Rattle.table_file.specs.Sound.{Each, IsNamed, IsNumber, IsShortNumber, IsItem, IsDefault, IsPart, HasRowForm, IsRow, items_in_row, IsPlace}
 use Rattle.table_file.proofs.Spots.{at, Comes, comes_here, then_comes, comes_from, comes_apart}
 use Rattle.table_file.proofs.FieldLaws.{octet_back, truth_back, text_back, integer_back}

@@ -1,5 +1,5 @@
 -- Rows of types, items and parts: what is read was written so.
-use Rattle.std.proofs.Common.{◌≡◌, ℕ, zero, suc, ◌+◌, ◌^◌, ◌≤◌, ◌<◌, Bool, true, false, cond, List, [], ◌∷◌, ◌++◌, length, Option, Some, None, Ok, Err, refl, sym, ap, ◌∙◌, subst, arith}
+use Rattle.std.proofs.Common.{◌≡◌, ℕ, zero, suc, ◌+◌, ◌^◌, ◌≤◌, ◌<◌, Bool, true, false, cond, List, [], ◌∷◌, ◌++◌, length, Option, Some, None, Ok, refl, sym, ap, ◌∙◌, subst, arith}
 use Rattle.std.specs.Prelude.{ℤ, pos, negsuc, option_map, nat_lt, nat_le, if◌then◌else◌}
 use Rattle.std.proofs.lemmas.Bool.{ltb-true, leb-true}
 use Rattle.asn1_types.specs.declared.row.Item.{Item}
@@ -28,10 +28,10 @@ use Rattle.table_file.specs.RowParts.{number_32, name_at, id_of, row_number_at, 
 use Rattle.asn1_types.specs.Numbered.{kind_numbered, class_numbered}
 use Rattle.table_file.specs.Rows.{range_at, most_at, kind_at, tag_of, tagged_at, enumerated_at, sequence_of_at, set_of_at, of_parts_at, made_row, row_behind, row_at, unless_refused, added, adds}
 use Rattle.table_file.specs.Files.{integer_file, number_file, truth_file, maybe_file, list_file, kind_number, item_file, default_file, part_file, row_file}
-use Rattle.table_file.specs.Sound.{Each, IsNamed, IsNumber, IsShortNumber, IsItem, IsDefault, IsPart, HasRowForm, IsRow, items_in_row, IsPlace}
+use Rattle.table_file.specs.Sound.{Each, IsNamed, IsShortNumber, IsItem, IsDefault, IsPart, HasRowForm, IsRow, items_in_row, IsPlace}
 use Rattle.table_file.proofs.Spots.{Went, went_then, went_as, went_octets, bind_ok, done, ok_is}
 use Rattle.table_file.proofs.FieldLaws.{octet_found, truth_found, text_found, integer_found}
-use Rattle.table_file.proofs.ListLaws.{OneMore, StepFound, list_found}
+use Rattle.table_file.proofs.ListLaws.{StepFound, list_found}
 
 -- ---- what a step ends with
 

@@ -1,6 +1,6 @@
 -- Errors and operations: what is written comes back, and what is read was written so.
-use Rattle.std.proofs.Common.{◌≡◌, ℕ, zero, suc, ◌+◌, ◌^◌, ◌≤◌, ◌<◌, Bool, true, false, cond, List, [], ◌∷◌, ◌++◌, length, Option, Some, None, Ok, Err, refl, sym, ap, ◌∙◌, subst, append_assoc, arith}
-use Rattle.std.specs.Prelude.{◌||◌, ℤ, pos, nat_lt, if◌then◌else◌}
+use Rattle.std.proofs.Common.{◌≡◌, ℕ, zero, suc, ◌+◌, ◌≤◌, ◌<◌, Bool, true, false, cond, List, [], ◌∷◌, ◌++◌, length, Option, Some, None, Ok, refl, sym, ap, ◌∙◌, subst, append_assoc, arith}
+use Rattle.std.specs.Prelude.{◌||◌, nat_lt}
 use Rattle.std.proofs.lemmas.Bool.{lt-ltb, ltb-true}
 use Rattle.asn1_types.specs.declared.row.TypeId.{TypeId}
 use Rattle.asn1_types.specs.declared.row.TypeRow.{TypeRow}
@@ -17,10 +17,10 @@ use Rattle.table_file.specs.Fields.{octet_at, truth_at, integer_at, object_id_at
 use Rattle.table_file.specs.RowParts.{name_at, row_number_at, list_at, index_at}
 use Rattle.table_file.specs.Sections.{code_behind, code_at, known_row, some_type, type_if, type_at, use_of, use_at, error_of, error_at, error_named, error_coded, unless, error_added, adds_error, both, operation_of, operation_at, operation_named, operation_coded, operation_added, adds_operation}
 use Rattle.table_file.specs.Files.{integer_file, number_file, oid_file, truth_file, maybe_file, list_file, code_file, id_file, use_file, error_file, operation_file}
-use Rattle.table_file.specs.Sound.{Each, IsNamed, IsNumber, IsShortNumber, AreArcs, IsCode, IsRowNumber, IsUse, IsError, IsPlace, IsOperation, items_in_operation}
-use Rattle.table_file.proofs.Spots.{at, Comes, comes_here, then_comes, comes_from, comes_apart, Went, went_then, went_as, went_octets, bind_ok, done, ok_is}
+use Rattle.table_file.specs.Sound.{Each, IsNamed, IsCode, IsRowNumber, IsUse, IsError, IsPlace, IsOperation, items_in_operation}
+use Rattle.table_file.proofs.Spots.{at, Comes, comes_here, then_comes, comes_from, comes_apart, Went, went_then, went_as, went_octets, bind_ok, ok_is}
 use Rattle.table_file.proofs.FieldLaws.{octet_back, octet_found, truth_back, truth_found, integer_back, integer_found, oid_back, oid_found}
-use Rattle.table_file.proofs.ListLaws.{StepBack, StepFound, OneMore, list_back, list_found}
+use Rattle.table_file.proofs.ListLaws.{StepBack, StepFound, list_back, list_found}
 use Rattle.table_file.proofs.RowBack.{name_back, row_number_back, place_back}
 use Rattle.table_file.proofs.RowFound.{ends_as, name_found, row_number_found, place_found}
 

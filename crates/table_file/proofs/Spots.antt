@@ -1,8 +1,7 @@
 -- Reading from a spot: what comes of octets that are known, and where reading went.
-use Rattle.std.proofs.Common.{◌≡◌, ℕ, ◌+◌, List, ◌++◌, Result, Ok, Err, refl, sym, ap, subst, ◌∙◌, append_assoc, arith}
+use Rattle.std.proofs.Common.{◌≡◌, ℕ, ◌+◌, List, ◌++◌, Ok, Err, refl, sym, ap, subst, ◌∙◌, append_assoc, arith}
 use Rattle.osi_base.specs.Octets.{AreOctets}
 use Rattle.osi_base.proofs.OctetLaws.{octets_right}
-use Rattle.table_file.specs.declared.fault.Stop.{Stop}
 use Rattle.packed_codec.specs.Reading.{Spot}
 use Rattle.table_file.specs.Reading.{Reading, ◌>>=◌}
 

@@ -1,8 +1,7 @@
 -- What a table file holds, or where it is at fault. Rows are judged once they are whole, before the next is read.
-use Rattle.std.specs.Prelude.{◌≡◌, ℕ, ◌==◌, Bool, true, false, ◌&&◌, ◌||◌, List, [], ◌∷◌, length, take, drop, Result, Ok, Err, nat_lt, nat_eq, if◌then◌else◌}
+use Rattle.std.specs.Prelude.{◌≡◌, ℕ, ◌==◌, Bool, true, false, ◌&&◌, List, ◌∷◌, length, take, drop, Result, Ok, Err, nat_lt, nat_eq, if◌then◌else◌}
 use Rattle.osi_base.specs.declared.layer_words.Kind.TheVariants.{Missing, Extra, Content}
 use Rattle.osi_base.specs.Limits.{text_most, most_items}
-use Rattle.asn1_types.specs.declared.row.TypeRow.{TypeRow}
 use Rattle.notation_tokens.specs.Words.{is_name_of_type}
 use Rattle.stub_tables.specs.declared.tables.Tables.{Tables}
 use Rattle.table_file.specs.declared.fault.Stop.TheVariants.{Cut, Bad, NoMemory}

@@ -1,6 +1,6 @@
 -- The parts of rows. What has the right fields and breaks another rule (a name, a number) makes its row unsound: it is read to its end, and
 -- is nothing.
-use Rattle.std.specs.Prelude.{ℕ, ℤ, pos, negsuc, Bool, true, false, List, [], ◌∷◌, ◌++◌, Result, Ok, Err, Option, Some, None, option_map, nat_lt, if◌then◌else◌, nat_le}
+use Rattle.std.specs.Prelude.{ℕ, ℤ, pos, negsuc, Bool, List, [], ◌∷◌, ◌++◌, Ok, Option, Some, None, option_map, nat_lt, if◌then◌else◌, nat_le}
 use Rattle.osi_base.specs.Limits.{most_32}
 use Rattle.asn1_types.specs.declared.row.Item.{Item}
 use Rattle.asn1_types.specs.declared.row.Part.{Part}

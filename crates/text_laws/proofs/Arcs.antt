@@ -1,20 +1,17 @@
 -- Object identifiers that are read back.
-use Rattle.std.proofs.Common.{◌≡◌, ◌==◌, ℕ, zero, suc, ◌+◌, ◌*◌, ◌^◌, ◌<◌, ◌≤◌, Bool, true, false, not, List, [], ◌∷◌, ◌++◌, length, Option, None, Some, refl, ap, sym, ◌∙◌, arith, if◌then◌else◌, nat_lt, append_assoc, append-nil, length-append, decimal}
-use Rattle.std.specs.Prelude.{◌&&◌, ◌||◌}
+use Rattle.std.proofs.Common.{◌≡◌, ◌==◌, ℕ, zero, suc, ◌+◌, ◌*◌, ◌^◌, ◌<◌, ◌≤◌, true, false, List, [], ◌∷◌, ◌++◌, length, refl, ap, sym, ◌∙◌, arith, append_assoc, append-nil, decimal}
 use Rattle.std.specs.List.{list_all, flat_map}
 use Rattle.std.proofs.lemmas.Bool.Decides.{nat_tests}
-use Rattle.osi_base.specs.Oid.{is_oid}
 use Rattle.asn1_types.specs.Fits.{has_32_bits}
 use Rattle.asn1_types.specs.Value as tree
 use Rattle.value_text.specs.Numbers.{is_digit, number_of}
-use Rattle.value_text.specs.Values.{after_space, spaced}
-use Rattle.value_reading.specs.Found.{Found}
+use Rattle.value_text.specs.Values.{after_space}
 use Rattle.value_reading.specs.Words.{word, behind_word}
 use Rattle.value_reading.specs.Forms.{oid_before, then_arc, arcs_at}
 use Rattle.text_laws.specs.Laws.{may_follow}
 use Rattle.text_laws.proofs.Tests.{both_true}
 use Rattle.text_laws.proofs.Words.{word_is, behind_is}
-use Rattle.text_laws.proofs.Numbers.{Writes, writes, number_back, digits_plain}
+use Rattle.text_laws.proofs.Numbers.{writes, number_back, digits_plain}
 
 pub small_arc : (n : ℕ) → has_32_bits n ≡ true → n < 2 ^ 32
 small_arc n h = grind (arith, nat_tests)

@@ -1,11 +1,11 @@
 -- Bits that are read back.
-use Rattle.std.proofs.Common.{◌≡◌, ◌==◌, ℕ, zero, suc, ◌+◌, ◌-◌, ◌*◌, ◌/◌, ◌%◌, ◌^◌, ◌<◌, ◌≤◌, Bool, true, false, not, List, [], ◌∷◌, ◌++◌, length, take, Option, None, Some, refl, ap, sym, ◌∙◌, arith, if◌then◌else◌, nat_lt, append_assoc, append-nil}
-use Rattle.std.specs.Prelude.{◌&&◌, ◌||◌, slice_index}
+use Rattle.std.proofs.Common.{◌≡◌, ◌==◌, ℕ, zero, suc, ◌+◌, ◌-◌, ◌*◌, ◌/◌, ◌%◌, ◌^◌, ◌<◌, Bool, true, false, not, List, [], ◌∷◌, ◌++◌, length, take, Option, None, Some, refl, ap, sym, ◌∙◌, arith, if◌then◌else◌, nat_lt, append_assoc, append-nil}
+use Rattle.std.specs.Prelude.{slice_index}
 use Rattle.std.specs.List.{list_all}
 use Rattle.std.proofs.lemmas.Bool.Decides.{nat_tests}
 use Rattle.asn1_types.specs.Fits.{is_octet, are_bits}
 use Rattle.value_text.specs.Values.{octet_bits, bits_of}
-use Rattle.value_reading.specs.Forms.{then_octet, octet_of_bits, bit_octets}
+use Rattle.value_reading.specs.Forms.{octet_of_bits, bit_octets}
 use Rattle.text_laws.proofs.Tests.{both_true, all-append, all_below, each_below}
 
 abbrev pub same_octet : Option ℕ → ℕ → Bool

@@ -1,11 +1,9 @@
 -- Texts that are read back.
-use Rattle.std.proofs.Common.{◌≡◌, ◌==◌, ℕ, Bool, true, false, List, [], ◌∷◌, ◌++◌, Option, Some, refl, ap, sym, ◌∙◌, subst, arith, if◌then◌else◌, append_assoc, append-nil}
-use Rattle.std.specs.Prelude.{◌||◌}
+use Rattle.std.proofs.Common.{◌≡◌, ◌==◌, ℕ, Bool, true, false, List, [], ◌∷◌, ◌++◌, Some, refl, ap, sym, ◌∙◌, subst, arith, append_assoc, append-nil}
 use Rattle.std.specs.List.{flat_map}
 use Rattle.std.proofs.lemmas.Bool.Decides.{nat_tests}
 use Rattle.asn1_types.specs.Value as tree
 use Rattle.value_text.specs.Values.{doubled}
-use Rattle.value_reading.specs.Found.{Found}
 use Rattle.value_reading.specs.Forms.{text_before, characters_at, behind_quote}
 use Rattle.text_laws.specs.Laws.{may_follow}
 

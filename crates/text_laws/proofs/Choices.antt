@@ -1,6 +1,5 @@
 -- Alternatives of a CHOICE that are read back.
-use Rattle.std.proofs.Common.{◌≡◌, ◌==◌, ℕ, zero, suc, ◌+◌, ◌^◌, ◌<◌, Bool, true, false, not, List, [], ◌∷◌, ◌++◌, length, Option, None, Some, refl, ap, sym, ◌∙◌, subst, arith, append_assoc, codes, nat_lt, slice_get}
-use Rattle.std.specs.Prelude.{◌&&◌, ◌||◌}
+use Rattle.std.proofs.Common.{◌≡◌, ℕ, zero, suc, ◌+◌, ◌^◌, ◌<◌, Bool, true, false, List, [], ◌∷◌, ◌++◌, length, Option, None, Some, refl, ap, sym, ◌∙◌, subst, arith, append_assoc, nat_lt, slice_get}
 use Rattle.std.specs.List.{list_all, AllByRecursion}
 use Rattle.std.proofs.lemmas.Bool.Decides.{nat_tests}
 use Rattle.asn1_types.specs.declared.row.Part.{Part}
@@ -9,8 +8,8 @@ use Rattle.asn1_types.specs.Rows.{rows_of_parts}
 use Rattle.asn1_types.specs.Table.{parts_agree, agrees_later}
 use Rattle.asn1_types.specs.Value.{Value, chosen}
 use Rattle.value_text.specs.Printed.{alternative_text, choice_text}
-use Rattle.value_reading.specs.Found.{Found, Reader}
-use Rattle.value_reading.specs.Words.{word, behind_word, after_spaces, behind_sign}
+use Rattle.value_reading.specs.Found.{Reader}
+use Rattle.value_reading.specs.Words.{word, behind_word, after_spaces}
 use Rattle.value_reading.specs.Typed.{place_of, chosen_at, alternative_at, named_alternative, choice_at}
 use Rattle.text_laws.specs.Laws.{may_follow, is_name, are_named}
 use Rattle.text_laws.proofs.Tests.{both_true}

@@ -1,23 +1,22 @@
 -- Values that are read back by their form.
-use Rattle.std.proofs.Common.{◌≡◌, ◌==◌, ℕ, zero, suc, ◌+◌, ◌-◌, ◌*◌, ◌%◌, ◌^◌, ◌<◌, ◌≤◌, ℤ, pos, negsuc, Bool, true, false, not, List, [], ◌∷◌, ◌++◌, length, take, drop, Option, None, Some, refl, ap, sym, ◌∙◌, arith, if◌then◌else◌, append_assoc, length-append, decimal, codes, nat_lt}
-use Rattle.std.specs.Prelude.{◌&&◌, ◌||◌, option_map}
+use Rattle.std.proofs.Common.{◌≡◌, ◌==◌, ℕ, suc, ◌+◌, ◌-◌, ◌*◌, ◌%◌, ◌^◌, ◌<◌, ◌≤◌, ℤ, pos, negsuc, Bool, true, false, List, [], ◌∷◌, ◌++◌, length, take, drop, Some, refl, ap, sym, ◌∙◌, arith, append_assoc, length-append, decimal, nat_lt}
+use Rattle.std.specs.Prelude.{option_map}
 use Rattle.std.specs.Fmt.{signed_decimal}
 use Rattle.std.specs.List.{list_all, flat_map}
-use Rattle.std.specs.Str.{bytes_eq}
 use Rattle.std.proofs.lemmas.Bool.Decides.{nat_tests}
 use Rattle.osi_base.specs.Oid.{is_oid}
 use Rattle.asn1_types.specs.Fits.{is_number, is_octet, are_bits, has_32_bits, bits_fit, object_id_fits}
 use Rattle.asn1_types.specs.Value as tree
 use Rattle.asn1_types.specs.Value.{Value}
 use Rattle.value_text.specs.Numbers.{is_digit, integer_of}
-use Rattle.value_text.specs.Values.{hex_octet, bits_of, doubled, spaced, after_space, value_text}
-use Rattle.value_reading.specs.Found.{Found, found_before}
+use Rattle.value_text.specs.Values.{hex_octet, bits_of, after_space, value_text}
+use Rattle.value_reading.specs.Found.{found_before}
 use Rattle.value_reading.specs.Words.{len_to}
-use Rattle.value_reading.specs.Forms.{octets_of, bit_octets, by_letter, quoted_form, characters_at, oid_before, arcs_at, word_form, form_at}
+use Rattle.value_reading.specs.Forms.{quoted_form, oid_before, arcs_at, word_form, form_at}
 use Rattle.text_laws.specs.Laws.{may_follow, has_own_form}
 use Rattle.text_laws.proofs.Tests.{both_true}
 use Rattle.text_laws.proofs.Words.{is_plain, word_read}
-use Rattle.text_laws.proofs.Numbers.{Writes, writes, integer_back, signed_plain}
+use Rattle.text_laws.proofs.Numbers.{writes, integer_back, signed_plain}
 use Rattle.text_laws.proofs.Octets.{octets_back, hex_unmarked, quoted}
 use Rattle.text_laws.proofs.Bits.{bits_back, unused_back, last_so, bits_unmarked}
 use Rattle.text_laws.proofs.Characters.{characters_back}

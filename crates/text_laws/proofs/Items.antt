@@ -1,13 +1,12 @@
 -- Items of an ENUMERATED that are read back.
-use Rattle.std.proofs.Common.{◌≡◌, ◌==◌, ℕ, ℤ, pos, negsuc, Bool, true, false, not, List, [], ◌∷◌, ◌++◌, Option, None, Some, refl, ap, sym, ◌∙◌, arith, if◌then◌else◌, nat_eq}
-use Rattle.std.specs.Prelude.{◌&&◌, ◌||◌}
+use Rattle.std.proofs.Common.{◌≡◌, ℤ, pos, negsuc, Bool, true, false, List, [], ◌∷◌, Some, refl, ap, arith}
+use Rattle.std.specs.Prelude.{◌||◌}
 use Rattle.std.specs.List.{list_all, list_any}
-use Rattle.std.specs.Str.{bytes_eq}
 use Rattle.std.proofs.lemmas.Bool.Decides.{nat_tests}
 use Rattle.asn1_types.specs.declared.row.Item.{Item}
 use Rattle.asn1_types.specs.Defaults.{same_number, is_item}
 use Rattle.asn1_types.specs.Table.{same_name, items_agree, agrees_later}
-use Rattle.asn1_types.specs.Value.{Value, integer}
+use Rattle.asn1_types.specs.Value.{integer}
 use Rattle.value_text.specs.Printed.{item_name}
 use Rattle.value_reading.specs.Typed.{item_named}
 use Rattle.text_laws.specs.Laws.{is_name}

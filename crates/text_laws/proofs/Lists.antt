@@ -1,17 +1,17 @@
 -- Lists that are read back.
-use Rattle.std.proofs.Common.{◌≡◌, ◌==◌, ℕ, zero, suc, ◌+◌, ◌<◌, ◌≤◌, Bool, true, false, not, List, [], ◌∷◌, ◌++◌, length, Option, None, Some, refl, ap, sym, ◌∙◌, arith, if◌then◌else◌, append_assoc, length-append, codes}
-use Rattle.std.specs.Prelude.{◌&&◌, ◌||◌, option_map}
+use Rattle.std.proofs.Common.{◌≡◌, ℕ, zero, suc, ◌+◌, ◌<◌, ◌≤◌, Bool, true, false, List, [], ◌∷◌, ◌++◌, length, Some, refl, ap, ◌∙◌, arith, append_assoc, length-append}
+use Rattle.std.specs.Prelude.{option_map}
 use Rattle.asn1_types.specs.Fits.{values_fit}
 use Rattle.asn1_types.specs.Rising.{is_less, follows, rise_behind, rise, placed, sorted}
 use Rattle.asn1_types.specs.Value.{Value, list, Values, no_values, value}
 use Rattle.asn1_types.specs.ValueView.{values_of}
-use Rattle.value_text.specs.Printed.{comma, items_text, list_text}
-use Rattle.value_reading.specs.Found.{Found, Reader, Listed}
-use Rattle.value_reading.specs.Words.{after_spaces, behind_sign, after_comma, closed_by, after_brace}
-use Rattle.value_reading.specs.Typed.{behind_item, with_item, items_at, first_item, braced_items, list_value, list_at}
+use Rattle.value_text.specs.Printed.{items_text, list_text}
+use Rattle.value_reading.specs.Found.{Reader}
+use Rattle.value_reading.specs.Words.{after_spaces, behind_sign, closed_by}
+use Rattle.value_reading.specs.Typed.{with_item, items_at, first_item, braced_items, list_value, list_at}
 use Rattle.text_laws.specs.Laws.{may_follow}
 use Rattle.text_laws.proofs.Tests.{both_true, not_true}
-use Rattle.text_laws.proofs.Starts.{starts, spaces_kept, not_closed, Inner}
+use Rattle.text_laws.proofs.Starts.{spaces_kept, not_closed, Inner}
 
 abbrev pub list_of : Values → List Value
 list_of no_values = []

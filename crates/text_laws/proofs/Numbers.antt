@@ -1,12 +1,12 @@
 -- Decimal numbers that are read back.
-use Rattle.std.proofs.Common.{◌≡◌, ◌==◌, ℕ, zero, suc, ◌+◌, ◌-◌, ◌*◌, ◌/◌, ◌%◌, ◌^◌, ◌<◌, ◌≤◌, ℤ, pos, negsuc, Bool, true, false, not, List, [], ◌∷◌, ◌++◌, Option, None, Some, refl, ap, sym, ◌∙◌, arith, if◌then◌else◌, nat_lt, nat_le, decimal}
-use Rattle.std.specs.Prelude.{◌&&◌, ◌||◌, option_map, option_and_then}
+use Rattle.std.proofs.Common.{◌≡◌, ◌==◌, ℕ, suc, ◌+◌, ◌-◌, ◌*◌, ◌/◌, ◌%◌, ◌^◌, ◌<◌, ◌≤◌, ℤ, pos, negsuc, Bool, true, false, not, List, [], ◌∷◌, ◌++◌, None, Some, refl, ap, ◌∙◌, arith, nat_lt, decimal}
+use Rattle.std.specs.Prelude.{option_map}
 use Rattle.std.specs.Fmt.{signed_decimal}
 use Rattle.std.specs.List.{list_all}
 use Rattle.std.proofs.lemmas.Bool.Decides.{nat_tests}
 use Rattle.std.proofs.lemmas.Fmt.{decimal_by_steps}
 use Rattle.asn1_types.specs.Fits.{is_number}
-use Rattle.value_text.specs.Numbers.{is_digit, leads_well, digits_after, natural_of, kept_below, below, number_of, identifier_of, negative, integer_of}
+use Rattle.value_text.specs.Numbers.{is_digit, leads_well, digits_after, natural_of, kept_below, number_of, identifier_of, integer_of}
 use Rattle.value_reading.specs.Words.{is_sign}
 use Rattle.text_laws.proofs.Tests.{both_true, all-append, all_so}
 use Rattle.text_laws.proofs.Words.{is_plain}

@@ -1,17 +1,15 @@
 -- Octets that are read back.
-use Rattle.std.proofs.Common.{◌≡◌, ◌==◌, ℕ, suc, ◌+◌, ◌-◌, ◌*◌, ◌/◌, ◌%◌, ◌<◌, ◌≤◌, Bool, true, false, not, List, [], ◌∷◌, ◌++◌, length, take, drop, Option, None, Some, refl, ap, sym, ◌∙◌, arith, if◌then◌else◌, nat_lt, nat_le, append_assoc, append-nil}
-use Rattle.std.specs.Prelude.{◌&&◌, ◌||◌, option_map}
+use Rattle.std.proofs.Common.{◌≡◌, ◌==◌, ℕ, ◌+◌, ◌-◌, ◌*◌, ◌/◌, ◌%◌, ◌<◌, ◌≤◌, Bool, true, false, not, List, [], ◌∷◌, ◌++◌, length, take, drop, Some, refl, ap, sym, ◌∙◌, arith, nat_lt, nat_le, append_assoc, append-nil}
 use Rattle.std.specs.List.{list_all, flat_map}
 use Rattle.std.proofs.Math.Seq.{take-append_seam, drop-append_seam}
 use Rattle.std.proofs.lemmas.Bool.Decides.{nat_tests}
 use Rattle.asn1_types.specs.Fits.{is_octet}
 use Rattle.asn1_types.specs.Value as tree
 use Rattle.value_text.specs.Values.{hex_digit, hex_octet}
-use Rattle.value_reading.specs.Found.{Found, found_before}
 use Rattle.value_reading.specs.Words.{len_to}
 use Rattle.osi_base.specs.Hexadecimal.{digit_of, by_digits}
-use Rattle.value_reading.specs.Forms.{then_octet, octets_of, by_letter, quoted_form}
-use Rattle.text_laws.proofs.Tests.{both_true, all-append}
+use Rattle.value_reading.specs.Forms.{octets_of, by_letter, quoted_form}
+use Rattle.text_laws.proofs.Tests.{both_true}
 use Rattle.text_laws.proofs.Words.{until_end}
 
 digit_back : (d : ℕ) (low : Bool) → nat_lt d 10 ≡ low → d < 16 → digit_of (hex_digit d) ≡ Some d

@@ -1,20 +1,20 @@
 -- Parts of a SEQUENCE or SET that are read back.
-use Rattle.std.proofs.Common.{◌≡◌, ◌==◌, ℕ, zero, suc, ◌+◌, ◌^◌, ◌<◌, ◌≤◌, Bool, true, false, not, List, [], ◌∷◌, ◌++◌, length, Option, None, Some, refl, ap, sym, ◌∙◌, subst, arith, if◌then◌else◌, append_assoc, length-append, codes, nat_le, nat_lt, slice_get, slice_set}
-use Rattle.std.specs.Prelude.{◌&&◌, ◌||◌, option_map, option_and_then}
+use Rattle.std.proofs.Common.{◌≡◌, ℕ, zero, suc, ◌+◌, ◌^◌, ◌<◌, ◌≤◌, Bool, true, false, not, List, [], ◌∷◌, ◌++◌, length, Option, None, Some, refl, ap, sym, ◌∙◌, subst, arith, if◌then◌else◌, append_assoc, codes, nat_lt, slice_get, slice_set}
+use Rattle.std.specs.Prelude.{option_and_then}
 use Rattle.std.specs.List.{list_all, AllByRecursion}
 use Rattle.std.proofs.lemmas.Bool.Decides.{nat_tests}
 use Rattle.asn1_types.specs.declared.row.Part.{Part}
-use Rattle.asn1_types.specs.Defaults.{may_be_absent, is_default, kept}
+use Rattle.asn1_types.specs.Defaults.{is_default, kept}
 use Rattle.asn1_types.specs.Fits.{part_fits, parts_fit}
 use Rattle.asn1_types.specs.Rows.{rows_of_parts}
 use Rattle.asn1_types.specs.Table.{parts_agree, agrees_later}
 use Rattle.asn1_types.specs.Value.{Value, parts, MaybeValues, no_parts, absent, present}
 use Rattle.asn1_types.specs.ValueView.{parts_of, empty_slots}
 use Rattle.value_text.specs.Numbers.{kept_below}
-use Rattle.value_text.specs.Printed.{comma, parts_text, sequence_text}
-use Rattle.value_reading.specs.Found.{Found, Reader}
-use Rattle.value_reading.specs.Words.{word, behind_word, after_spaces, behind_sign, after_comma, closed_by, after_brace}
-use Rattle.value_reading.specs.Typed.{Slots, place_from, place_of, is_free, may_stand, part_at, kept_slot, kept_slots, closed_parts, behind_part, with_part, named_part, parts_at, first_part, braced, sequence_at}
+use Rattle.value_text.specs.Printed.{parts_text, sequence_text}
+use Rattle.value_reading.specs.Found.{Reader}
+use Rattle.value_reading.specs.Words.{word, behind_word, after_spaces, after_comma, closed_by, after_brace}
+use Rattle.value_reading.specs.Typed.{Slots, place_of, is_free, may_stand, part_at, kept_slots, closed_parts, behind_part, with_part, named_part, parts_at, first_part, sequence_at}
 use Rattle.text_laws.specs.Laws.{may_follow, is_name, are_named}
 use Rattle.text_laws.proofs.Tests.{both_true, not_true}
 use Rattle.text_laws.proofs.Words.{word_is, behind_is}

@@ -1,19 +1,17 @@
 -- Values that are read back by their types.
-use Rattle.std.proofs.Common.{◌≡◌, ◌==◌, ℕ, zero, suc, ◌+◌, ◌^◌, ◌<◌, ◌≤◌, ℤ, pos, negsuc, Bool, true, false, not, List, [], ◌∷◌, ◌++◌, length, Option, None, Some, refl, ap, sym, ◌∙◌, subst, arith, if◌then◌else◌, codes, nat_lt, slice_get, decimal, append-nil, take}
+use Rattle.std.proofs.Common.{◌≡◌, ◌==◌, ℕ, zero, suc, ◌+◌, ◌^◌, ◌<◌, ◌≤◌, ℤ, pos, negsuc, Bool, true, false, not, List, [], ◌∷◌, ◌++◌, length, Option, None, Some, refl, ap, sym, ◌∙◌, arith, nat_lt, slice_get, decimal, append-nil, take}
 use Rattle.std.specs.Prelude.{◌&&◌, ◌||◌, int_lt}
-use Rattle.std.specs.Fmt.{signed_decimal}
 use Rattle.std.specs.List.{list_all, AllByRecursion}
 use Rattle.std.proofs.lemmas.Bool.Decides.{nat_tests}
-use Rattle.std.proofs.lemmas.Option.{slice_get_within}
 use Rattle.asn1_types.specs.declared.row.Item.{Item}
 use Rattle.asn1_types.specs.declared.row.Part.{Part}
 use Rattle.asn1_types.specs.declared.row.TypeRow.{TypeRow}
 use Rattle.asn1_types.specs.declared.row.TypeRow.TheVariants as row
 use Rattle.asn1_types.specs.declared.row.TextKind.{TextKind}
 use Rattle.asn1_types.specs.Defaults.{is_item}
-use Rattle.asn1_types.specs.Fits.{is_number, is_octet, boolean_fits, integer_fits, enumerated_fits, null_fits, octets_fit, bits_fit, object_id_fits, text_fits, parts_fit, sequence_fits, values_fit, list_fits, alternative_fits, choice_fits, form_by, has_form, fits}
-use Rattle.asn1_types.specs.Rising.{rise, set_rises, sorted}
-use Rattle.asn1_types.specs.Rows.{names_of, rows_of_parts}
+use Rattle.asn1_types.specs.Fits.{is_number, is_octet, boolean_fits, integer_fits, enumerated_fits, null_fits, octets_fit, bits_fit, object_id_fits, text_fits, parts_fit, sequence_fits, list_fits, alternative_fits, choice_fits, form_by, has_form, fits}
+use Rattle.asn1_types.specs.Rising.{set_rises, sorted}
+use Rattle.asn1_types.specs.Rows.{names_of}
 use Rattle.asn1_types.specs.Table.{AreSoundRows, is_double_name}
 use Rattle.asn1_types.specs.Value as tree
 use Rattle.asn1_types.specs.Value.{Value}
@@ -25,19 +23,19 @@ use Rattle.value_text.specs.Numbers.{is_digit}
 use Rattle.value_text.specs.Printed.{item_name, item_text, sequence_text, list_text, choice_text, text_by, printed}
 use Rattle.value_text.specs.Values.{value_text}
 use Rattle.value_text.proofs.PrintLaws.{printed_at}
-use Rattle.value_reading.specs.Found.{Found, Reader, found_before}
+use Rattle.value_reading.specs.Found.{Reader, found_before}
 use Rattle.value_reading.specs.Forms.{form_at}
-use Rattle.value_reading.specs.Words.{word, behind_word}
+use Rattle.value_reading.specs.Words.{word}
 use Rattle.value_reading.specs.Typed.{item_named, sequence_at, list_at, choice_at, as_read, read_by, read_as, if_fits, value_at}
 use Rattle.value_reading.proofs.ReadLaws.{read_at}
-use Rattle.text_laws.specs.Laws.{may_follow, has_own_form, is_name, has_notation}
+use Rattle.text_laws.specs.Laws.{may_follow, has_own_form, has_notation}
 use Rattle.text_laws.proofs.Tests.{both_true}
 use Rattle.text_laws.proofs.Words.{word_is, behind_is}
-use Rattle.text_laws.proofs.Numbers.{Writes, writes}
+use Rattle.text_laws.proofs.Numbers.{writes}
 use Rattle.text_laws.proofs.Forms.{form_back}
 use Rattle.text_laws.proofs.Starts.{starts, name_starts, name_plain, Inner}
 use Rattle.text_laws.proofs.Items.{item_back, name_is_word}
-use Rattle.text_laws.proofs.Lists.{list_of, list_back, stays_sorted}
+use Rattle.text_laws.proofs.Lists.{list_back, stays_sorted}
 use Rattle.text_laws.proofs.Parts.{sequence_back}
 use Rattle.text_laws.proofs.Choices.{choice_back, choice_starts}
 

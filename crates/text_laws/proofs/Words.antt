@@ -1,15 +1,14 @@
 -- Words before what follows them.
-use Rattle.std.proofs.Common.{◌≡◌, ◌==◌, ℕ, suc, Bool, true, false, not, List, [], ◌∷◌, ◌++◌, length, take, drop, Option, None, Some, refl, ap, sym, ◌∙◌, arith, if◌then◌else◌}
-use Rattle.std.specs.Prelude.{◌&&◌, ◌||◌}
+use Rattle.std.proofs.Common.{◌≡◌, ◌==◌, ℕ, suc, Bool, true, false, not, List, [], ◌∷◌, ◌++◌, length, Some, refl, ap, ◌∙◌, arith, if◌then◌else◌}
 use Rattle.std.specs.List.{list_all}
 use Rattle.std.proofs.Math.Seq.{take-append_seam, drop-append_seam}
 use Rattle.std.proofs.lemmas.Bool.Decides.{nat_tests}
 use Rattle.asn1_types.specs.Value.{Value}
 use Rattle.value_reading.specs.Found.{found_before}
-use Rattle.value_reading.specs.Words.{len_until, len_to, is_sign, word, behind_word}
+use Rattle.value_reading.specs.Words.{len_until, is_sign, word, behind_word}
 use Rattle.value_reading.specs.Forms.{word_form, form_at}
 use Rattle.text_laws.specs.Laws.{may_follow}
-use Rattle.text_laws.proofs.Tests.{both_true, both_false, not_true}
+use Rattle.text_laws.proofs.Tests.{both_true, not_true}
 
 -- none of these stops, and what follows does
 pub until_end : (stops : ℕ → Bool) (w rest : List ℕ) → list_all (λ c. not (stops c)) w ≡ true → len_until stops rest ≡ 0 → len_until stops (w ++ rest) ≡ length w

@@ -1,5 +1,5 @@
 -- Fields that spell octets, by the grammar and as they are read.
-use Rattle.std.proofs.Common.{◌≡◌, ℕ, ◌+◌, ◌-◌, ◌*◌, ◌<◌, ◌≤◌, Bool, true, false, cond, List, [], ◌∷◌, ◌++◌, length, Option, Some, None, refl, sym, ap, subst, ◌∙◌, append_assoc, inl, inr, arith}
+use Rattle.std.proofs.Common.{◌≡◌, ℕ, ◌+◌, ◌-◌, ◌*◌, Bool, true, false, cond, List, [], ◌∷◌, ◌++◌, Option, Some, None, refl, sym, ap, subst, ◌∙◌, append_assoc, inl, inr, arith}
 use Rattle.std.specs.Prelude.{◌⊎◌, ◌&&◌, nat_le, filter}
 use Rattle.std.proofs.lemmas.Bool.Decides.{nat_tests}
 use Rattle.std.proofs.lemmas.List.{append-nil}
@@ -8,7 +8,7 @@ use Rattle.osi_base.specs.declared.layer_words.Side.{Side}
 use Rattle.trace_file.specs.declared.reading.Recorded.{Recorded}
 use Rattle.trace_file.specs.Lines.{pieces_of, has_any, fields_of, sender_of}
 use Rattle.trace_file.specs.Grammar.{Digit, Spells, AllSpell, TellsFrom, Tells, IsFaultyField, IsFaultyLine}
-use Rattle.trace_file.specs.Reading.{then_octet, more_octets, LineRead, other, tells, faulty, read_told, begun, gone_on, line_at, line_of}
+use Rattle.trace_file.specs.Reading.{then_octet, more_octets, LineRead, other, tells, faulty, begun, gone_on, line_at, line_of}
 
 abbrev number : ℕ → Option ℕ
 number n = Some n

@@ -1,7 +1,7 @@
 -- Files of recorded dialogues, by the grammar and as they are read.
-use Rattle.std.proofs.Common.{◌≡◌, ℕ, ◌+◌, ◌<◌, ◌≤◌, Bool, true, false, ltb, cond, List, [], ◌∷◌, ◌++◌, length, Option, Some, None, Result, Ok, Err, refl, sym, ap, subst, ◌∙◌, append_assoc, inl, inr, arith}
+use Rattle.std.proofs.Common.{◌≡◌, ℕ, ◌+◌, ◌≤◌, Bool, true, false, cond, List, [], ◌∷◌, ◌++◌, length, Option, Some, None, Result, Ok, Err, refl, sym, ap, subst, ◌∙◌, append_assoc, inl, inr, arith}
 use Rattle.std.specs.Prelude.{◌⊎◌, IfOk, IfErr, nat_lt}
-use Rattle.std.proofs.lemmas.Bool.{ltb-false, le-ltb, cases_Bool}
+use Rattle.std.proofs.lemmas.Bool.{ltb-false, le-ltb}
 use borrow.Author.Tests.{ltb-true}
 use Rattle.std.proofs.lemmas.Bool.Decides.{nat_tests}
 use Rattle.std.proofs.lemmas.List.{append-nil}
@@ -12,7 +12,7 @@ use Rattle.trace_file.specs.declared.fault.RecordingKind.{RecordingKind}
 use Rattle.trace_file.specs.declared.fault.RecordingKind.TheVariants.{BadField, TooMany}
 use Rattle.trace_file.specs.declared.reading.Recorded.{Recorded}
 use Rattle.trace_file.specs.Lines.{lines_of, fields_of}
-use Rattle.trace_file.specs.Grammar.{Tells, put, AllTell, IsRecording, IsFaultyLine, IsFaultyAt, IsFirstFault, IsRefused}
+use Rattle.trace_file.specs.Grammar.{Tells, put, AllTell, IsRecording, IsFaultyLine, IsFirstFault, IsRefused}
 use Rattle.trace_file.specs.Reading.{LineRead, other, tells, faulty, line_of, put_behind, at_line, lines_at, recording_of, Gives}
 use Rattle.trace_file.proofs.FieldLaws.{Means, line_means, read_as, line_again, faulty_again}
 

@@ -1,16 +1,15 @@
 -- The steps of reading.
-use Rattle.std.proofs.Common.{◌≡◌, ℕ, ◌+◌, ◌<◌, Bool, true, false, List, [], ◌∷◌, ◌++◌, length, drop, get_or, Option, Some, None, refl, sym, ap, ◌∙◌, arith}
+use Rattle.std.proofs.Common.{◌≡◌, ℕ, ◌+◌, ◌<◌, true, false, List, [], ◌∷◌, ◌++◌, length, drop, get_or, Option, Some, None, refl, sym, ap, ◌∙◌, arith}
 use Rattle.std.proofs.lemmas.List.{at_drop_more, at_drop_all, length_push}
 use Rattle.osi_base.specs.declared.layer_words.Side.{Side}
 use Rattle.trace_file.specs.declared.reading.Recorded.{Recorded}
 use Rattle.trace_file.specs.Lines.{sender_of}
 use Rattle.std.specs.Prelude.{is_some, ◌==◌}
-use Rattle.std.proofs.Common.{Result, Ok, Err, subst}
+use Rattle.std.proofs.Common.{Result, Ok, Err}
 use Rattle.trace_file.specs.declared.fault.RecordingFault.{RecordingFault}
 use Rattle.trace_file.specs.declared.fault.RecordingFault.TheVariants as faults
-use Rattle.trace_file.specs.declared.fault.RecordingKind.TheVariants.{BadField}
 use Rattle.osi_base.specs.Hexadecimal.{octet_of}
-use Rattle.trace_file.specs.Reading.{more_octets, then_octet, added, LineRead, other, tells, faulty, read_told, begun, gone_on, line_at, line_of, put_behind, at_line, lines_at, line_result, Gives, FailsWith}
+use Rattle.trace_file.specs.Reading.{more_octets, added, LineRead, other, tells, faulty, read_told, begun, gone_on, line_at, line_of, put_behind, at_line, lines_at, line_result, FailsWith}
 
 -- the next of the items that are left
 pub next_is : (all : List (List ℕ)) (n : ℕ) (x : List ℕ) → (n < length all) × (x ≡ get_or all n x) → drop n all ≡ x ∷ drop (n + 1) all

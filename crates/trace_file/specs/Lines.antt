@@ -1,5 +1,5 @@
 -- Lines of a text, and fields of a line.
-use Rattle.std.specs.Prelude.{◌==◌, ℕ, List, [], ◌∷◌, Bool, true, false, not, filter, codes, bytes_eq, Option, Some, None, if◌then◌else◌}
+use Rattle.std.specs.Prelude.{◌==◌, ℕ, List, [], ◌∷◌, Bool, true, false, filter, codes, bytes_eq, Option, Some, None, if◌then◌else◌}
 use Rattle.std.specs.List.{slice_split}
 use Rattle.osi_base.specs.declared.layer_words.Side.{Side}
 use Rattle.osi_base.specs.declared.layer_words.Side.TheVariants.{A, B}

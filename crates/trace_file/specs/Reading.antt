@@ -1,5 +1,5 @@
 -- The reading of a file of a recorded dialogue from its first octet on, as a function.
-use Rattle.std.specs.Prelude.{◌≡◌, ℕ, ◌+◌, ◌-◌, ◌*◌, ◌&&◌, Bool, true, false, List, [], ◌∷◌, ◌++◌, length, Option, Some, None, Result, Ok, Err, nat_lt, if◌then◌else◌}
+use Rattle.std.specs.Prelude.{◌≡◌, ℕ, ◌+◌, Bool, true, false, List, [], ◌∷◌, ◌++◌, length, Option, Some, None, Result, Ok, Err, nat_lt, if◌then◌else◌}
 use Rattle.osi_base.specs.Hexadecimal.{octet_of}
 use Rattle.osi_base.specs.Limits.{text_most}
 use Rattle.osi_base.specs.declared.layer_words.Side.{Side}
@@ -7,7 +7,7 @@ use Rattle.trace_file.specs.declared.fault.RecordingFault.{RecordingFault}
 use Rattle.trace_file.specs.declared.fault.RecordingFault.TheVariants as faults
 use Rattle.trace_file.specs.declared.fault.RecordingKind.TheVariants.{BadField, TooMany}
 use Rattle.trace_file.specs.declared.reading.Recorded.{Recorded}
-use Rattle.trace_file.specs.Lines.{lines_of, pieces_of, has_any, sender_of}
+use Rattle.trace_file.specs.Lines.{lines_of, pieces_of, sender_of}
 
 abbrev pub then_octet : Option ℕ → (ℕ → Option (List ℕ)) → Option (List ℕ)
 then_octet None next = None

@@ -15,7 +15,7 @@ use presentation_pdus::{PpduFault, PpduPlace, PpduTable};
 use spdu_codec::{SFault, UserPlaces, read_spdus, user_places};
 use std::alloc::Global;
 use stub_tables::Tables;
-use trace_values::{split_first, put_pdvs};
+use trace_values::{put_pdvs, split_first};
 use value_text::Text;
 
 /// With what messages are read: the tables of a module, and those of the upper layers' units.

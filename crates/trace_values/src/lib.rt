@@ -6,4 +6,4 @@ mod content;
 mod head;
 mod values;
 
-pub use values::{split_first, put_pdvs};
+pub use values::{put_pdvs, split_first};

@@ -1,5 +1,5 @@
 -- Transcripts as texts.
-use Rattle.std.specs.Prelude.{ℕ, ℤ, ◌+◌, List, [], ◌∷◌, ◌++◌, Option, None, Some, Result, Ok, Err, codes, decimal, flat_map}
+use Rattle.std.specs.Prelude.{ℕ, ℤ, ◌+◌, List, [], ◌∷◌, ◌++◌, Option, Some, Result, Ok, Err, codes, decimal, flat_map}
 use Rattle.osi_base.specs.declared.layer_words.Side.{Side}
 use Rattle.osi_base.specs.declared.layer_words.Side.TheVariants.{A, B}
 use Rattle.dialogue.specs.Sides.{other}

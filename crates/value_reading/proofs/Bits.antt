@@ -1,5 +1,5 @@
 -- The last bits of a bit string.
-use Rattle.std.proofs.Common.{◌≡◌, ℕ, ◌<◌, ◌≤◌, List, [], ◌∷◌, length, take, drop, Some, refl, arith, ◌+◌, ◌-◌, ap, sym, drop-drop}
+use Rattle.std.proofs.Common.{◌≡◌, ℕ, ◌<◌, ◌≤◌, List, [], ◌∷◌, length, take, drop, Some, refl, arith, ◌+◌, ◌-◌, drop-drop}
 use Rattle.std.proofs.Math.ListN.{drop_of_length-le, length-drop}
 use Rattle.value_reading.specs.Forms.{then_octet, octet_of_bits, bit_octets}
 

@@ -1,5 +1,5 @@
 -- What is read by a row goes by its rule.
-use Rattle.std.proofs.Common.{◌≡◌, ℕ, zero, suc, ◌==◌, ◌≤◌, Bool, true, false, List, [], ◌∷◌, length, Option, Some, None, refl, ap, arith, if◌then◌else◌}
+use Rattle.std.proofs.Common.{◌≡◌, ℕ, zero, suc, ◌==◌, ◌≤◌, Bool, true, false, List, [], ◌∷◌, length, Option, Some, None, refl, arith, if◌then◌else◌}
 use Rattle.std.specs.Prelude.{slice_get}
 use Rattle.std.specs.List.{AllByRecursion}
 use Rattle.asn1_types.specs.declared.row.Part.{Part}
@@ -13,9 +13,9 @@ use Rattle.asn1_types.specs.Writing.{written}
 use Rattle.asn1_types.proofs.Along.{settled}
 use Rattle.asn1_types.proofs.Sound.{is_down}
 use Rattle.asn1_types.specs.ValueView.{empty_slots}
-use Rattle.value_reading.specs.Found.{Found, Reader}
+use Rattle.value_reading.specs.Found.{Reader}
 use Rattle.value_reading.specs.Words.{word, behind_word, after_spaces, behind_sign, closed_by}
-use Rattle.value_reading.specs.Typed.{Slots, place_of, may_stand, part_at, closed_parts, with_part, named_part, parts_at, first_part, braced, sequence_at, list_at, as_read, chosen_at, alternative_at, named_alternative, choice_at, read_by, unread, read_as}
+use Rattle.value_reading.specs.Typed.{Slots, place_of, may_stand, part_at, with_part, named_part, parts_at, first_part, braced, sequence_at, list_at, as_read, chosen_at, alternative_at, named_alternative, choice_at, read_by, unread, read_as}
 
 module _ (f g : ℕ → Reader) where
   Same : List Part → Type 0

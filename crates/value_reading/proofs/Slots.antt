@@ -1,11 +1,11 @@
 -- Items and parts that are looked for one after the other, and slots.
-use Rattle.std.proofs.Common.{◌≡◌, ℕ, suc, ◌+◌, ◌<◌, ◌≤◌, Bool, true, false, List, [], ◌∷◌, ◌++◌, length, drop, get_or, None, Some, refl, sym, ap, arith, drop-cons, add-one, append-nil, append_assoc}
+use Rattle.std.proofs.Common.{◌≡◌, ℕ, suc, ◌+◌, ◌<◌, ◌≤◌, true, false, List, ◌∷◌, length, drop, get_or, None, Some, refl, arith, drop-cons, add-one}
 use Rattle.std.specs.Str.{bytes_eq}
 use Rattle.std.proofs.Math.ListN.{drop_of_length-le}
 use Rattle.asn1_types.specs.declared.row.Item.{Item}
 use Rattle.asn1_types.specs.declared.row.Part.{Part}
 use Rattle.asn1_types.specs.Value.{integer}
-use Rattle.value_reading.specs.Typed.{item_named, place_from, kept_slot, kept_slots}
+use Rattle.value_reading.specs.Typed.{item_named, place_from}
 
 dropped : {X : Type 0} (xs : List X) (i : ℕ) (d : X) → i < length xs → drop i xs ≡ get_or xs i d ∷ drop (i + 1) xs
 dropped xs i d h = rw (add-one, drop-cons xs i d) refl

@@ -1,5 +1,5 @@
 -- Values that are read by their form (the notation of X.680 for values).
-use Rattle.std.specs.Prelude.{ℕ, zero, suc, ◌+◌, ◌*◌, ◌-◌, ◌%◌, ◌==◌, Bool, true, false, ◌&&◌, if◌then◌else◌, List, [], ◌∷◌, ◌++◌, length, take, drop, Option, None, Some, option_map, slice_get, codes}
+use Rattle.std.specs.Prelude.{ℕ, zero, suc, ◌+◌, ◌*◌, ◌-◌, ◌%◌, ◌==◌, true, false, if◌then◌else◌, List, [], ◌∷◌, ◌++◌, length, take, drop, Option, None, Some, option_map, slice_get, codes}
 use Rattle.std.specs.Str.{bytes_eq}
 use Rattle.osi_base.specs.Hexadecimal.{by_digits, octet_of}
 use Rattle.osi_base.specs.Oid.{is_oid}

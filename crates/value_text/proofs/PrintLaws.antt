@@ -1,18 +1,17 @@
 -- What is printed of a row goes by its rule, and what loops print.
-use Rattle.std.proofs.Common.{◌≡◌, ℕ, zero, suc, ◌+◌, ◌≤◌, ◌<◌, min, Bool, true, false, List, [], ◌∷◌, ◌++◌, length, drop, get_or, add-one, drop-cons, append-nil, append_assoc, codes, Option, Some, None, refl, sym, ap, subst, ◌∙◌, arith}
+use Rattle.std.proofs.Common.{◌≡◌, ℕ, zero, suc, ◌+◌, ◌≤◌, ◌<◌, min, Bool, true, false, List, [], ◌∷◌, ◌++◌, length, drop, get_or, add-one, drop-cons, append-nil, append_assoc, codes, Option, Some, None, refl, sym, ap, arith}
 use Rattle.std.specs.Prelude.{slice_get}
 use Rattle.std.specs.List.{AllByRecursion}
-use Rattle.asn1_types.specs.declared.row.Item.{Item}
 use Rattle.asn1_types.specs.declared.row.Part.{Part}
 use Rattle.asn1_types.specs.declared.row.TypeRow.{TypeRow}
 use Rattle.asn1_types.specs.declared.row.TypeRow.TheVariants.{Boolean, Integer, Enumerated, Null, OctetString, BitString, ObjectId, Text, Sequence, Set, SequenceOf, SetOf, Choice, Tagged, Any}
 use Rattle.asn1_types.specs.Rows.{along, names_of, rows_of_parts}
 use Rattle.asn1_types.specs.Table.{AreSoundRows}
-use Rattle.asn1_types.specs.Value.{Value, boolean, integer, null, octets, bits, object_id, text, parts, list, chosen, any, MaybeValues, no_parts, absent, present, Values, no_values, value}
-use Rattle.asn1_types.specs.ValueView.{parts_of, values_of}
+use Rattle.asn1_types.specs.Value.{Value, boolean, integer, null, octets, bits, object_id, text, parts, list, chosen, any, MaybeValues, no_parts, absent, present}
+use Rattle.asn1_types.specs.ValueView.{parts_of}
 use Rattle.asn1_types.proofs.Along.{settled}
 use Rattle.asn1_types.proofs.Sound.{is_down}
-use Rattle.value_text.specs.Printed.{comma, item_name, parts_text, slot_text, still_first, sequence_text, items_text, list_text, alternative_text, choice_text, unknown, text_by, printed}
+use Rattle.value_text.specs.Printed.{comma, parts_text, slot_text, still_first, sequence_text, list_text, alternative_text, choice_text, unknown, text_by, printed}
 
 abbrev pub Writer : Type 0
 Writer = Value → List ℕ

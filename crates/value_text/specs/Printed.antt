@@ -6,7 +6,7 @@ use Rattle.asn1_types.specs.declared.row.TypeRow.{TypeRow}
 use Rattle.asn1_types.specs.declared.row.TypeRow.TheVariants as row
 use Rattle.asn1_types.specs.Rows.{along}
 use Rattle.asn1_types.specs.Defaults.{same_number}
-use Rattle.asn1_types.specs.Value.{Value, boolean, integer, null, octets, bits, object_id, text, parts, list, chosen, any, MaybeValues, no_parts, absent, present, Values, no_values, value}
+use Rattle.asn1_types.specs.Value.{Value, integer, parts, list, chosen, MaybeValues, absent, present, Values, no_values, value}
 use Rattle.value_text.specs.Values.{value_text}
 
 -- the name of the first item with this number (X.680 20.8)

@@ -1,9 +1,8 @@
-use Rattle.std.proofs.Common.{◌≡◌, ℕ, List, Result, Ok, Err, refl, ap, ◌∙◌}
+use Rattle.std.proofs.Common.{ℕ, List, Result, Ok, Err, refl, ap, ◌∙◌}
 use Rattle.osi_base.specs.declared.syntax.Syntax.{Syntax}
 use Rattle.stub_tables.specs.declared.tables.Tables.{Tables}
 use Rattle.stub_tables.specs.declared.apdu.Apdu.{Apdu}
 use Rattle.apdu_spelling.specs.declared.head.ApduHead.{ApduHead}
-use Rattle.apdu_spelling.specs.Heads.{Head}
 use Rattle.apdu_spelling.specs.Spellings.{Spells, fields_in}
 use Rattle.apdu_spelling.proofs.OneHead.{one_head}
 use Rattle.apdu_spelling.proofs.Written.{written_spelled}

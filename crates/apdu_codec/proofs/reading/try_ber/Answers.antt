@@ -1,4 +1,4 @@
-use Rattle.std.proofs.Common.{◌∙◌, sym, refl, true, false}
+use Rattle.std.proofs.Common.{◌∙◌, sym, true, false}
 use Rattle.apdu_codec.proofs.Tries.{longer, other, told, found_ber}
 use Rattle.apdu_codec.proofs.reading.try_ber.Goals as goal
 

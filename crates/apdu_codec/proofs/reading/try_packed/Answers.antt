@@ -1,4 +1,4 @@
-use Rattle.std.proofs.Common.{◌∙◌, sym, refl, subst}
+use Rattle.std.proofs.Common.{◌∙◌, sym, subst}
 use Rattle.std.proofs.lemmas.List.{take_rest}
 use Rattle.apdu_codec.proofs.Tries.{other_packed, told_packed, found_packed}
 use Rattle.osi_base.specs.declared.syntax.Syntax.TheVariants as syntax

@@ -1,7 +1,6 @@
-use Rattle.std.proofs.Common.{rules, ◌<◌, sym, ap, ◌∙◌, arith, w64}
+use Rattle.std.proofs.Common.{◌<◌, sym, ap, ◌∙◌, arith, w64}
 use Rattle.std.proofs.lemmas.Int.{to_z-of_z}
 use Rattle.std.proofs.lemmas.Option.{slice_get_within}
-use mir.Val.{SFits}
 use Rattle.asn1_types.specs.declared.row.TypeRow.TheVariants.{Tagged}
 use Rattle.asn1_types.proofs.Sound.{down_as, takes_at}
 use Rattle.asn1_types.proofs.defaults.+defaults.Goals as goal

@@ -1,4 +1,4 @@
-use Rattle.std.proofs.Common.{◌≡◌, ◌++◌, zero, drop}
+use Rattle.std.proofs.Common.{◌≡◌, ◌++◌, drop}
 use Rattle.asn1_types.specs.ValueView.{empty_slots}
 use Rattle.asn1_types.proofs.value.empty_slots.Given as goal
 

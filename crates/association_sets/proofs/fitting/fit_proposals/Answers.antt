@@ -1,4 +1,4 @@
-use Rattle.std.proofs.Common.{◌≡◌, ◌∙◌, ℕ, List, [], length, drop, nat_le, sym, ap, arith}
+use Rattle.std.proofs.Common.{◌≡◌, ◌∙◌, List, [], length, drop, nat_le, sym, ap, arith}
 use Rattle.std.proofs.lemmas.List.{drop_all}
 use Rattle.osi_base.specs.declared.layer_words.Proposal.{Proposal}
 use Rattle.association_ground.specs.end_rules.Sets.{fit_proposals}

@@ -1,4 +1,4 @@
-use Rattle.std.proofs.Common.{◌≡◌, ◌<◌, ◌≤◌, ◌-◌, ◌++◌, ℕ, List, [], true, false, length, drop, get_or, refl, sym, ap, ◌∙◌, subst, arith, Some, None, inl, inr}
+use Rattle.std.proofs.Common.{◌≡◌, ◌<◌, ◌-◌, ◌++◌, ℕ, List, [], true, false, length, drop, sym, ap, ◌∙◌, subst, arith, Some, None, inl}
 use Rattle.std.specs.Prelude.{slice_get}
 use Rattle.std.specs.Option.{option_copied}
 use Rattle.std.proofs.lemmas.Option.{slice_get_within}
@@ -10,7 +10,7 @@ use Rattle.asn1_types.specs.Tags.{ranks}
 use Rattle.asn1_types.proofs.Sound.{each_part, down_as}
 use Rattle.asn1_types.proofs.FitLaws.{each_slot}
 use Rattle.ber_spelling.proofs.WriteLaws.{parts_none, risen_begin, risen_end, writes_at}
-use Rattle.ber_writing.specs.Comparing.{IsCompared, IsRest}
+use Rattle.ber_writing.specs.Comparing.{IsRest}
 use Rattle.ber_writing.proofs.ComparedLaws.{tail_is, apart_compared}
 use Rattle.ber_writing.proofs.RestLaws.{parts_step, parts_step_behind, risen_step, values_end, values_step, end_compared, end_is}
 use Rattle.ber_writing.proofs.compare.+comparing.Goals as goal

@@ -1,4 +1,4 @@
-use Rattle.std.proofs.Common.{ℕ, List, length-append, get_or, ◌≡◌, ◌<◌, ◌≤◌, ◌++◌, ◌-◌, sym, ap, ◌∙◌, subst, arith, length, drop, Some}
+use Rattle.std.proofs.Common.{ℕ, List, length-append, get_or, ◌≡◌, ◌<◌, ◌≤◌, ◌-◌, sym, ap, ◌∙◌, subst, arith, length, Some}
 use Rattle.std.specs.Prelude.{slice_get}
 use Rattle.std.specs.Option.{option_copied}
 use Rattle.std.proofs.lemmas.Grind.{common_steps}
@@ -8,7 +8,7 @@ use Rattle.asn1_types.specs.declared.row.TypeRow.TheVariants.{Sequence, Sequence
 use Rattle.asn1_types.proofs.Sound.{each_part, down_as}
 use Rattle.asn1_types.proofs.FitLaws.{not_within, false_not, each_slot}
 use Rattle.asn1_types.specs.ValueView.{parts_of}
-use Rattle.asn1_types.specs.Writing.{Writer, of_rank, parts_contents, part_contents, risen_parts, writes}
+use Rattle.asn1_types.specs.Writing.{Writer, of_rank, parts_contents, risen_parts, writes}
 use Rattle.asn1_types.specs.Tags.{ranks}
 use Rattle.ber_writing.proofs.SetCounts.{risen_room}
 use Rattle.ber_writing.proofs.OctetLaws.{part_short, ranked_same, no_octet, set_octet}

@@ -1,4 +1,4 @@
-use Rattle.std.proofs.Common.{◌≡◌, ◌++◌, length, drop, sym, ◌∙◌, length-append, false, arith}
+use Rattle.std.proofs.Common.{sym, ◌∙◌, length-append, false, arith}
 use Rattle.asn1_types.specs.Writing.{identifier, length_octets}
 use Rattle.ber_writing.proofs.HeadLaws.{same_length, in_head}
 use Rattle.ber_writing.proofs.octet.head_or_place.Goals as goal

@@ -1,4 +1,4 @@
-use Rattle.std.proofs.Common.{List, length, ℕ, sym, ◌∙◌, arith}
+use Rattle.std.proofs.Common.{List, ℕ, sym, ◌∙◌, arith}
 use Rattle.asn1_types.specs.Writing.{written}
 use Rattle.ber_writing.proofs.LessLaws.{less_ends}
 use Rattle.ber_writing.proofs.order.each_less.Goals as goal

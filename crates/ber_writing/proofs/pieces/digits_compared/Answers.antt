@@ -1,7 +1,5 @@
-use Rattle.std.proofs.Common.{arith, sym, ◌∙◌}
-use Rattle.asn1_types.specs.Writing.{base_128}
+use Rattle.std.proofs.Common.{arith}
 use Rattle.ber_writing.proofs.Counts.{subidentifier_few}
-use Rattle.ber_writing.proofs.ComparedLaws.{room_front}
 use Rattle.ber_writing.proofs.pieces.digits_compared.Goals as goal
 
 pub put_base_128-requires-clause-end : goal.put_base_128-requires-clause-end

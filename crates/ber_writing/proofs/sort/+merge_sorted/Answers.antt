@@ -1,4 +1,4 @@
-use Rattle.std.proofs.Common.{◌≡◌, ◌<◌, ◌/◌, List, length, sym, ◌∙◌, subst, IfOk, arith}
+use Rattle.std.proofs.Common.{◌≡◌, ◌<◌, ◌/◌, List, length, ◌∙◌, subst, IfOk, arith}
 use Rattle.std.proofs.lemmas.Grind.{common_steps}
 use Rattle.asn1_types.specs.Value.{Value}
 use Rattle.asn1_types.specs.Rising.{sorted}

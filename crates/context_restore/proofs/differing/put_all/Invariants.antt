@@ -1,5 +1,5 @@
-use Rattle.std.proofs.Common.{◌≡◌, ℕ, ◌+◌, ◌-◌, ◌≤◌, ◌++◌, [], drop, length}
-use Rattle.context_restore.specs.Versions.{missing, ids, without, with_all, set_of}
+use Rattle.std.proofs.Common.{◌≡◌, drop}
+use Rattle.context_restore.specs.Versions.{with_all}
 use Rattle.context_restore.proofs.differing.put_all.Given as goal
 
 abbrev pub invariant-loop-item : goal.invariant-loop-item

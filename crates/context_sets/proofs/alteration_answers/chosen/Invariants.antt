@@ -1,5 +1,5 @@
-use Rattle.std.proofs.Common.{◌≡◌, ℕ, ◌+◌, ◌≤◌, ◌++◌, [], drop, map, vec_len, vec_capacity}
-use Rattle.context_sets.specs.Policy.{chosen, added_answers, deletion_answer}
+use Rattle.std.proofs.Common.{◌≡◌, drop}
+use Rattle.context_sets.specs.Policy.{chosen}
 use Rattle.context_sets.proofs.alteration_answers.chosen.Given as goal
 
 abbrev pub invariant-loop-transfer : goal.invariant-loop-transfer

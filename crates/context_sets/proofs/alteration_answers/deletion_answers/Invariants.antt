@@ -1,5 +1,5 @@
-use Rattle.std.proofs.Common.{◌≡◌, ℕ, ◌+◌, ◌≤◌, ◌++◌, [], drop, map, vec_len, vec_capacity}
-use Rattle.context_sets.specs.Policy.{chosen, added_answers, deletion_answer}
+use Rattle.std.proofs.Common.{◌≡◌, ◌+◌, ◌++◌, drop, map}
+use Rattle.context_sets.specs.Policy.{deletion_answer}
 use Rattle.context_sets.proofs.alteration_answers.deletion_answers.Given as goal
 
 abbrev pub invariant-loop-id : goal.invariant-loop-id

@@ -1,5 +1,5 @@
-use Rattle.std.proofs.Common.{◌≡◌, ℕ, ◌+◌, ◌++◌, [], drop}
-use Rattle.context_sets.specs.Alterations.{additions, named_by, identifiers, is_among, names, is_named, is_deleted}
+use Rattle.std.proofs.Common.{◌≡◌, ◌+◌, drop}
+use Rattle.context_sets.specs.Alterations.{additions}
 use Rattle.context_sets.proofs.asking.additions.Given as goal
 
 abbrev pub invariant-loop-alteration : goal.invariant-loop-alteration

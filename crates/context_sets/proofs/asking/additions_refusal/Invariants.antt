@@ -1,5 +1,5 @@
-use Rattle.std.proofs.Common.{◌≡◌, ℕ, ◌+◌, ◌++◌, [], drop}
-use Rattle.context_sets.specs.Asking.{first_refusal, addition_refusal, deletion_refusal, are_bad}
+use Rattle.std.proofs.Common.{◌≡◌, drop}
+use Rattle.context_sets.specs.Asking.{first_refusal, addition_refusal}
 use Rattle.context_sets.proofs.asking.additions_refusal.Given as goal
 
 abbrev pub invariant-loop-proposal : goal.invariant-loop-proposal

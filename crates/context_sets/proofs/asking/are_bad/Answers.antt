@@ -1,4 +1,4 @@
-use Rattle.std.proofs.Common.{◌≡◌, ◌∙◌, ℕ, List, ◌∷◌, ◌+◌, ◌<◌, length, drop, get_or, refl, sym, subst, arith, add-one, drop-cons}
+use Rattle.std.proofs.Common.{◌≡◌, ◌∙◌, ℕ, List, ◌∷◌, ◌+◌, ◌<◌, length, drop, get_or, refl, sym, subst, add-one, drop-cons}
 use Rattle.context_sets.specs.Alterations.{named_by}
 use Rattle.context_sets.specs.Met.{GoesOn}
 use Rattle.context_sets.proofs.Meeting.{goes_on}

@@ -1,5 +1,5 @@
-use Rattle.std.proofs.Common.{◌≡◌, ℕ, ◌+◌, ◌++◌, [], drop}
-use Rattle.context_sets.specs.Asking.{first_refusal, addition_refusal, deletion_refusal, are_bad}
+use Rattle.std.proofs.Common.{◌≡◌, drop}
+use Rattle.context_sets.specs.Asking.{first_refusal, deletion_refusal}
 use Rattle.context_sets.proofs.asking.deletions_refusal.Given as goal
 
 abbrev pub invariant-loop-id : goal.invariant-loop-id

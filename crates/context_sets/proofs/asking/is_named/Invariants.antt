@@ -1,5 +1,5 @@
-use Rattle.std.proofs.Common.{◌≡◌, ℕ, ◌+◌, ◌++◌, [], drop}
-use Rattle.context_sets.specs.Alterations.{additions, named_by, identifiers, is_among, names, is_named, is_deleted}
+use Rattle.std.proofs.Common.{◌≡◌, drop}
+use Rattle.context_sets.specs.Alterations.{is_named}
 use Rattle.context_sets.proofs.asking.is_named.Given as goal
 
 abbrev pub invariant-loop-alteration : goal.invariant-loop-alteration

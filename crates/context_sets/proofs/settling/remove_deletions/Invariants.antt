@@ -1,4 +1,4 @@
-use Rattle.std.proofs.Common.{◌≡◌, ℕ, ◌+◌, ◌≤◌, ◌++◌, [], drop, map, vec_len, vec_capacity}
+use Rattle.std.proofs.Common.{◌≡◌, ◌≤◌, drop, vec_len, vec_capacity}
 use Rattle.context_sets.specs.Alterations.{without_deletions}
 use Rattle.context_sets.proofs.settling.remove_deletions.Given as goal
 

@@ -1,4 +1,4 @@
-use Rattle.std.proofs.Common.{◌<◌, ◌∙◌, arith}
+use Rattle.std.proofs.Common.{◌∙◌, arith}
 use Rattle.passed_fields.proofs.Nones.{nones_more}
 use Rattle.passed_fields.proofs.reading.+add_nones.Goals as goal
 

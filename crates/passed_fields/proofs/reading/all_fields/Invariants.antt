@@ -1,4 +1,4 @@
-use Rattle.std.proofs.Common.{◌≡◌, ◌-◌, [], length}
+use Rattle.std.proofs.Common.{◌≡◌, ◌-◌, length}
 use Rattle.ber_spelling.specs.Reading.{spot_of, GoesOn}
 use Rattle.ber_spelling.specs.Rules.{items_at}
 use Rattle.passed_fields.specs.Reading.{field_at, fields_done, fields_at}

@@ -1,5 +1,3 @@
-use Rattle.std.proofs.Common.{sym, subst}
-use Rattle.passed_fields.specs.Known.{HaveRows}
 use Rattle.passed_fields.proofs.Nones.{rows_behind}
 use Rattle.passed_fields.proofs.reading.field.Goals as goal
 

@@ -1,4 +1,4 @@
-use Rattle.std.proofs.Common.{◌≡◌, ◌-◌, [], length}
+use Rattle.std.proofs.Common.{◌≡◌, ◌-◌, length}
 use Rattle.ber_spelling.specs.Reading.{spot_of, GoesOn}
 use Rattle.ber_spelling.specs.Rules.{items_at, list_item_at, reads}
 use Rattle.passed_fields.specs.Reading.{some_done, some_items_at}

@@ -1,4 +1,3 @@
-use Rattle.std.proofs.Common.{◌≡◌}
 use Rattle.schedule_text.proofs.Settled.{told_of, accepted_so}
 use Rattle.schedule_text.proofs.setting.accepted.Goals as goal
 

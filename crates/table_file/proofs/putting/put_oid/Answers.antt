@@ -1,5 +1,3 @@
-use Rattle.std.proofs.Common.{◌≡◌, List, ℕ, sym, subst}
-use Rattle.osi_base.specs.Oid.{IsOid}
 use Rattle.table_file.proofs.Sizes.{oid_room}
 use Rattle.table_file.proofs.putting.put_oid.Goals as goal
 

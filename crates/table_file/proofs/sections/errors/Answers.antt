@@ -1,4 +1,4 @@
-use Rattle.std.proofs.Common.{◌+◌, [], ap, ◌∙◌, refl, arith}
+use Rattle.std.proofs.Common.{◌+◌, [], ap, ◌∙◌, refl}
 use Rattle.std.proofs.lemmas.Result.{err_from_is_err_and}
 use Rattle.table_file.specs.Reading.{spot_of}
 use Rattle.table_file.specs.Sections.{adds_error}

@@ -1,5 +1,5 @@
-use Rattle.std.proofs.Common.{sym, subst}
-use Rattle.trace_file.specs.Reading.{Gives, recording_of}
+use Rattle.std.proofs.Common.{subst}
+use Rattle.trace_file.specs.Reading.{Gives}
 use Rattle.trace_file.proofs.RecordingLaws.{found_of, fault_of, recording_again, first_again}
 use Rattle.trace_file.proofs.reading.read_recording.Goals as goal
 

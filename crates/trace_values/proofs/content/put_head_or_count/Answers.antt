@@ -1,5 +1,4 @@
-use Rattle.std.proofs.Common.{subst}
-use Rattle.trace_values.specs.Heads.{head_told, WasTold}
+use Rattle.trace_values.specs.Heads.{head_told}
 use Rattle.trace_values.proofs.ValueLaws.{told_is, not_told}
 use Rattle.trace_values.proofs.content.put_head_or_count.Goals as goal
 

@@ -1,5 +1,3 @@
-use Rattle.std.proofs.Common.{sym, subst}
-use Rattle.trace_values.specs.Values.{ArePdvsText, Puts}
 use Rattle.trace_values.proofs.ValueLaws.{puts_first, puts_no_more}
 use Rattle.trace_values.proofs.values.put_pdvs.Goals as goal
 

@@ -1,4 +1,4 @@
-use Rattle.std.proofs.Common.{◌≡◌, ◌≤◌, ◌-◌, [], length, drop}
+use Rattle.std.proofs.Common.{◌≡◌, ◌-◌, [], length, drop}
 use Rattle.value_reading.specs.Forms.{octets_of}
 use Rattle.value_reading.proofs.form.read_octets.Given as goal
 

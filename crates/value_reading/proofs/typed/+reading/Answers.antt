@@ -1,11 +1,11 @@
-use Rattle.std.proofs.Common.{◌≡◌, ◌<◌, length, refl, sym, ap, ◌∙◌, arith, true, Some, None, ℕ, List, Option}
+use Rattle.std.proofs.Common.{◌≡◌, ◌<◌, length, sym, ap, ◌∙◌, arith, true, Some, ℕ, List, Option}
 use Rattle.std.proofs.Math.ListN.{length-set}
 use denote.Ref.{Bor}
 use Rattle.std.proofs.lemmas.Grind.{common_steps}
 use Rattle.std.specs.Prelude.{slice_get, option_map}
 use Rattle.std.specs.Option.{option_copied}
 use Rattle.asn1_types.specs.declared.row.TypeRow.TheVariants.{Sequence, Set, SequenceOf, SetOf, Choice, Tagged}
-use Rattle.asn1_types.proofs.Sound.{each_part, down_as}
+use Rattle.asn1_types.proofs.Sound.{down_as}
 use Rattle.asn1_types.proofs.FitLaws.{each_slot, not_within, false_not}
 use Rattle.value_reading.specs.Found.{found}
 use Rattle.value_reading.specs.Words.{word, behind_word, after_comma}

@@ -1,4 +1,4 @@
-use Rattle.std.proofs.Common.{◌≡◌, ◌+◌, ◌*◌, ◌-◌, [], zero, length, drop}
+use Rattle.std.proofs.Common.{◌≡◌, ◌+◌, ◌*◌, ◌-◌, [], zero, length}
 use Rattle.value_reading.specs.Typed.{parts_at, items_at, read_as}
 use Rattle.value_reading.proofs.typed.+reading.Given as goal
 

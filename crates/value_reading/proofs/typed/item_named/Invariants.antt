@@ -1,4 +1,4 @@
-use Rattle.std.proofs.Common.{◌≡◌, ◌++◌, zero, drop}
+use Rattle.std.proofs.Common.{◌≡◌, drop}
 use Rattle.value_reading.specs.Typed.{item_named}
 use Rattle.value_reading.proofs.typed.item_named.Given as goal
 

@@ -1,4 +1,4 @@
-use Rattle.std.proofs.Common.{◌≡◌, ◌++◌, zero, drop}
+use Rattle.std.proofs.Common.{◌≡◌, zero, drop}
 use Rattle.value_reading.specs.Typed.{place_from}
 use Rattle.value_reading.proofs.typed.place_named.Given as goal
 

@@ -1,11 +1,10 @@
-use Rattle.std.proofs.Common.{◌≡◌, ◌<◌, ◌++◌, [], length, refl, sym, ap, ◌∙◌, arith, Some, append_assoc, codes}
+use Rattle.std.proofs.Common.{◌≡◌, ◌<◌, length, sym, ap, ◌∙◌, arith, Some}
 use Rattle.std.specs.Prelude.{slice_get}
 use Rattle.std.specs.Option.{option_copied}
 use Rattle.asn1_types.specs.declared.row.TypeRow.TheVariants.{Sequence, Set, SequenceOf, SetOf, Choice, Tagged}
-use Rattle.asn1_types.specs.ValueView.{parts_of, values_of, value_of}
 use Rattle.asn1_types.proofs.Sound.{each_part, down_as}
 use Rattle.asn1_types.proofs.FitLaws.{each_slot, not_within, false_not}
-use Rattle.value_text.specs.Printed.{printed, parts_text}
+use Rattle.value_text.specs.Printed.{printed}
 use Rattle.value_text.proofs.PrintLaws.{printed_at, printed_past, parts_done, slot_cell, goes_on, ends}
 use Rattle.value_text.proofs.print.+printing.Goals as goal
 

@@ -1,4 +1,4 @@
-use Rattle.std.proofs.Common.{◌≡◌, ◌∙◌, ℕ, ◌-◌, ap, sym, subst}
+use Rattle.std.proofs.Common.{◌∙◌, ◌-◌, ap, sym, subst}
 use Rattle.context_sets.specs.Sets.{ContextSet, IsRising}
 use Rattle.context_restore.specs.Versions.{set_of, below}
 use Rattle.context_restore.specs.SavedSets.{SavedSets}

@@ -1,7 +1,7 @@
-use Rattle.std.proofs.Common.{◌≡◌, ◌∙◌, ℕ, ◌≤◌, ◌∷◌, List, ap, ap₂, sym, subst, arith, length, unwrap_or}
+use Rattle.std.proofs.Common.{◌≡◌, ◌∙◌, ◌≤◌, ◌∷◌, ap, ap₂, sym, subst, arith, length, unwrap_or}
 use Rattle.slab.specs.Slab.{slab_len}
 use Rattle.context_sets.specs.Sets.{ContextSet, IsRising}
-use Rattle.context_restore.specs.Versions.{Version, missing, version, set_of}
+use Rattle.context_restore.specs.Versions.{missing, version, set_of}
 use Rattle.context_restore.specs.SavedSets.{SavedSets}
 use Rattle.context_restore.proofs.Sound.{sound_same, sound_more, versions-more, length-versions, rising_newest}
 use Rattle.context_restore.proofs.saved.Saved.push.Goals as goal

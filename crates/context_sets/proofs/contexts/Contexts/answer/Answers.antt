@@ -1,4 +1,4 @@
-use Rattle.std.proofs.Common.{◌≡◌, ◌∙◌, ◌+◌, ◌-◌, ◌≤◌, ap, sym, refl, arith, length, vec_len, vec_capacity}
+use Rattle.std.proofs.Common.{◌∙◌, ◌+◌, ap, arith, length}
 use Rattle.context_sets.specs.Alterations.{additions, altered}
 use Rattle.context_sets.specs.Results.{acceptances}
 use Rattle.context_sets.proofs.Bounds.{accepts_few}

@@ -1,9 +1,8 @@
-use Rattle.std.proofs.Common.{◌≡◌, ◌∙◌, ◌+◌, ◌-◌, ◌<◌, ◌≤◌, ap, refl, subst, arith, length, vec_len, vec_capacity, List, ◌∷◌}
+use Rattle.std.proofs.Common.{◌∙◌, ◌-◌, ap, refl, subst, arith, vec_len, vec_capacity, List}
 use Rattle.context_sets.specs.declared.alteration.Alteration.{Alteration}
 use Rattle.context_sets.specs.Alterations.{additions}
 use Rattle.context_sets.specs.HeldSets.{IsSoundHeldSet, later}
-use Rattle.context_sets.specs.Results.{acceptances}
-use Rattle.context_sets.proofs.Keeping.{sound_confirmed, first_of_some, IsFirst, sound_at, accepts_asked}
+use Rattle.context_sets.proofs.Keeping.{sound_confirmed, first_of_some, sound_at, accepts_asked}
 use Rattle.context_sets.proofs.contexts.Contexts.confirm.Goals as goal
 
 pub settle-requires-clause-room : goal.settle-requires-clause-room

@@ -1,4 +1,4 @@
-use Rattle.std.proofs.Common.{◌≡◌, ℕ, ◌+◌, ◌≤◌, ◌++◌, [], drop, take}
+use Rattle.std.proofs.Common.{◌≡◌, take}
 use Rattle.context_sets.proofs.contexts.Contexts.list.Given as goal
 
 abbrev pub invariant-loop-item : goal.invariant-loop-item

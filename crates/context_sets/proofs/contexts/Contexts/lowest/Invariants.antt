@@ -1,4 +1,4 @@
-use Rattle.std.proofs.Common.{◌≡◌, ℕ, ◌+◌, ◌≤◌, ◌++◌, [], drop, take}
+use Rattle.std.proofs.Common.{◌≡◌, drop}
 use Rattle.context_sets.specs.HeldSets.{lowest}
 use Rattle.context_sets.proofs.contexts.Contexts.lowest.Given as goal
 

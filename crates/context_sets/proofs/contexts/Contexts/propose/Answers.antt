@@ -1,4 +1,4 @@
-use Rattle.std.proofs.Common.{◌≡◌, ◌∙◌, ◌+◌, ◌-◌, ◌≤◌, ap, sym, refl, arith, length, vec_len, vec_capacity, ◌++◌, ◌∷◌, [], List}
+use Rattle.std.proofs.Common.{◌∙◌, ap, arith}
 use Rattle.context_sets.specs.Alterations.{additions}
 use Rattle.context_sets.proofs.Bounds.{additions-push}
 use Rattle.context_sets.proofs.Keeping.{sound_asked, sound_at, is_allowed_at}

@@ -1,4 +1,4 @@
-use Rattle.std.proofs.Common.{◌≡◌, ◌-◌, [], suc, zero, refl, ap, ◌∙◌, arith}
+use Rattle.std.proofs.Common.{◌≡◌, ◌-◌, suc, refl, ap, ◌∙◌, arith}
 use Rattle.std.proofs.lemmas.Bool.Decides.{nat_tests}
 use Rattle.operation_notation.specs.TreeView.{plain_of, parts_of as trees}
 use Rattle.module_faults.specs.declared.kind.TableKind.TheVariants as kinds

@@ -1,4 +1,4 @@
-use Rattle.std.proofs.Common.{◌≡◌, None, true, false, sym, ap, subst, ◌∙◌}
+use Rattle.std.proofs.Common.{◌≡◌, None, false, sym, ap, subst, ◌∙◌}
 use Rattle.rose_roles.specs.end_rules.State.{Calls, opened_with}
 use Rattle.rose_roles.specs.end_rules.Hearing.{with_opened}
 use Rattle.rose_roles.specs.Calls.{Performing, called, calls_of}

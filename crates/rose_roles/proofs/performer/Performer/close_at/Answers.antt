@@ -3,7 +3,7 @@ use Rattle.std.specs.Ordering.{int_eq}
 use Rattle.linked_ops.specs.declared.key.Key.{Key}
 use Rattle.linked_ops.specs.Entries.{closed}
 use Rattle.end_wire.specs.end_rules.State as ends
-use Rattle.rose_roles.specs.Calls.{Performing, called, key_of, AreOpen, open_calls_in}
+use Rattle.rose_roles.specs.Calls.{Performing, called, AreOpen, open_calls_in}
 use Rattle.rose_roles.proofs.Keys.{apart}
 use Rattle.rose_roles.proofs.Changes.{leaves_peer, left_after, beside_after}
 use Rattle.rose_roles.proofs.performer.Performer.close_at.Goals as goal

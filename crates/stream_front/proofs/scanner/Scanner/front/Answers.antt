@@ -1,7 +1,6 @@
-use Rattle.std.proofs.Common.{◌≡◌, ◌<◌, Some, refl, length, sym, ◌∙◌}
+use Rattle.std.proofs.Common.{refl, length, sym, ◌∙◌}
 use Rattle.std.proofs.lemmas.Bool.{ltb-true}
 use Rattle.std.proofs.lemmas.Option.{slice_get_read}
-use Rattle.std.specs.Prelude.{slice_get}
 use Rattle.stream_front.proofs.Seen.{value_done, value_all, octet_seen, octet_less}
 use Rattle.stream_front.proofs.scanner.Scanner.front.Goals as goal
 
