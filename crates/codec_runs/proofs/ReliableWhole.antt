@@ -1,6 +1,6 @@
 -- In reliable mode each transfer of a run arrives whole, and at most once.
-use Rattle.std.proofs.Common.{◌≡◌, refl, true, false, ◌∙◌, sym, ap, subst, ℕ, List, [], ◌∷◌, ◌++◌, map, inl, inr, ◌⊎◌, None, Ok}
-use Rattle.std.specs.Prelude.{Bool, ◌||◌, Option, Some, if◌then◌else◌, Result}
+use Rattle.std.proofs.Common.{◌≡◌, refl, true, false, ◌∙◌, sym, ap, subst, ℕ, List, [], ◌∷◌, ◌++◌, map, inl, inr, ◌⊎◌, Ok}
+use Rattle.std.specs.Prelude.{Bool, ◌||◌, Some, if◌then◌else◌, Result}
 use Rattle.osi_base.specs.declared.layer_words.Side.{Side}
 use Rattle.osi_base.specs.declared.layer_words.Side.TheVariants.{A, B}
 use Rattle.osi_base.specs.declared.layer_words.SetItem.{SetItem}
@@ -9,9 +9,9 @@ use Rattle.dialogue.specs.declared.config.Config.{Config}
 use Rattle.dialogue.specs.declared.indication.Indication.{Indication}
 use Rattle.end_rules.specs.Base.{Base, Spellings, Item, Arrived, Whole as WholeItem, Fault}
 use Rattle.end_rules.specs.Messages.{Message, Session, OfAssociation, OfActivities, Connect, Start, End}
-use Rattle.end_rules.specs.State.{Body, Queued, Transfer}
+use Rattle.end_rules.specs.State.{Body, Queued}
 use Rattle.osi_base.specs.SetPlaces.{pair_of}
-use Rattle.end_rules.specs.Encodings.{next_queued, item_of, IsOf, Encoding, IsNewest}
+use Rattle.end_rules.specs.Encodings.{next_queued, item_of, IsOf, Encoding, encoding_of, IsNewest}
 use Rattle.end_rules.specs.Connecting.{is_refused, recovers_in}
 use Rattle.end_rules.specs.Requesting.{due_of}
 use Rattle.end_rules.specs.ByItself.{OwnAct, SendsNow, EncodesOn}
@@ -28,12 +28,11 @@ use Rattle.end_model.specs.Seen.{Free}
 use Rattle.end_model.specs.BothEnds as both_ends
 use Rattle.end_model.specs.BothEnds.{Common, Two, coming_to}
 use Rattle.end_model.specs.Sharing.{side_of}
-use Rattle.reliable_model.specs.Ledgers as ledgers
 use Rattle.reliable_model.specs.Ledgers.{Ledger, TransferLog, ReachedWithLedger}
 use Rattle.reliable_model.specs.ReliableEnds.{reliable_common}
 use Rattle.reliable_model.proofs.Machine as machine
 use Rattle.outcome_laws.specs.Exchanges.{Exchanges}
-use Rattle.run_laws.specs.Transfers.{started_in, started, encoding_of, encoded_in, encodings, Arrival, arrivals_of, arrived_in, arrivals, AreWhole, ArriveWhole, AreFalling, OneTransfer}
+use Rattle.run_laws.specs.Transfers.{started_in, started, encoded_in, encodings, Arrival, arrivals_of, arrived_in, arrivals, AreWhole, ArriveWhole, AreFalling, OneTransfer}
 use Rattle.association_runs.specs.Worlds.{stepping}
 use Rattle.association_runs.specs.Sides.{ends_for}
 use Rattle.association_runs.specs.TransferLogsAt.{transfer_log_after, transfer_log_at}
@@ -112,10 +111,6 @@ step-started base body set transfer_log (took (Session (OfAssociation (Connect s
 step-started base body set transfer_log (took _) before k e = e
 step-started base body set transfer_log _ before k e = e
 
-encoding-so : (activity : ℕ) (set : List SetItem) (context : ℕ) (current : Option Transfer) → ledgers.encoding_of current activity set context ≡ encoding_of activity context (pair_of set context) current
-encoding-so activity set context None = refl
-encoding-so activity set context (Some transfer) = refl
-
 map-two : {X Y : Type 0} (f : X → Y) (xs ys : List X) → map f (xs ++ ys) ≡ map f xs ++ map f ys
 map-two {Y = Y} f [] ys = refl
 map-two {Y = Y} f (x ∷ xs) ys = ap (λ (l : List Y). f x ∷ l) (map-two f xs ys)
@@ -138,7 +133,7 @@ module _ (ends : Ends) where
       → (transfer_log_after (sides.base_at ends side) (sides.body_at ends side w) (shared_at ends w).set x transfer_log).encoded ≡ encoded_in ends w (sides.body_at ends side w) x ++ before
   step-encoded side w (encoded context) transfer_log before e =
       let body : Body = sides.body_at ends side w in
-      λ i. encoding-so body.sending.started (shared_at ends w).set context body.sending.current i ++ e i
+      ap (λ (l : List Encoding). encoding_of body.sending.started context (pair_of (shared_at ends w).set context) body.sending.current ++ l) e
   step-encoded side w _ transfer_log before e = e
 
   one-encoded : (side s : Side) (x : Step) (w : World) → (transfer_log_at ends side w).encoded ≡ encodings ends side w → (transfer_log_at ends side (record { side = s; step = x } ∷ w)).encoded ≡ encodings ends side (record { side = s; step = x } ∷ w)

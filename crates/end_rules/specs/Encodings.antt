@@ -2,7 +2,7 @@
 use Rattle.std.specs.Prelude.{◌≡◌, ℕ, suc, List, [], ◌∷◌, length, nat_eq, Option, Some, None, if◌then◌else◌}
 use Rattle.osi_base.specs.declared.syntax.Pair.{Pair}
 use Rattle.stub_tables.specs.declared.apdu.Apdu.{Apdu}
-use Rattle.end_rules.specs.State.{Queued}
+use Rattle.end_rules.specs.State.{Queued, Transfer}
 
 -- the first of a queue, where there is one
 abbrev pub next_queued : List Queued → List Queued
@@ -25,6 +25,12 @@ pub record Encoding : Type 0 where
   pub id : ℕ
   pub pair : Option Pair
   pub apdu : Apdu
+
+-- what is encoded in an activity, on a context with this pair, where a transfer is under way
+abbrev pub encoding_of : ℕ → ℕ → Option Pair → Option Transfer → List Encoding
+encoding_of activity context pair None = []
+encoding_of activity context pair (Some transfer) =
+    record { activity = activity; id = context; pair = pair; apdu = transfer.item.apdu } ∷ []
 
 -- what was encoded last
 abbrev pub IsNewest : Encoding → List Encoding → Type 0

@@ -35,7 +35,8 @@ use Rattle.end_model.specs.end_rules.ByItself.{OwnAct, SendsNow, EncodesOn}
 use Rattle.end_model.specs.end_rules.Reacting.{Reaction, Passes, Takes, Fails, fails, after_word, shown_of_word, fault_above, word_fault, on_word, on_transport, react_to_session, react_alive, react}
 use Rattle.end_model.specs.end_rules.History.{after_step, step_of, after_broke, off_line}
 use Rattle.osi_base.specs.declared.layer_words.SetItem.{SetItem}
-use Rattle.end_model.specs.end_rules.Encodings.{Encoding}
+use Rattle.osi_base.specs.SetPlaces.{pair_of}
+use Rattle.end_model.specs.end_rules.Encodings.{Encoding, encoding_of}
 use Rattle.end_model.specs.end_rules.Members.{IsIn}
 use Rattle.agreement.specs.Sets.{Role}
 use Rattle.agreement.specs.Sets.Role.{Initiator, Responder}
@@ -43,7 +44,7 @@ use Rattle.end_model.specs.Rows.{at}
 use Rattle.end_model.specs.Acting.{as_list, invoked_as, apdus_of}
 use Rattle.end_model.specs.Requests.{sent_all, after_called}
 use Rattle.end_model.specs.BothEnds.{Common, base_at, Two, body_at}
-use Rattle.reliable_model.specs.Ledgers.{encoding_of, encoded_by, transfer_log_of, Ledger}
+use Rattle.reliable_model.specs.Ledgers.{encoded_by, transfer_log_of, Ledger}
 use Rattle.outcome_laws.specs.Exchanges.{rejects_in, Exchanges, exchange_of, ReachedWithExchanges, begins, calls, acts, takes, passes, fails as aborts_of_itself, breaks}
 use Rattle.outcome_laws.proofs.Shown.{in-later}
 use Rattle.outcome_laws.proofs.Writers.{Within, within-more, in-first, in-either, rejects-append}
@@ -220,7 +221,7 @@ encoded-so : (body : Body) (set : List SetItem) (own : OwnAct) (wrote : List Apd
 encoded-so body set (SendsNow message) wrote es h k = k
 encoded-so body set (EncodesOn context) wrote es h k = go body.sending.current h.going
   where
-    go : (c : Option Transfer) → CurrentIn wrote c → EncodedIn wrote (encoding_of c body.sending.started set context ++ es)
+    go : (c : Option Transfer) → CurrentIn wrote c → EncodedIn wrote (encoding_of body.sending.started context (pair_of set context) c ++ es)
     go None i = k
     go (Some t) i = (i, k)
 

@@ -4,7 +4,8 @@ use Rattle.std.specs.Prelude.{ℤ, Option, Some, None, Ok, Err, if◌then◌else
 use Rattle.osi_base.specs.declared.layer_words.Proposal.{Proposal}
 use Rattle.osi_base.specs.declared.layer_words.SetItem.{SetItem}
 use Rattle.asn1_types.specs.declared.value.Val.{Val}
-use Rattle.end_model.specs.end_rules.Encodings.{next_queued, Encoding}
+use Rattle.osi_base.specs.SetPlaces.{pair_of}
+use Rattle.end_model.specs.end_rules.Encodings.{next_queued, Encoding, encoding_of}
 use Rattle.stub_tables.specs.declared.apdu.Apdu.{Apdu}
 use Rattle.stub_tables.specs.declared.apdu.Apdu.TheVariants as apdus
 use Rattle.stub_tables.specs.declared.operation.Operation.{Operation}
@@ -51,7 +52,7 @@ use Rattle.end_model.proofs.Requests.{release_in_turn-acts}
 use Rattle.end_model.proofs.Connecting.{connections-act}
 use Rattle.reliable_model.specs.Codecs.{IsShort, IsTransferable, SpellsTransfers, IsTransferOf, Carries}
 use Rattle.reliable_model.specs.Transferring.{AreTransferable, OnCurrent, IsSending}
-use Rattle.reliable_model.specs.Ledgers.{encoding_of, Ledger, after_sending, own_messages, after_own, started_by, encoded_by}
+use Rattle.reliable_model.specs.Ledgers.{Ledger, after_sending, own_messages, after_own, started_by, encoded_by}
 use Rattle.reliable_model.proofs.Transferring.{queue-append, kept-current, with-confirmed, resumed-current}
 use Rattle.reliable_model.specs.OwnRows.{EncodesInPlace}
 use Rattle.reliable_model.proofs.OwnRows.{own-rows, Leaves, leaves}
@@ -119,7 +120,7 @@ started-good : (base : Base) (body : Body) (own : OwnAct) → IsSending base bod
 started-good base body (SendsNow (Session (OfActivities (Start activity)))) h = first-good base body.sending.queue h.queue
 started-good base body own h = tt
 
-encoding-good : (base : Base) (current : Option Transfer) (activity : ℕ) (set : List SetItem) (context : ℕ) → OnCurrent base current → AreEncodable base (encoding_of current activity set context)
+encoding-good : (base : Base) (current : Option Transfer) (activity : ℕ) (set : List SetItem) (context : ℕ) → OnCurrent base current → AreEncodable base (encoding_of activity context (pair_of set context) current)
 encoding-good base None activity set context h = tt
 encoding-good base (Some t) activity set context h = (h.item, tt)
 

@@ -10,7 +10,7 @@ use Rattle.osi_base.specs.Limits.{most_marks, most_transferred, last_serial}
 use Rattle.end_model.specs.dialogue.declared.config.Mode.TheVariants.{Reliable}
 use Rattle.end_model.specs.end_rules.Base.{Base}
 use Rattle.osi_base.specs.SetPlaces.{pair_of}
-use Rattle.end_model.specs.end_rules.Encodings.{next_queued}
+use Rattle.end_model.specs.end_rules.Encodings.{next_queued, encoding_of}
 use Rattle.end_model.specs.end_rules.State.{Body, Octets, Marked, Progress, Running, Ending, Suspended, Encoded, Transfer}
 use Rattle.end_model.specs.end_rules.State.{Queued, joined, highest, pieces_of, on_current, is_empty, is_running}
 use Rattle.end_model.specs.end_rules.Messages.{Session, OfMarks, OfActivities, Part, Mark, Start, End}
@@ -34,7 +34,7 @@ use Rattle.end_model.proofs.Transfers.{highest-seen, part-sent, end-sent, mark-i
 use Rattle.end_model.proofs.TransferRows.{joined-seen}
 use Rattle.reliable_model.specs.Codecs.{IsContextOf, IsTransferable, SpellsTransfers, Carries}
 use Rattle.reliable_model.specs.Transferring.{IsBeginning, OnEncoded, IsCurrent, IsSending}
-use Rattle.reliable_model.specs.Ledgers.{encoding_of, own_messages}
+use Rattle.reliable_model.specs.Ledgers.{own_messages}
 use Rattle.reliable_model.specs.OwnRows.{encoding_seen, OwnActsAs, EncodesInPlace, OwnMessagesAct}
 use Rattle.reliable_model.proofs.Words.{AreOwn}
 use Rattle.reliable_model.proofs.Transferring.{changed, current-is, with-progress, begun-kept, encoded-so, not-empty}
@@ -243,7 +243,7 @@ first-seen : (base : Base) (queue : List Queued) (items : List states.Handed) �
 first-seen base [] items = refl
 first-seen base (item ∷ queue) items = refl
 
-encoding-so : (base : Base) (current : Option Transfer) (started : ℕ) (set : List SetItem) (context : ℕ) → map (encoding_seen base) (encoding_of current started set context) ≡ model_encoding (transfer_seen base current) started (set_seen set) context
+encoding-so : (base : Base) (current : Option Transfer) (started : ℕ) (set : List SetItem) (context : ℕ) → map (encoding_seen base) (encoding_of started context (pair_of set context) current) ≡ model_encoding (transfer_seen base current) started (set_seen set) context
 encoding-so base None started set context = refl
 encoding-so base (Some t) started set context =
     let put : Option model_sets.Pair → List ModelEncoding = λ p. record { activity = started; apdu = apdu_seen base t.item.apdu; identifier = context; pair = p } ∷ [] in

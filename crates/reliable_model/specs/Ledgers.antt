@@ -1,14 +1,14 @@
 -- What two ends reach, in every mode: by calls, by what they do by themselves, by takings and by breaks; with a
 -- ledger: what they share, and the transfer log of each, which is what it started, encoded and was handed up.
-use Rattle.std.specs.Prelude.{◌≡◌, ℕ, ℤ, List, [], ◌∷◌, ◌++◌, Bool, ◌||◌, if◌then◌else◌, Option, Some, None, Ok}
+use Rattle.std.specs.Prelude.{◌≡◌, ℕ, ℤ, List, [], ◌∷◌, ◌++◌, Bool, ◌||◌, if◌then◌else◌, Option, Some, Ok}
 use Rattle.osi_base.specs.declared.layer_words.SetItem.{SetItem}
 use Rattle.end_model.specs.dialogue.declared.call.Call.{Call}
 use Rattle.end_model.specs.dialogue.declared.indication.Indication.{Indication}
 use Rattle.end_model.specs.end_rules.Base.{Base, Fault}
 use Rattle.osi_base.specs.SetPlaces.{pair_of}
-use Rattle.end_model.specs.end_rules.Encodings.{next_queued, Encoding}
+use Rattle.end_model.specs.end_rules.Encodings.{next_queued, Encoding, encoding_of}
 use Rattle.end_model.specs.end_rules.Messages.{Message, Session, OfAssociation, OfActivities, Connect, Start, End}
-use Rattle.end_model.specs.end_rules.State.{Body, Queued, Transfer}
+use Rattle.end_model.specs.end_rules.State.{Body, Queued}
 use Rattle.end_model.specs.end_rules.Connecting.{is_refused, recovers_in}
 use Rattle.end_model.specs.end_rules.Calling.{can_call}
 use Rattle.end_model.specs.end_rules.Requesting.{due_of}
@@ -58,17 +58,12 @@ on_transfer_log Responder change transfer_logs = record transfer_logs { b = chan
 
 -- ---- what each step adds
 
-abbrev pub encoding_of : Option Transfer → ℕ → List SetItem → ℕ → List Encoding
-encoding_of None activity set context = []
-encoding_of (Some transfer) activity set context =
-    record { activity = activity; id = context; pair = pair_of set context; apdu = transfer.item.apdu } ∷ []
-
 abbrev pub started_by : Body → OwnAct → List Queued
 started_by body (SendsNow (Session (OfActivities (Start activity)))) = next_queued body.sending.queue
 started_by body own = []
 
 abbrev pub encoded_by : Body → List SetItem → OwnAct → List Encoding
-encoded_by body set (EncodesOn context) = encoding_of body.sending.current body.sending.started set context
+encoded_by body set (EncodesOn context) = encoding_of body.sending.started context (pair_of set context) body.sending.current
 encoded_by body set (SendsNow message) = []
 
 -- a CN that is accepted, and recovers nothing, begins an association anew

@@ -1,14 +1,13 @@
 -- Transfers between two ends: what each started and encoded, and what arrived at the other (X.228 7; the numbers of activities and
 -- what is kept of them are this project's own rule).
-use Rattle.std.specs.Prelude.{◌≡◌, ℕ, ◌<◌, List, [], ◌∷◌, ◌++◌, if◌then◌else◌, Option, Some, None}
+use Rattle.std.specs.Prelude.{◌≡◌, ℕ, ◌<◌, List, [], ◌∷◌, ◌++◌, if◌then◌else◌}
 use Rattle.osi_base.specs.declared.layer_words.Side.{Side}
-use Rattle.osi_base.specs.declared.syntax.Pair.{Pair}
-use Rattle.end_rules.specs.Encodings.{next_queued, item_of, IsOf, Encoding, IsNewest}
+use Rattle.end_rules.specs.Encodings.{next_queued, item_of, IsOf, Encoding, encoding_of, IsNewest}
 use Rattle.dialogue.specs.Sides.{other}
 use Rattle.stub_tables.specs.declared.apdu.Apdu.{Apdu}
 use Rattle.end_rules.specs.Base.{Base}
 use Rattle.end_rules.specs.Messages.{Session, OfActivities, Start, End, Remote, DataValue}
-use Rattle.end_rules.specs.State.{Body, Queued, Transfer}
+use Rattle.end_rules.specs.State.{Body, Queued}
 use Rattle.end_rules.specs.TakesActivities.{handed_up}
 use Rattle.end_rules.specs.History.{Step, sent, encoded, took}
 use Rattle.end_rules.specs.World.{World, Ends, base_at, body_at, is_side, pair_at_sending}
@@ -24,10 +23,6 @@ started ends side [] = []
 started ends side (m ∷ w) = if is_side side m.side then started_in (body_at ends side w) m.step ++ started ends side w else started ends side w
 
 -- ---- what it encoded: in which activity, on which context, under the pair that the shared set gave the context just then; the newest first
-
-abbrev pub encoding_of : ℕ → ℕ → Option Pair → Option Transfer → List Encoding
-encoding_of activity context pair None = []
-encoding_of activity context pair (Some transfer) = record { activity = activity; id = context; pair = pair; apdu = transfer.item.apdu } ∷ []
 
 abbrev pub encoded_in : Ends → World → Body → Step → List Encoding
 encoded_in ends w body (encoded context) = encoding_of body.sending.started context (pair_at_sending ends w context) body.sending.current
