@@ -1,5 +1,5 @@
 -- The command `check MODULE [--table]`.
-use Rattle.std.specs.Prelude.{ℕ, ◌==◌, Bool, false, not, ◌&&◌, ◌||◌, if◌then◌else◌, List, [], ◌∷◌, Option, None, Some, is_some, codes, bytes_eq}
+use Rattle.std.specs.Prelude.{ℕ, ◌==◌, Bool, true, false, not, ◌&&◌, ◌||◌, if◌then◌else◌, List, [], ◌∷◌, Option, None, Some, is_some, codes, bytes_eq}
 
 -- a check, by the name of the module's file, and whether its table file is wanted
 pub record Check : Type 0 where

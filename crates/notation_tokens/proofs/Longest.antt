@@ -21,7 +21,7 @@ use Rattle.notation_tokens.specs.declared.faults.NotationFault.{NotationFault}
 use Rattle.notation_tokens.specs.declared.faults.NotationKind.{NotationKind}
 use Rattle.notation_tokens.specs.Tokens.{AreTokens, Gap, outside, behind_all}
 use Rattle.notation_tokens.proofs.Numbers.{joined}
-use Rattle.notation_tokens.proofs.Gaps.{Fit, Passes, blank_passes, begins_outside, Passed_since, nothing_passed, more_passed, all_passed}
+use Rattle.notation_tokens.proofs.Gaps.{Fit, Passes, blank_passes, begins_outside, comment_passes, Passed_since, nothing_passed, more_passed, all_passed}
 use Rattle.notation_tokens.proofs.Spans.{word_form, word_within, number_form, number_within, sign_form, chosen_piece}
 
 -- ---- words

@@ -1,6 +1,6 @@
 -- Arcs, as they are read one after the other.
 use Rattle.std.proofs.Common.{◌≡◌, ◌≢◌, ℕ, ◌+◌, ◌-◌, ◌*◌, ◌%◌, ◌<◌, ◌≤◌, min, Bool, true, false, not, ◌&&◌, cond, drop, get_or, add-one, drop-cons, List, [], ◌∷◌, ◌++◌, length, Option, Some, None, refl, sym, ap, ◌∙◌, append_assoc, append-nil, arith, length-append, inl, inr}
-use Rattle.std.specs.Prelude.{nat_eq, ◌↔◌, IsTrue, IsSome, IfSome}
+use Rattle.std.specs.Prelude.{nat_eq, nat_lt, ◌↔◌, IsTrue, IsSome, IfSome}
 use Rattle.std.specs.Bool.{MatchBool}
 use Rattle.std.specs.List.{list_all}
 use Rattle.std.proofs.lemmas.List.{drop_all}
@@ -8,8 +8,8 @@ use Rattle.std.proofs.lemmas.List.Folds.{list_all-append}
 use Rattle.std.proofs.lemmas.Bool.{lt-leb, le-ltb, lt-ltb, ne_eqb}
 use Rattle.osi_base.specs.Oid.{is_oid, IsOid}
 use Rattle.asn1_types.specs.Fits.{has_32_bits}
-use Rattle.ber_spelling.specs.Primitives.{sized, push_front, subidentifiers_of}
-use Rattle.packed_codec.specs.ObjectIds.{judged, judged_arcs, joined, IsNoEnd}
+use Rattle.ber_spelling.specs.Primitives.{sized, push_front, subidentifiers_of, arcs_from, judged_arcs}
+use Rattle.packed_codec.specs.ObjectIds.{judged, joined, IsNoEnd}
 
 -- what was found before, and what is still found
 abbrev pub arcs_behind : List ℕ → Option (List ℕ) → Option (List ℕ)
@@ -17,9 +17,25 @@ arcs_behind [] o = judged_arcs o
 arcs_behind (arc ∷ arcs) None = None
 arcs_behind (arc ∷ arcs) (Some ns) = judged ((arc ∷ arcs) ++ ns)
 
+-- the first subidentifier stands for two arcs, the others for one
+first_arc : ℕ → ℕ
+first_arc n = cond (nat_lt n 40) 0 (cond (nat_lt n 80) 1 2)
+
+from_is : (n : ℕ) (ns : List ℕ) → arcs_from (n ∷ ns) ≡ first_arc n ∷ (n - 40 * first_arc n) ∷ ns
+from_is n ns = by (nat_lt n 40) (nat_lt n 80)
+  where
+    by : (b c : Bool) → cond b (0 ∷ n ∷ ns) (cond c (1 ∷ (n - 40) ∷ ns) (2 ∷ (n - 80) ∷ ns)) ≡ cond b 0 (cond c 1 2) ∷ (n - 40 * cond b 0 (cond c 1 2)) ∷ ns
+    by true c = let same : n ≡ n - 40 * 0 = omega arith in ap (λ (k : ℕ). 0 ∷ k ∷ ns) same
+    by false true = let same : n - 40 ≡ n - 40 * 1 = omega arith in ap (λ (k : ℕ). 1 ∷ k ∷ ns) same
+    by false false = let same : n - 80 ≡ n - 40 * 2 = omega arith in ap (λ (k : ℕ). 2 ∷ k ∷ ns) same
+
+-- what stands behind the first two arcs goes on as it does
+from_more : (n : ℕ) (ns : List ℕ) → arcs_from (n ∷ ns) ≡ arcs_from (n ∷ []) ++ ns
+from_more n ns = from_is n ns ∙ sym (ap (λ (l : List ℕ). l ++ ns) (from_is n []))
+
 pub joins : (arcs : List ℕ) (n : ℕ) (o : Option (List ℕ)) → arcs_behind arcs (push_front n o) ≡ arcs_behind (joined arcs n) o
-joins [] n None = refl
-joins [] n (Some ns) = refl
+joins [] n None = sym (ap (λ (l : List ℕ). arcs_behind l None) (from_is n []))
+joins [] n (Some ns) = ap judged (from_is n ns) ∙ sym (ap (λ (l : List ℕ). arcs_behind l (Some ns)) (from_is n []))
 joins (a ∷ arcs) n None = refl
 joins (a ∷ arcs) n (Some ns) = ap judged (sym (append_assoc (a ∷ arcs) (n ∷ []) ns))
 
@@ -35,7 +51,7 @@ judged_none xs ns (inr lt) =
 
 pub ends : (arcs : List ℕ) (n : ℕ) (o : Option (List ℕ)) → IsNoEnd (joined arcs n) → arcs_behind arcs (push_front n o) ≡ None
 ends [] n None h = refl
-ends [] n (Some ns) h = judged_none (joined [] n) ns h
+ends [] n (Some ns) h = ap judged (from_more n ns) ∙ judged_none (joined [] n) ns h
 ends (a ∷ arcs) n None h = refl
 ends (a ∷ arcs) n (Some ns) h = joins (a ∷ arcs) n (Some ns) ∙ judged_none (joined (a ∷ arcs) n) ns h
 

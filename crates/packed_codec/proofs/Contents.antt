@@ -13,8 +13,10 @@ use Rattle.ber_spelling.specs.Rules.{in_range}
 use Rattle.osi_base.specs.Octets.{AreOctets}
 use Rattle.ber_spelling.specs.Primitives.{integer_of}
 use Rattle.packed_codec.specs.Numbers.{is_size, integer_octets}
-use Rattle.packed_codec.specs.ObjectIds.{arcs_of, arcs_octets}
-use Rattle.packed_codec.specs.Rules.{checked, number_rule, any_size, at_most, octets_rule, text_rule, object_id_rule}
+use Rattle.ber_spelling.specs.Primitives.{arcs_of}
+use Rattle.ber_spelling.specs.Rules.{object_id_rule}
+use Rattle.packed_codec.specs.ObjectIds.{arcs_octets}
+use Rattle.packed_codec.specs.Rules.{checked, number_rule, any_size, at_most, octets_rule, text_rule}
 use Rattle.packed_codec.specs.Writing.{Writer, counted, with_size, number_written, octets_written, text_written, object_id_written, items}
 use Rattle.packed_codec.proofs.Spelled.{Sized, some_if, octets_all}
 use Rattle.packed_codec.proofs.Integers.{integer_sound, integer_complete}

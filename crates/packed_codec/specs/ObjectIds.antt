@@ -1,31 +1,16 @@
 -- The contents of OBJECT IDENTIFIER (X.690 8.19).
-use Rattle.std.specs.Prelude.{◌≡◌, ℕ, ◌<◌, ◌⊎◌, ◌++◌, length, ◌+◌, ◌-◌, ◌*◌, ◌/◌, ◌%◌, ◌^◌, false, ◌&&◌, Option, Some, None, List, [], ◌∷◌, nat_lt, nat_eq, if◌then◌else◌}
+use Rattle.std.specs.Prelude.{◌≡◌, ℕ, ◌<◌, ◌⊎◌, ◌++◌, length, ◌+◌, ◌/◌, ◌%◌, ◌^◌, false, ◌&&◌, Option, Some, None, List, [], ◌∷◌, nat_eq, if◌then◌else◌}
 use Rattle.std.specs.List.{list_all, flat_map}
 use Rattle.osi_base.specs.Oid.{is_oid}
 use Rattle.asn1_types.specs.Fits.{has_32_bits}
 use Rattle.asn1_types.specs.Writing.{subidentifiers}
-use Rattle.ber_spelling.specs.Primitives.{subidentifiers_of}
+use Rattle.ber_spelling.specs.Primitives.{arcs_from}
 
--- ---- read: of the contents `subidentifiers_of` in `Primitives` of `ber_spelling` says the subidentifiers
-
--- 40 times the first arc and the second arc make the first subidentifier (X.690 8.19.4)
-abbrev pub first_arc : ℕ → ℕ
-first_arc n = if nat_lt n 40 then 0 else (if nat_lt n 80 then 1 else 2)
-
-abbrev pub arcs_from : List ℕ → List ℕ
-arcs_from [] = []
-arcs_from (first ∷ more) = first_arc first ∷ (first - 40 * first_arc first) ∷ more
+-- ---- read: what the contents say is `arcs_of` in `Primitives` of `ber_spelling`
 
 -- arcs, if each has 32 bits and they are an object identifier
 abbrev pub judged : List ℕ → Option (List ℕ)
 judged arcs = if list_all has_32_bits arcs && is_oid arcs then Some arcs else None
-
-abbrev pub judged_arcs : Option (List ℕ) → Option (List ℕ)
-judged_arcs None = None
-judged_arcs (Some ns) = judged (arcs_from ns)
-
-unfoldable pub arcs_of : List ℕ → Option (List ℕ)
-arcs_of octets = judged_arcs (subidentifiers_of 0 false octets)
 
 -- the arcs, once one more subidentifier is read
 abbrev pub joined : List ℕ → ℕ → List ℕ

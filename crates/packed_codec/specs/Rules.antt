@@ -1,5 +1,5 @@
 -- What each row is read as, from what the rows that it names are read as.
-use Rattle.std.specs.Prelude.{ℕ, zero, suc, ◌-◌, ℤ, Bool, true, false, not, ◌||◌, Option, Some, None, option_map, List, [], ◌∷◌, ◌++◌, length, Ok, nat_lt, nat_le, nat_eq, slice_get, if◌then◌else◌}
+use Rattle.std.specs.Prelude.{ℕ, zero, suc, ◌-◌, ℤ, Bool, true, false, not, ◌||◌, Option, Some, None, List, [], ◌∷◌, ◌++◌, length, Ok, nat_lt, nat_le, nat_eq, slice_get, if◌then◌else◌}
 use Rattle.osi_base.specs.Limits.{most_items}
 use Rattle.asn1_types.specs.declared.row.Part.{Part}
 use Rattle.asn1_types.specs.declared.row.TextKind.{TextKind}
@@ -8,16 +8,15 @@ use Rattle.asn1_types.specs.declared.row.TypeRow.TheVariants as row
 use Rattle.asn1_types.specs.Rows.{along}
 use Rattle.asn1_types.specs.Defaults.{is_item, may_be_absent, is_default}
 use Rattle.asn1_types.specs.Fits.{are_bits, is_text}
-use Rattle.asn1_types.specs.Value.{Value, boolean, integer, null, octets, bits, object_id, text, parts, list, chosen}
+use Rattle.asn1_types.specs.Value.{Value, boolean, integer, null, octets, bits, text, parts, list, chosen}
 use Rattle.asn1_types.specs.ValueView.{parts_of, values_of}
 use Rattle.ber_spelling.specs.Primitives.{integer_of}
 use Rattle.packed_codec.specs.Reading.{Spot, Reading, ◌>>=◌, refuse}
 use Rattle.packed_codec.specs.Fields.{announced_at, octet_at, count_at}
 use Rattle.packed_codec.specs.Numbers.{is_size, integer_octets}
-use Rattle.packed_codec.specs.ObjectIds.{arcs_of}
 use Rattle.asn1_types.specs.Writing.{written}
 use Rattle.asn1_types.specs.Rising.{behind_last}
-use Rattle.ber_spelling.specs.Rules.{in_range}
+use Rattle.ber_spelling.specs.Rules.{in_range, object_id_rule}
 
 -- what stands at a spot, within a limit on the octets of the whole value
 abbrev pub Reader : Type 0
@@ -80,9 +79,6 @@ octets_rule os = Some (octets os)
 
 abbrev pub text_rule : TextKind → List ℕ → Option Value
 text_rule kind os = if is_text kind os then Some (text os) else None
-
-abbrev pub object_id_rule : List ℕ → Option Value
-object_id_rule os = option_map object_id (arcs_of os)
 
 -- no bit is unused where there is no octet
 abbrev pub bits_size : ℕ → ℕ → Bool

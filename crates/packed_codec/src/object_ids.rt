@@ -1,9 +1,10 @@
 //! The contents of OBJECT IDENTIFIER (X.690 8.19).
 
-ghost use Rattle.std.specs.Prelude.{◌≡◌, ◌≤◌, ◌*◌, ◌&&◌, not, nat_eq, IfOk};
+ghost use Rattle.std.specs.Prelude.{◌≡◌, ◌≤◌, ◌-◌, ◌*◌, ◌&&◌, [], ◌∷◌, not, nat_eq, IfOk};
 ghost use Rattle.std.specs.List.{list_all};
 ghost use Rattle.asn1_types.specs.Fits.{has_32_bits};
-ghost use Rattle.packed_codec.specs.ObjectIds.{first_arc, arcs_of, judged, joined, IsNoEnd};
+ghost use Rattle.ber_spelling.specs.Primitives.{arcs_from, arcs_of};
+ghost use Rattle.packed_codec.specs.ObjectIds.{judged, joined, IsNoEnd};
 ghost use Rattle.std.specs.Bool.{MatchBool};
 
 use osi_base::{NoMemory, Oid};
@@ -11,7 +12,7 @@ use std::alloc::Global;
 
 /// The first arc, which shares a subidentifier with the second (X.690 8.19.4).
 fn first_arc(number: u64) -> u64
-    ensures value { result ≡ first_arc number }
+    ensures value { arcs_from (number ∷ []) ≡ result ∷ (number - 40 * result) ∷ [] }
     ensures room { 40 * result ≤ number }
 {
     if number < 40 {
@@ -67,7 +68,7 @@ fn is_leading_zero(digit: u8, begun: bool) -> bool
 }
 
 /// The object identifier of these contents, if they are one. Memory is taken for its arcs alone.
-#[tactic(auto, unfolding(crate::specs::ObjectIds::arcs_of))]
+#[tactic(auto, unfolding(ber_spelling::specs::Primitives::arcs_of))]
 pub(crate) fn arcs_of(alloc: Global, octets: &[u8]) -> Result<Option<Oid>, NoMemory>
     ensures { IfOk result (λ oid. oid ≡ arcs_of octets.now) }
 {

@@ -6,7 +6,8 @@ ghost use Rattle.asn1_types.specs.Defaults.{is_item};
 ghost use Rattle.ber_spelling.specs.Rules.{in_range};
 ghost use Rattle.packed_codec.specs.Numbers.{is_size};
 ghost use Rattle.packed_codec.specs.Reading.{Gives, spot_of, GoesOn};
-ghost use Rattle.packed_codec.specs.Rules.{boolean_at, null_at, number_at, string_at, number_rule, any_size, at_most, octets_rule, text_rule, object_id_rule, bits_at, bits_size, bits_rule};
+ghost use Rattle.ber_spelling.specs.Rules.{object_id_rule};
+ghost use Rattle.packed_codec.specs.Rules.{boolean_at, null_at, number_at, string_at, number_rule, any_size, at_most, octets_rule, text_rule, bits_at, bits_size, bits_rule};
 
 use crate::fault::PackedFault;
 use crate::fields::{announced, count, octet, refusal};

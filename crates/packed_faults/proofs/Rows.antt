@@ -12,7 +12,8 @@ use Rattle.ber_spelling.specs.Rules.{in_range}
 use Rattle.packed_codec.specs.Laws.{packs_by}
 use Rattle.packed_codec.specs.Numbers.{is_size}
 use Rattle.packed_codec.specs.Reading.{Spot}
-use Rattle.packed_codec.specs.Rules.{Reader, dead, read_by, number_rule, any_size, at_most, octets_rule, text_rule, object_id_rule}
+use Rattle.ber_spelling.specs.Rules.{object_id_rule}
+use Rattle.packed_codec.specs.Rules.{Reader, dead, read_by, number_rule, any_size, at_most, octets_rule, text_rule}
 use Rattle.packed_codec.specs.Writing.{Writer, counted, with_size, number_written, octets_written, text_written, object_id_written, nothing_written, write_by}
 use Rattle.packed_codec.proofs.Contents.{integer_sized, enumerated_sized, octets_sized, text_sized, object_id_sized}
 use Rattle.packed_codec.proofs.RowLaws.{along_found, along_only}

@@ -1,7 +1,7 @@
 use Rattle.std.proofs.Common.{◌≡◌, ◌≤◌, ◌<◌, false, get_or, sym, ◌∙◌, arith}
 use Rattle.std.specs.Prelude.{nat_eq, not, ◌&&◌}
 use Rattle.std.proofs.lemmas.Bool.{le-leb, lt-leb}
-use Rattle.packed_codec.specs.ObjectIds.{arcs_of}
+use Rattle.ber_spelling.specs.Primitives.{arcs_of}
 use Rattle.packed_codec.proofs.Arcs.{reads_last, reads_none, reads_more, reads_end, not_true, not_false}
 use Rattle.packed_codec.proofs.object_ids.arcs_of.Goals as goal
 use Rattle.packed_codec.proofs.object_ids.arcs_of.Goals.{then-not-begun+in_ok-push_arcs+else-not-branch, else-not-begun}

@@ -1,6 +1,5 @@
 use Rattle.std.proofs.Common.{◌≡◌, ◌≤◌, ◌^◌, drop}
-use Rattle.ber_spelling.specs.Primitives.{subidentifiers_of}
-use Rattle.packed_codec.specs.ObjectIds.{arcs_of}
+use Rattle.ber_spelling.specs.Primitives.{subidentifiers_of, arcs_of}
 use Rattle.packed_codec.proofs.Arcs.{arcs_behind}
 use Rattle.packed_codec.proofs.object_ids.arcs_of.Given as goal
 
