@@ -20,8 +20,9 @@ pub struct BitString {
 impl BitString {
     ghost use Rattle.osi_base.specs.BitString.{has_bit};
 
-    /// Whether the bit with this number stands there and is set. Bit 0 is the leading bit of the
-    /// first octet (X.680 22.2).
+    /// Whether the bit with this number is set in the octets; false behind them. Bit 0 is the
+    /// leading bit of the first octet (X.680 22.2). Unused bits count as they stand; in what is
+    /// read they are 0.
     pub fn has(&self, bit: usize) -> bool
         ensures { result ≡ has_bit self.now bit }
     {

@@ -121,7 +121,7 @@ impl fmt::Display for Layer {
     }
 }
 
-/// What a reject speaks of (X.880 8.4).
+/// What a reject speaks of (X.880 9.4).
 #[derive(Clone, Copy, Debug, PartialEq, Eq)]
 pub enum ProblemKind {
     /// An APDU as a whole, `[0]`.
@@ -162,7 +162,7 @@ impl fmt::Display for ProblemKind {
     }
 }
 
-/// The problem that a reject carries (X.880 8.4).
+/// The problem that a reject carries (X.880 9.4).
 #[derive(Clone, Copy, Debug, PartialEq, Eq)]
 pub struct Problem {
     /// What the reject speaks of.

@@ -32,13 +32,6 @@ impl Name {
         })
     }
 
-    /// A name of this text, which is taken as it is.
-    pub fn from_string(text: String) -> Name
-        ensures { result ≡ string_bytes text }
-    {
-        Name { text }
-    }
-
     /// The name as a text.
     pub fn as_str(&self) -> &str
         ensures { result.now ≡ self.now }
