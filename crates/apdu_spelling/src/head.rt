@@ -33,8 +33,8 @@ pub struct ApduHead {
     pub problem: Option<Problem>,
     /// The octets of the argument, the result or the parameter, unread; `None` where it is absent.
     pub rest: Option<Octets>,
-    /// How many octets its value may have, so that the whole APDU has at most 262,144: in the
-    /// packed syntax so many less the octets of the head, before which the value has no length of
-    /// its own.
+    /// How many octets its value may have: 262,144 in BER and DER, where the octets of the APDU
+    /// bound it too; in the packed syntax that number less the octets of the head, which stand
+    /// before the value.
     pub room: u32,
 }

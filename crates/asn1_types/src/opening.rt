@@ -42,7 +42,7 @@ pub fn begins(table: &TypeTable, of: TypeId, class: Class, number: u64) -> bool
     !is_no_tag(class, number) && opens(table, of, class, number)
 }
 
-/// UNIVERSAL 0 is no tag.
+/// Whether this is UNIVERSAL 0, which is no tag.
 pub fn is_no_tag(class: Class, number: u64) -> bool
     ensures { result ≡ is_no_tag class number }
 {

@@ -15,8 +15,9 @@ use std::alloc::Global;
 use std::marker::Model;
 
 /// A table of types, in rows that are numbered from 0. Its rows are sound: each names only lower
-/// rows, is nested at most 32 deep, tells its parts apart by their tags, and has defaults that fit
-/// their types. Contracts see the rows as a list.
+/// rows, is nested at most 32 deep, tells its parts apart by their tags, has no part or item twice
+/// by name, no item twice by number and no range, number of items or tag that can't be, and its
+/// defaults fit their types. Contracts see the rows as a list.
 #[derive(Debug, Drop)]
 pub struct TypeTable {
     rows: Vec<TypeRow>,

@@ -21,7 +21,7 @@ pub fn is_item(items: &[Item], number: i64) -> bool
     false
 }
 
-/// Octets have 8 bits.
+/// True: octets have 8 bits. The contract says so of these.
 pub fn are_octets(octets: &[u8]) -> bool
     ensures { result ≡ list_all is_octet octets.now }
 {

@@ -23,7 +23,7 @@ fn hear_octets(
     ensures { IfOk result (λ taken. heard_with calls.new taken ≡ hear (base_in basis.now) calls.old
         context (head_at basis.now.tables.now syntax octets.now)) }
 {
-    basis.tables.is_readable();
+    basis.tables.hold_readable();
     hold_octets(octets);
     match basis.heads.read(basis.alloc, syntax, octets) {
         Ok(head) => {

@@ -66,7 +66,7 @@ pub record KeepsLaws (tables : Tables) (ends : Ends) (told : List Entry) (w : Wo
   pub shown_as_taken : ShownAsTaken tables told w
   pub carries_show : EachCarryShows tables told w
 
--- What every table of a module keeps is enough (`Tables::is_readable` says that each does). As each beginning of a run is a
+-- What every table of a module keeps is enough (`Tables::hold_readable` says that each does). As each beginning of a run is a
 -- run, the laws hold before and after each event.
 abbrev pub EveryRunKeepsLaws : Type 0
 EveryRunKeepsLaws =

@@ -34,7 +34,7 @@ pub fn run_world(
     ensures laws { IfOk result (λ transcript. RunsFromStart events.now transcript a.old b.old a.new
         b.new) }
 {
-    a.tables().is_readable();
+    a.tables().hold_readable();
     every_run_keeps_laws();
     let mode = a.config().mode;
     let entries = run_events::<BareRun, End<'_>, End<'_>>(alloc, a, b, events)?;

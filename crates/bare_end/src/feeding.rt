@@ -48,7 +48,7 @@ impl<'t> End<'t> {
         ensures ok { OnOk result (TookOne self.old self.new shown.old shown.new) }
         ensures err { OnErr result (Keeps self.old self.new) }
     {
-        self.tables.is_readable();
+        self.tables.hold_readable();
         let taken = self.hear(used)?;
         self.skip(used);
         self.tell(taken, shown)?;

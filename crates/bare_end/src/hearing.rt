@@ -103,7 +103,7 @@ impl<'t> End<'t> {
             (take used self.old.rest))) }
         ensures err { OnErr result (self.new ≡ self.old) }
     {
-        self.tables.is_readable();
+        self.tables.hold_readable();
         match self.first_head(used) {
             Ok(head) => {
                 hold_some_octets(&head.rest);

@@ -15,7 +15,7 @@ use asn1_types::{Item, Node, Tag, Val, is_item};
 use osi_base::Kind;
 use std::alloc::Global;
 
-/// Whether a number is no part's default.
+/// Whether a number isn't this default; true where there is no default.
 #[inline(always)]
 pub fn is_other_number(default: Option<i64>, number: i64) -> bool
     ensures { result ≡ is_other default (Some (tree.integer number)) }
@@ -26,7 +26,7 @@ pub fn is_other_number(default: Option<i64>, number: i64) -> bool
     }
 }
 
-/// Whether a truth value is no part's default.
+/// Whether a truth value isn't this default; true where there is no default.
 #[inline(always)]
 fn is_other_truth(default: Option<i64>, truth: bool) -> bool
     ensures { result ≡ is_other default (Some (tree.boolean truth)) }

@@ -67,7 +67,7 @@ pub fn sequence(parts: MaybeVals) -> Val
     }
 }
 
-/// A part more.
+/// Puts one more part at the end; `None` is one that is absent.
 pub fn present(parts: &mut MaybeVals, value: Option<Val>) -> Result<(), NoMemory>
     ensures { OnOk result (parts.new.items ≡ parts.old.items ++ value ∷ []) }
 {

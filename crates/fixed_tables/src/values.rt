@@ -49,7 +49,8 @@ pub fn number_or(value: Option<&Val>, other: i64) -> i64
     }
 }
 
-/// The number of an INTEGER of 32 bits, or another where there is none.
+/// The number of an INTEGER, or `other` where there is none; 0 where that number isn't one from 0
+/// to 4,294,967,295.
 pub fn small_number_or(value: Option<&Val>, other: i64) -> u32
     ensures { result ≡ small_or other (option_copied value.entry) }
 {
@@ -61,7 +62,8 @@ pub fn small_number_or(value: Option<&Val>, other: i64) -> u32
     }
 }
 
-/// The number of an INTEGER of 8 bits, or another where there is none.
+/// The number of an INTEGER, or `other` where there is none; 0 where that number isn't one from 0
+/// to 255.
 pub fn octet_or(value: Option<&Val>, other: i64) -> u8
     ensures { result ≡ octet_or other (option_copied value.entry) }
 {
@@ -84,7 +86,7 @@ pub fn maybe_octets(alloc: Global, value: Option<&Val>) -> Result<Option<Octets>
     }
 }
 
-/// The octets of an OCTET STRING or of one whole value.
+/// The octets of an OCTET STRING or of one whole value; none where neither stands.
 pub fn octets_in(alloc: Global, value: Option<&Val>) -> Result<Octets, NoMemory>
     ensures { IfOk result (λ octets. octets ≡ octets_in (option_copied value.entry)) }
 {
@@ -94,7 +96,7 @@ pub fn octets_in(alloc: Global, value: Option<&Val>) -> Result<Octets, NoMemory>
     }
 }
 
-/// Which alternative of a CHOICE stands, counted from 0.
+/// Which alternative of a CHOICE stands, counted from 0; 0 where there is no CHOICE.
 pub fn alternative(value: Option<&Val>) -> u32
     ensures { result ≡ alternative (option_copied value.entry) }
 {

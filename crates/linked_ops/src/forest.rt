@@ -68,7 +68,7 @@ impl Forest {
 
     /// Does nothing. Its contract says that keys are distinct, and that each stands behind the one
     /// above it.
-    pub fn is_forest(&self)
+    pub fn hold_forest(&self)
         ensures { IsForest self.now }
     {
         let _openings = &self.openings;

@@ -6,7 +6,7 @@ ghost use Rattle.module_check.specs.SoFar.{check_from};
 
 use osi_base::{Name, Words};
 
-/// A check of a module, which is a file's name.
+/// A check that a command asks for: of which file, and whether its table file is wanted.
 #[derive(Clone, Copy)]
 pub struct Check<'a> {
     /// The name of the module's file.

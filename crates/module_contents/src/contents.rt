@@ -196,7 +196,7 @@ fn spelled(
     ensures { IfOk result (λ found. option_map apdu_in found ≡ apdu_of tables.now
         (head_at tables.now syntax octets.now)) }
 {
-    tables.is_readable();
+    tables.hold_readable();
     match heads.read(alloc, syntax, octets) {
         Ok(head) => said(alloc, syntax, tables, head),
         Err(HeadFault::General(_)) => Ok(None),

@@ -2,11 +2,17 @@
 
 use std::fmt;
 
-/// What is wrong with a module that reads.
+/// What is wrong with a module that reads. Of two faults at one token the one that stands earlier
+/// here is told.
 #[derive(Clone, Copy, Debug, PartialEq, Eq)]
 pub enum TableKind {
-    /// A name that is used and assigned nowhere; a Name that is used as a type.
+    /// A name that is used and assigned nowhere, or a Name that is used as a type and isn't assigned
+    /// one.
     UnknownName,
+    /// A name in LINKED that isn't an operation's.
+    NotOperation,
+    /// A name in ERRORS that isn't an error's.
+    NotError,
     /// A name that is assigned before, a part or item whose name stands before in its type, or an
     /// item whose number does.
     DoubleName,
@@ -20,10 +26,6 @@ pub enum TableKind {
     TooNested,
     /// A part that its tags don't tell from an earlier one.
     TagsNotDistinct,
-    /// A name in LINKED that isn't an operation's.
-    NotOperation,
-    /// A name in ERRORS that isn't an error's.
-    NotError,
     /// An empty range, a SIZE that doesn't begin with 0 or passes 4,294,967,295, a type with the
     /// tag UNIVERSAL 0, or the 257th alternative of a CHOICE.
     BadRange,
@@ -44,14 +46,14 @@ impl TableKind {
     {
         match self {
             TableKind::UnknownName => "UnknownName",
+            TableKind::NotOperation => "NotOperation",
+            TableKind::NotError => "NotError",
             TableKind::DoubleName => "DoubleName",
             TableKind::DoubleCode => "DoubleCode",
             TableKind::NoCode => "NoCode",
             TableKind::Recursive => "Recursive",
             TableKind::TooNested => "TooNested",
             TableKind::TagsNotDistinct => "TagsNotDistinct",
-            TableKind::NotOperation => "NotOperation",
-            TableKind::NotError => "NotError",
             TableKind::BadRange => "BadRange",
             TableKind::Contradiction => "Contradiction",
             TableKind::BadDefault => "BadDefault",

@@ -84,7 +84,7 @@ impl Invocations {
     pub fn own_count(&self) -> usize
         ensures { result ≡ length (opens_of true self.now.opens) }
     {
-        self.forest.is_forest();
+        self.forest.hold_forest();
         self.invoker.open_count()
     }
 
@@ -92,7 +92,7 @@ impl Invocations {
     pub fn peer_count(&self) -> usize
         ensures { result ≡ length (opens_of false self.now.opens) }
     {
-        self.forest.is_forest();
+        self.forest.hold_forest();
         self.performer.open_count()
     }
 
@@ -104,7 +104,8 @@ impl Invocations {
         self.invoker.made()
     }
 
-    /// Opens the next own invocation of an operation. Want of memory changes nothing.
+    /// Opens the next own invocation of an operation, and answers its identifier. Want of memory
+    /// changes nothing.
     pub fn open(
         &mut self,
         operation: u32,
@@ -128,13 +129,13 @@ impl Invocations {
             }) }
         ensures err { OnErr result (self.new ≡ self.old) }
     {
-        self.forest.is_forest();
+        self.forest.hold_forest();
         let _count = self.invoker.open_count();
         let called = InvokedWith { operation, context };
         self.invoker.open(&mut self.forest, called, linked)
     }
 
-    /// Counts an own invocation that is never open.
+    /// Counts an own invocation that is never open, and answers its identifier.
     pub fn count_silent(&mut self) -> i64
         requires { self.old.made < last_invocation }
         ensures id { result ≡ pos (self.old.made + 1) }
@@ -147,7 +148,7 @@ impl Invocations {
     pub fn close(&mut self, id: &i64)
         ensures { self.new ≡ close false id.now self.old }
     {
-        self.performer.close_at(&mut self.forest, id);
+        self.performer.close(&mut self.forest, id);
     }
 
     /// Closes an invocation of this end.

@@ -19,9 +19,9 @@ pub(crate) fn called_at(
     ensures { result ≡ called id.now (side own invoker.now.kept performer.now.kept) }
 {
     if own {
-        invoker.called_at(id)
+        invoker.called(id)
     } else {
-        performer.called_at(id)
+        performer.called(id)
     }
 }
 

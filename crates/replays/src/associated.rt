@@ -67,7 +67,7 @@ pub fn run_associated(
     ensures { IfOk result (RanAssociated tables.now (configs_and_events schedule)) }
 {
     associated_runs_keep_laws();
-    tables.is_readable();
+    tables.hold_readable();
     let Schedule { setup, events } = schedule;
     let a = new_end(alloc, tables, setup.a)?;
     match new_end(alloc, tables, setup.b) {

@@ -417,7 +417,7 @@ fn is_own(both: &Both, own: bool) -> bool {
 
 /// Whether the peer's invocation 1 alone is open, or none, as a row says.
 fn is_peer(both: &Both, peer: Option<(u32, bool)>) -> bool {
-    match (both.performer.called(1), peer) {
+    match (both.performer.called(&1), peer) {
         (None, None) => both.performer.open_count() == 0,
         (Some(called), Some((operation, under))) => {
             let parent = both.forest.parent(Key { own: false, id: 1 });

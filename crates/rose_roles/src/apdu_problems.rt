@@ -94,7 +94,7 @@ pub(crate) fn value_or_problem(
         IsValueOrProblem (problem_if (not (is_right tables.now.types used.now carried)) problem)
         (value_in carried) found) }
 {
-    tables.is_readable();
+    tables.hold_readable();
     match allowed(alloc, syntax, &tables.types, used, octets, room)? {
         Some(value) => Ok(ValueOrProblem::Right(value)),
         None => Ok(ValueOrProblem::Wrong(problem)),

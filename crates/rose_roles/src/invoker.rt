@@ -57,13 +57,6 @@ impl Invoker {
         }
     }
 
-    /// What is called under an identifier, where it is open.
-    pub fn called(&self, id: i64) -> Option<InvokedWith>
-        ensures { result ≡ called id self.now.kept }
-    {
-        called(&self.kept, &id)
-    }
-
     /// How many own invocations are open; so many keys of this end stand in the forest.
     pub fn open_count(&self) -> usize
         ensures count { result ≡ length self.now.kept }
@@ -134,8 +127,8 @@ impl Invoker {
         self.kept.clear();
     }
 
-    /// As `called`.
-    pub fn called_at(&self, id: &i64) -> Option<InvokedWith>
+    /// What is called under an identifier, where it is open.
+    pub fn called(&self, id: &i64) -> Option<InvokedWith>
         ensures { result ≡ called id.now self.now.kept }
     {
         called(&self.kept, id)
@@ -148,7 +141,7 @@ impl Invoker {
             ≡ close true id.now (calls_of forest.old self.old performed) }
         ensures open { KeepsOpen true forest.old forest.new self.new.kept }
     {
-        forest.is_forest();
+        forest.hold_forest();
         let key = key_of(true, id);
         leave(&mut self.kept, forest, &key);
     }
@@ -171,7 +164,7 @@ impl Invoker {
         let Some(id) = &head.id else {
             return Ok(RoseTaken::BadReject);
         };
-        match self.called_at(id) {
+        match self.called(id) {
             None => Ok(reject_with(head.id, ProblemKind::Result, 0)),
             Some(call) => {
                 let taken = self.end_result(forest, syntax, tables, id, call, &head)?;
@@ -234,7 +227,7 @@ impl Invoker {
         let Some(code) = &head.code else {
             return Ok(RoseTaken::BadReject);
         };
-        match self.called_at(id) {
+        match self.called(id) {
             None => Ok(reject_with(head.id, ProblemKind::Error, 0)),
             Some(call) => {
                 let taken = self.end_error(forest, syntax, tables, id, call, code, &head)?;
@@ -312,7 +305,7 @@ impl Invoker {
         let Some(named) = &id else {
             return RoseTaken::RejectTaken { id, problem };
         };
-        match self.called_at(named) {
+        match self.called(named) {
             None => RoseTaken::RejectTaken { id, problem },
             Some(_) => {
                 self.close(forest, named);

@@ -67,7 +67,7 @@ fn known_problem(
     match (place, linked) {
         (None, _) => Some(1),
         (Some(_), None) => None,
-        (Some(place), Some(linked)) => link_problem(tables, own.called_at(linked), place),
+        (Some(place), Some(linked)) => link_problem(tables, own.called(linked), place),
     }
 }
 
@@ -99,14 +99,7 @@ impl Performer {
     }
 
     /// What is called under an identifier of the peer, where it is open.
-    pub fn called(&self, id: i64) -> Option<InvokedWith>
-        ensures { result ≡ called id self.now.kept }
-    {
-        called(&self.kept, &id)
-    }
-
-    /// As `called`.
-    pub fn called_at(&self, id: &i64) -> Option<InvokedWith>
+    pub fn called(&self, id: &i64) -> Option<InvokedWith>
         ensures { result ≡ called id.now self.now.kept }
     {
         called(&self.kept, id)
@@ -123,25 +116,13 @@ impl Performer {
     }
 
     /// Closes an invocation of the peer, if it is open: it was answered.
-    pub fn close(&mut self, forest: &mut Forest, id: i64)
-        requires { AreOpen false forest.old self.old.kept }
-        ensures closed { (invoked : Invoking) → calls_of forest.new invoked self.new.kept
-            ≡ close false id (calls_of forest.old invoked self.old.kept) }
-        ensures keeps { PerformerKeeps forest.old forest.new self.old self.new }
-    {
-        forest.is_forest();
-        let key = key_of(false, &id);
-        leave(&mut self.kept, forest, &key);
-    }
-
-    /// As `close`.
-    pub fn close_at(&mut self, forest: &mut Forest, id: &i64)
+    pub fn close(&mut self, forest: &mut Forest, id: &i64)
         requires { AreOpen false forest.old self.old.kept }
         ensures closed { (invoked : Invoking) → calls_of forest.new invoked self.new.kept
             ≡ close false id.now (calls_of forest.old invoked self.old.kept) }
         ensures keeps { PerformerKeeps forest.old forest.new self.old self.new }
     {
-        forest.is_forest();
+        forest.hold_forest();
         let key = key_of(false, id);
         leave(&mut self.kept, forest, &key);
     }
@@ -297,7 +278,7 @@ impl Performer {
         ensures keeps { PerformerKeeps forest.old forest.new self.old self.new }
         ensures err { OnErr result ((self.new ≡ self.old) × (forest.new ≡ forest.old)) }
     {
-        forest.is_forest();
+        forest.hold_forest();
         let _count = self.kept.len();
         let Some(id) = &head.id else {
             return Ok(RoseTaken::BadReject);

@@ -20,7 +20,7 @@ pub fn schedule_has_ends(tables: &Tables, schedule: &Schedule)
         → HasEnds modes tables.now (configs_and_events schedule.now) }
 {
     schedules_are_run();
-    tables.is_readable();
+    tables.hold_readable();
     config_is_of_end(&schedule.setup.a);
     config_is_of_end(&schedule.setup.b);
     events_are_calls(&schedule.events);

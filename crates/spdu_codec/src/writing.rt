@@ -255,9 +255,10 @@ pub fn units_written(alloc: Global, spdus: &Spdus) -> Result<Octets, NoMemory>
 }
 
 /// The octets of session units (X.225 8.2, 8.3): one that stands alone, or GT or PT and one behind
-/// it. Each field is one that is read: numbers are 1 to 999,999, user data of a CONNECT have at
-/// most
-/// 10,240 octets, and the parameters of a unit fewer than 65,536. `NoMemory` where memory runs out.
+/// it. Each field is one that is read: numbers are 1 to 999,999 (the mark of a resumption 0 to
+/// 999,999), user data of a CONNECT have at most 10,240 octets, those of a REFUSE, where there are
+/// any, stand behind the code 2 and aren't empty, and the parameters of a unit have fewer than
+/// 65,536. `NoMemory` where memory runs out.
 pub fn write_spdus(alloc: Global, spdus: &Spdus) -> Result<Octets, NoMemory>
     requires { AreWritable spdus.now }
     ensures { IfOk result (λ octets. octets ≡ units_written spdus.now) }

@@ -46,7 +46,7 @@ impl Tables {
 
     /// Does nothing. Its contract says that the types of the tables are sound, and their codes in
     /// the ranges in which codes are read, as they are in all tables.
-    pub fn is_readable(&self)
+    pub fn hold_readable(&self)
         ensures { IsReadable self.now }
     {
         let _rows = self.types.len();

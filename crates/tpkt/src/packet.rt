@@ -17,7 +17,8 @@ pub struct ConnectionFields {
     pub destination: u16,
     /// The reference of the end that sends the unit.
     pub source: u16,
-    /// The code of the proposed or agreed size of a unit, where there is one: its logarithm.
+    /// The code of the proposed or agreed size of a unit, where there is one: the size is 2 to the
+    /// power of this code, in octets (X.224 13.3.4).
     pub size: Option<u8>,
     /// The selector of the calling end; empty where there is none.
     pub calling: Octets,

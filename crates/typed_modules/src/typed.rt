@@ -8,7 +8,7 @@ use osi_base::hold_octets;
 use table_file::loaded_are_files;
 
 /// Does nothing. Its contract says of octets that are a module, a text of the notation or a table
-/// file: no type of its tables is any type.
+/// file: no type of its tables is `Any`.
 pub fn module_has_no_any(bytes: &[u8])
     ensures { (tables : Tables) → HasTables bytes.now tables → HasNoAny tables.types }
 {

@@ -67,6 +67,3 @@ value_text (tree.text characters) = characters_text characters
 value_text _ = codes "?"
 
 -- a value that follows other fields, or nothing
-abbrev pub value_field : Option Value → List ℕ
-value_field None = []
-value_field (Some value) = codes " " ++ value_text value

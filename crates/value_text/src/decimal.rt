@@ -40,14 +40,16 @@ pub fn decimal_natural(text: &[u8]) -> Option<u64>
     Some(value)
 }
 
-/// The number of a text, of 32 bits.
+/// The number below 2^32 that the text writes in decimal digits without a leading zero; else
+/// `None`.
 pub fn decimal_number(text: &[u8]) -> Option<u32>
     ensures { result ≡ number_of text.now }
 {
     u32::try_from(decimal_natural(text)?).ok()
 }
 
-/// The identifier of an invocation: digits alone.
+/// The identifier of an invocation: the number below 2^63 that the text writes in decimal digits
+/// without a leading zero; else `None`.
 pub fn invocation_identifier(text: &[u8]) -> Option<i64>
     ensures { result ≡ identifier_of text.now }
 {

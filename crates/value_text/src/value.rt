@@ -1,7 +1,7 @@
 //! Values as texts, by their form (the notation of X.680 for values).
 
 ghost use Rattle.std.specs.Prelude.{◌≡◌, ◌++◌, ◌∷◌, ◌<◌, ◌≤◌, ◌+◌, ◌-◌, ◌*◌, ◌/◌, ◌%◌, ℕ, [], List, OnOk, decimal, flat_map, take, length};
-ghost use Rattle.value_text.specs.Values.{spaced, oid_text, boolean_text, octets_text, octet_bits, bits_of, bits_text, after_space, doubled, characters_text, value_text, value_field};
+ghost use Rattle.value_text.specs.Values.{spaced, oid_text, boolean_text, octets_text, octet_bits, bits_of, bits_text, after_space, doubled, characters_text, value_text};
 ghost use Rattle.value_text.specs.Values.{hex_octet};
 
 use crate::text::Text;
@@ -115,8 +115,8 @@ fn put_all_bits(text: &mut Text, octets: &[u8], unused: u8) -> Result<(), NoMemo
     Ok(())
 }
 
-/// A value by its form, or `?` where it has none without its type: a SEQUENCE or SET, a SEQUENCE
-/// OF, a CHOICE or a value that is kept as octets. The final rule prints by the type.
+/// A value by its form; `?` for one of a SEQUENCE, SET, SEQUENCE OF, SET OF or CHOICE, and for one
+/// of any type (`Any`). `put_typed` prints these by their types.
 pub fn put_value(text: &mut Text, value: &Val) -> Result<(), NoMemory>
     ensures { OnOk result (text.new ≡ text.old ++ value_text value.now) }
 {
@@ -130,18 +130,5 @@ pub fn put_value(text: &mut Text, value: &Val) -> Result<(), NoMemory>
         Node::ObjectId(oid) => put_oid(text, oid.arcs()),
         Node::Text(characters) => put_characters(text, characters.as_slice()),
         _ => text.put("?"),
-    }
-}
-
-/// A value that follows other fields, or nothing.
-pub fn put_value_field(text: &mut Text, value: &Option<Val>) -> Result<(), NoMemory>
-    ensures { OnOk result (text.new ≡ text.old ++ value_field value.now) }
-{
-    match value {
-        Some(value) => {
-            text.put(" ")?;
-            put_value(text, value)
-        }
-        None => Ok(()),
     }
 }

@@ -4,13 +4,13 @@ use Rattle.association_hearing.proofs.HeadsHeard.{fields_carry, heard_so, refuse
 use Rattle.association_hearing.proofs.unread.hear_octets.Goals as goal
 
 pub take-requires : goal.take-requires
-take-requires c = fields_carry c.args.basis.now.tables.now c.is_readable.ensures c.args.syntax c.args.octets.now c.in-Ok.head c.in-Ok.ensures c.hold_some_octets.ensures
+take-requires c = fields_carry c.args.basis.now.tables.now c.hold_readable.ensures c.args.syntax c.args.octets.now c.in-Ok.head c.in-Ok.ensures c.hold_some_octets.ensures
 
 pub returns-in-Ok : goal.returns-in-Ok
 returns-in-Ok c =
-    heard_so c.args.basis.now.tables.now c.is_readable.ensures c.args.syntax c.args.octets.now c.in-Ok.head c.in-Ok.ensures c.hold_some_octets.ensures (base_in c.args.basis.now) refl c.args.context
+    heard_so c.args.basis.now.tables.now c.hold_readable.ensures c.args.syntax c.args.octets.now c.in-Ok.head c.in-Ok.ensures c.hold_some_octets.ensures (base_in c.args.basis.now) refl c.args.context
     c.args.calls.now c.take.new.self c.take.result c.take.ensures.heard
 
 pub returns-in-Err : goal.returns-in-Err
 returns-in-Err c =
-    refused_heard c.args.basis.now.tables.now c.is_readable.ensures c.args.syntax c.args.octets.now c.hold_octets.ensures (base_in c.args.basis.now) c.args.context c.args.calls.now c.in-Err.fault c.refused_head.result c.in-Err.ensures c.refused_head.ensures
+    refused_heard c.args.basis.now.tables.now c.hold_readable.ensures c.args.syntax c.args.octets.now c.hold_octets.ensures (base_in c.args.basis.now) c.args.context c.args.calls.now c.in-Err.fault c.refused_head.result c.in-Err.ensures c.refused_head.ensures

@@ -12,4 +12,4 @@ returns-clause-told c =
 pub returns-clause-laws : goal.returns-clause-laws
 returns-clause-laws c =
     from_start c.every_run_keeps_laws.ensures c.args.events.now (record { mode = c.config.result.now.mode; entries = c.in_ok-entries.entries; a = c.phase.result; b = c.phase-2.result }) c.args.a.now c.args.b.now c.run_events.new.a c.run_events.new.b
-    (subst IsReadable c.tables.ensures c.is_readable.ensures) (runs_all c.args.a.now c.args.b.now c.args.events.now c.in_ok-entries.entries c.run_events.new.a c.run_events.new.b c.in_ok-entries.ensures) (ap (λ (k : Config). k.mode) c.config.ensures) c.phase.ensures c.phase-2.ensures
+    (subst IsReadable c.tables.ensures c.hold_readable.ensures) (runs_all c.args.a.now c.args.b.now c.args.events.now c.in_ok-entries.entries c.run_events.new.a c.run_events.new.b c.in_ok-entries.ensures) (ap (λ (k : Config). k.mode) c.config.ensures) c.phase.ensures c.phase-2.ensures

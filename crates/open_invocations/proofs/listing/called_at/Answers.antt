@@ -4,8 +4,8 @@ use Rattle.open_invocations.proofs.listing.called_at.Goals as goal
 
 pub returns-then-own : goal.returns-then-own
 returns-then-own c =
-    c.called_at.ensures ∙ ap (λ (b : Bool). called c.args.id.now (side b c.args.invoker.now.kept c.args.performer.now.kept)) (sym c.if-own.true)
+    c.called.ensures ∙ ap (λ (b : Bool). called c.args.id.now (side b c.args.invoker.now.kept c.args.performer.now.kept)) (sym c.if-own.true)
 
 pub returns-else-own : goal.returns-else-own
 returns-else-own c =
-    c.called_at-else-own.ensures ∙ ap (λ (b : Bool). called c.args.id.now (side b c.args.invoker.now.kept c.args.performer.now.kept)) (sym c.if-own.false)
+    c.called-else-own.ensures ∙ ap (λ (b : Bool). called c.args.id.now (side b c.args.invoker.now.kept c.args.performer.now.kept)) (sym c.if-own.false)

@@ -8,7 +8,7 @@ use Rattle.replays.proofs.associated.run_associated.Goals as goal
 pub returns-in-Ok : goal.returns-in-Ok
 returns-in-Ok c =
     IfOk-weaker c.run_ends.result _ _
-    (λ transcript over. scheduled c.associated_runs_keep_laws.ensures.direct c.associated_runs_keep_laws.ensures.reliable c.args.tables.now c.is_readable.ensures c.requires.typed (configs_and_events c.args.schedule) c.requires.set_up c.requires.associated transcript c.in_ok-a.a c.in-Ok.b c.in_ok-a.ensures.made c.in_ok-a.ensures.new c.in-Ok.ensures.made c.in-Ok.ensures.new over)
+    (λ transcript over. scheduled c.associated_runs_keep_laws.ensures.direct c.associated_runs_keep_laws.ensures.reliable c.args.tables.now c.hold_readable.ensures c.requires.typed (configs_and_events c.args.schedule) c.requires.set_up c.requires.associated transcript c.in_ok-a.a c.in-Ok.b c.in_ok-a.ensures.made c.in_ok-a.ensures.new c.in-Ok.ensures.made c.in-Ok.ensures.new over)
     c.run_ends.ensures
 
 pub new_end-requires-clause-associated : goal.new_end-requires-clause-associated

@@ -7,7 +7,7 @@ use Rattle.bare_end.proofs.end.End.take.Goals as goal
 
 pub returns-clause-ok : goal.returns-clause-ok
 returns-clause-ok c =
-    took c.args.self.now c.hear.new.self c.skip.new.self c.tell.new.self c.args.shown.now c.tell.new.shown c.args.used c.in_ok-taken.taken (subst (λ (v : EndView). IsReadable v.tables) c.self.view_is c.is_readable.ensures) c.requires.up c.requires.first c.requires.some c.requires.within
+    took c.args.self.now c.hear.new.self c.skip.new.self c.tell.new.self c.args.shown.now c.tell.new.shown c.args.used c.in_ok-taken.taken (subst (λ (v : EndView). IsReadable v.tables) c.self.view_is c.hold_readable.ensures) c.requires.up c.requires.first c.requires.some c.requires.within
     c.in_ok-taken.ensures.means c.in_ok-taken.ensures.heard c.skip.ensures c.in_ok-tell.ensures.ok c.in_ok-tell.ensures.shown
 
 pub returns-in_err-taken-clause-err : goal.returns-in_err-taken-clause-err

@@ -8,5 +8,5 @@ pub invariant_of-self : goal.invariant_of-self
 invariant_of-self c =
     let i = c.self.inside in
     let before = calls_of i.forest i.invoker i.performer.kept in
-    quiet_kept i.forest c.close_at.new.forest i.invoker i.invoker i.performer.kept c.close_at.new.self.kept c.self.invariant (c.close_at.ensures.keeps.keys.others i.invoker.kept c.self.invariant.own) c.close_at.ensures.keeps.keys.these
-    (subst (λ (k : Calls). Quiet before k) (sym (c.close_at.ensures.closed i.invoker)) (quiet_closed false c.args.id.now before))
+    quiet_kept i.forest c.close.new.forest i.invoker i.invoker i.performer.kept c.close.new.self.kept c.self.invariant (c.close.ensures.keeps.keys.others i.invoker.kept c.self.invariant.own) c.close.ensures.keeps.keys.these
+    (subst (λ (k : Calls). Quiet before k) (sym (c.close.ensures.closed i.invoker)) (quiet_closed false c.args.id.now before))

@@ -11,12 +11,12 @@ use Rattle.rose_roles.proofs.invoker.Invoker.end_rejected.Goals as goal
 pub returns-in-None-clause-heard : goal.returns-in-None-clause-heard
 returns-in-None-clause-heard c = λ performed context base.
     ap (λ (i : Option ℤ). heard_with (calls_of c.args.forest.now c.args.self.now performed) (taken.RejectTaken i c.args.problem)) c.in-Some.is
-    ∙ heard_of_shut base c.args.forest.now c.args.self.now performed c.requires.own context c.in-Some.named c.args.problem c.requires.kind (sym c.called_at.ensures ∙ c.in-None.is)
+    ∙ heard_of_shut base c.args.forest.now c.args.self.now performed c.requires.own context c.in-Some.named c.args.problem c.requires.kind (sym c.called.ensures ∙ c.in-None.is)
     ∙ ap (λ (i : Option ℤ). rules.hear base (calls_of c.args.forest.now c.args.self.now performed) context (RejectHead i c.args.problem)) (sym c.in-Some.is)
 
-pub returns-in-Some-called_at-clause-heard : goal.returns-in-Some-called_at-clause-heard
-returns-in-Some-called_at-clause-heard c = λ performed context base.
+pub returns-in-Some-called-clause-heard : goal.returns-in-Some-called-clause-heard
+returns-in-Some-called-clause-heard c = λ performed context base.
     ap (λ (x : ends.Calls). heard_with x c.own_rejected.result) (c.close.ensures.closed performed)
     ∙ ap (heard_with (ends.close true c.in-Some.named (calls_of c.args.forest.now c.args.self.now performed))) c.own_rejected.ensures
-    ∙ heard_rejected base c.args.forest.now c.args.self.now performed c.requires.own context c.in-Some.named c.args.problem c.in-Some-called_at.field-0 c.requires.kind (sym c.called_at.ensures ∙ c.in-Some-called_at.is)
+    ∙ heard_rejected base c.args.forest.now c.args.self.now performed c.requires.own context c.in-Some.named c.args.problem c.in-Some-called.field-0 c.requires.kind (sym c.called.ensures ∙ c.in-Some-called.is)
     ∙ ap (λ (i : Option ℤ). rules.hear base (calls_of c.args.forest.now c.args.self.now performed) context (RejectHead i c.args.problem)) (sym c.in-Some.is)

@@ -19,7 +19,7 @@ returns-in-Wrong-clause-heard c = λ base carried same k.
     (c.in_ok-number.ensures.found carried there) in
     let once = subst (λ (p : Performing). Once p.kept) c.self.view_is (once_sorted c.self.inside.kept.entries c.len-count.ensures.ordered) in
     ap (heard_with (calls_of c.args.forest.now c.args.own.now c.args.self.now.kept)) c.invoke_rejected.ensures
-    ∙ heard_wrong base c.args.tables.now same c.args.forest.now c.args.own.now c.args.self.now.kept c.requires.own c.requires.peer (apart c.args.forest.now c.is_forest.ensures) once c.args.self.now.context c.in-Some.id c.args.head.linked
+    ∙ heard_wrong base c.args.tables.now same c.args.forest.now c.args.own.now c.args.self.now.kept c.requires.own c.requires.peer (apart c.args.forest.now c.hold_forest.ensures) once c.args.self.now.context c.in-Some.id c.args.head.linked
     c.in-Some-code.code c.operation_with-place.result c.operation_with-place.ensures carried c.in-Wrong.number found
     ∙ ap (rules.hear base (calls_of c.args.forest.now c.args.own.now c.args.self.now.kept) c.args.self.now.context) (said_invoke c.args.head carried c.in-Some.id c.in-Some-code.code kind c.in-Some.is c.in-Some-code.is)
 
@@ -42,6 +42,6 @@ returns-clause-heard c = λ base carried same k.
     (c.in_ok-number.ensures.found carried there) in
     let once = subst (λ (p : Performing). Once p.kept) c.self.view_is (once_sorted c.self.inside.kept.entries c.len-count.ensures.ordered) in
     c.in_ok-taken-in-Right.ensures.performed base c.args.own.now carried same found.1
-    ∙ heard_right base c.args.tables.now same c.args.forest.now c.args.own.now c.args.self.now.kept c.requires.own c.requires.peer (apart c.args.forest.now c.is_forest.ensures) once c.args.self.now.context c.in-Some.id c.args.head.linked
+    ∙ heard_right base c.args.tables.now same c.args.forest.now c.args.own.now c.args.self.now.kept c.requires.own c.requires.peer (apart c.args.forest.now c.hold_forest.ensures) once c.args.self.now.context c.in-Some.id c.args.head.linked
     c.in-Some-code.code c.operation_with-place.result c.operation_with-place.ensures carried found.0
     ∙ ap (rules.hear base (calls_of c.args.forest.now c.args.own.now c.args.self.now.kept) c.args.self.now.context) (said_invoke c.args.head carried c.in-Some.id c.in-Some-code.code kind c.in-Some.is c.in-Some-code.is)
