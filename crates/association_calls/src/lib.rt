@@ -19,10 +19,10 @@ pub use association_state::open_invocations_layer;
 use dialogue::CallRefusal;
 pub use in_use::contexts_in_use;
 pub use invoking::{Making, check_invoke};
-pub use marks::{can_give, can_mark, can_please, can_restart, has_activity};
+pub use marks::{can_give, can_mark, can_please, can_restart};
 pub use outcomes::{carrier_in, check_answer, check_refuse};
 pub use rows::check_phase;
-pub use transfers::{can_release, can_resume, can_stop, has_transfer};
+pub use transfers::{can_release, can_resume, can_stop};
 pub use units::{
     has_activities, has_marks, has_restarts, has_token, has_typed_data, has_units, has_version_two,
     manages_with, needed_units, selected_with,

@@ -36,7 +36,7 @@ pub fn can_mark(basis: &Basis<'_>, body: &Body) -> Reply
 }
 
 /// Whether an own activity is in progress.
-pub fn has_activity(body: &Body) -> bool
+pub(crate) fn has_activity(body: &Body) -> bool
     ensures { result ≡ has_activity (seen body.now) }
 {
     match &body.sending.current {

@@ -14,7 +14,7 @@ use association_state::{Basis, Body};
 use dialogue::CallRefusal;
 
 /// Whether there is a current transfer.
-pub fn has_transfer(body: &Body) -> bool
+pub(crate) fn has_transfer(body: &Body) -> bool
     ensures { result ≡ not (is_none (seen body.now).sending.current) }
 {
     match &body.sending.current {

@@ -157,7 +157,10 @@ impl<'t> End<'t> {
         count
     }
 
-    /// The connection broke: what waits in either direction is lost.
+    /// The connection broke: what waits in either direction is lost. An end of reliable mode whose
+    /// association was open is then broken and may be recovered. In direct mode the association has
+    /// ended, and its open invocations are cut without an indication. An opening is over in either
+    /// mode.
     pub fn broke(&mut self)
         ensures steps { Stepped self.old self.new (broke ∷ []) }
         ensures history { (h : History) → StandsFor self.old h → StandsFor self.new (broke ∷ h) }

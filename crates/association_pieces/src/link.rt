@@ -20,7 +20,8 @@ pub enum Stage {
     Carrying,
 }
 
-/// The own request that isn't answered yet and stops all else (X.225 7.24, 7.31, 7.33).
+/// The own request that isn't answered yet: until it is, the end sends no other request but an
+/// abort. In reliable mode APDUs still join the queue (X.225 7.24, 7.31, 7.33).
 #[derive(Clone, Copy, Debug, PartialEq, Eq)]
 pub enum Awaited {
     /// No own request waits for its answer.
@@ -44,19 +45,21 @@ pub struct Link {
     pub stage: Stage,
     /// The functional units selected: the session requirements that both ends have (X.225 8.3.1).
     pub selected: u16,
-    /// Context management and restoration are selected (X.226 6.3).
+    /// Whether context management and restoration are selected (X.226 6.3).
     pub manages: bool,
-    /// The minor token in direct mode, all tokens in reliable mode.
+    /// Whether this end has the turn: the minor token in direct mode, all tokens in reliable mode.
     pub turn: bool,
-    /// A giving of all tokens isn't confirmed.
+    /// Whether this end gave all tokens, which isn't confirmed yet.
     pub gave: bool,
     /// The own request that isn't answered yet.
     pub awaits: Awaited,
     /// The contexts that were accepted on this connection.
     pub accepted: SetList,
-    /// The references of the CN that opened the association.
+    /// The calling reference of the CN that opened the association (X.225 8.3.1), at its responder;
+    /// `None` where the CN had none, and at an initiator.
     pub reference: Option<Octets>,
-    /// The common reference of that CN.
+    /// The common reference of that CN, at its responder; `None` where the CN had none, and at an
+    /// initiator.
     pub common: Option<Octets>,
     /// The checkpoint size agreed for transfers, in units of 1,024 octets; 0 is without checkpoints
     /// (X.228 8.1).

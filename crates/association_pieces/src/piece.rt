@@ -44,7 +44,7 @@ impl Piece {
         }
     }
 
-    /// A mark with its set. Its number isn't the last of 32 bits.
+    /// A mark with its set. `NoMemory` for the number 4,294,967,295, which no end reaches.
     pub fn marked(number: u32, set: SetList) -> Result<Piece, NoMemory>
         ensures mark { IfOk result (λ piece. piece ≡ marked_piece number set) }
         ensures fits { OnOk result (number < most_32) }

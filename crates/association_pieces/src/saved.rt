@@ -29,7 +29,7 @@ impl Model for SavedSet {
 }
 
 impl SavedSet {
-    /// A set with its number, which isn't the last of 32 bits.
+    /// A set with its number; `NoMemory` for the number 4,294,967,295.
     fn new(number: u32, set: SetList) -> Result<SavedSet, NoMemory>
         ensures { IfOk result (λ saved. saved ≡ record { number = number; set = set }) }
     {
@@ -86,7 +86,8 @@ impl SavedSets {
         }
     }
 
-    /// Saves a set under a number.
+    /// Saves a set under a number. `NoMemory` also for the number 4,294,967,295, which no end
+    /// reaches.
     pub fn push(&mut self, number: u32, set: SetList) -> Result<(), NoMemory>
         ensures { OnOk result (self.new ≡ record { number = number; set = set } ∷ self.old) }
     {

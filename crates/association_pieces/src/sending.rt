@@ -80,7 +80,8 @@ pub struct Encoded {
     pub id: u32,
     /// The pair of abstract and transfer syntax that the identifier stands for.
     pub pair: Pair,
-    /// The octets of the APDU in the transfer syntax of the pair.
+    /// The octets of the transfer: user data in BER with one presentation data value, the APDU in
+    /// the transfer syntax of the pair, and its context (X.226 8.4).
     pub octets: Octets,
     /// The checkpoint size it is sent with, in units of 1,024 octets; 0 is without checkpoints.
     pub checkpoint: u32,

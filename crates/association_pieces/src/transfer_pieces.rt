@@ -47,7 +47,8 @@ impl TransferPieces {
         }
     }
 
-    /// Puts octets behind the pieces.
+    /// Puts octets behind the pieces. `NoMemory` also where the pieces would have more octets than a
+    /// `usize` counts.
     pub fn push_octets(&mut self, octets: Octets) -> Result<(), NoMemory>
         ensures { OnOk result (self.new ≡ octets_piece octets ∷ self.old) }
     {
@@ -59,7 +60,8 @@ impl TransferPieces {
         Ok(())
     }
 
-    /// Puts a mark with its set behind the pieces.
+    /// Puts a mark with its set behind the pieces. `NoMemory` also for the number 4,294,967,295,
+    /// which no end reaches.
     pub fn push_mark(&mut self, number: u32, set: SetList) -> Result<(), NoMemory>
         ensures { OnOk result (self.new ≡ marked_piece number set ∷ self.old) }
     {
@@ -83,7 +85,7 @@ impl TransferPieces {
         self.top
     }
 
-    /// The number behind it.
+    /// The number of the next mark.
     pub fn next(&self) -> u32
         ensures { result ≡ suc (highest self.now) }
     {

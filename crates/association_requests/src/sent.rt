@@ -156,7 +156,8 @@ fn next_transfer(alloc: Global, queue: &mut Vec<Queued>) -> Option<Transfer>
     }
 }
 
-/// The next item becomes the current transfer.
+/// The next item becomes the current transfer. `NoMemory` also where 4,294,967,295 items were
+/// started, which no end reaches.
 fn begin_next(alloc: Global, sending: &mut Sending) -> Result<(), NoMemory>
     ensures { OnOk result (seen_sending sending.new ≡ begun (seen_sending sending.old)) }
 {

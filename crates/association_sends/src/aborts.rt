@@ -27,14 +27,14 @@ fn abort(transport: u8, user: AbortData) -> Message
 }
 
 /// AB of the session's own.
-pub fn session_abort() -> Message
+pub(crate) fn session_abort() -> Message
     ensures { seen_message result ≡ session_abort }
 {
     abort(5, AbortData::NoData)
 }
 
 /// AB with ARP.
-pub fn provider_abort(reason: u8) -> Message
+pub(crate) fn provider_abort(reason: u8) -> Message
     ensures { seen_message result ≡ provider_abort reason }
 {
     abort(

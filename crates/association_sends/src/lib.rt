@@ -8,7 +8,7 @@ mod opening;
 mod tokens;
 mod values;
 
-pub use aborts::{abort_of, provider_abort, session_abort, user_abort};
+pub use aborts::{abort_of, user_abort};
 pub use answers::{
     Response, accept_message, disconnect_message, finish_message, provider_refusal, refuse_message,
 };
@@ -18,4 +18,4 @@ pub use opening::{connect_message, connection_data, connection_request};
 // Passed on: crates above name these through this one.
 pub use set_rules as set_rules_layer;
 pub use tokens::{give_message, pair_copied, part_message, please_message};
-pub use values::{acse_context, acse_value, rtse_context, rtse_information};
+pub use values::{rtse_context, rtse_information};

@@ -13,13 +13,13 @@ use std::alloc::Global;
 
 /// The context of association control: the lowest accepted one, or the one that an initiator
 /// proposes.
-pub fn acse_context(accepted: &[SetItem]) -> u32
+pub(crate) fn acse_context(accepted: &[SetItem]) -> u32
     ensures { result ≡ acse_context accepted.now }
 {
     lowest_with(&[2, 2, 1, 0, 1], &[], accepted).unwrap_or(1)
 }
 
-/// The context of reliable transfer, in the same way.
+/// The context of reliable transfer: the lowest accepted one, or 3, which an initiator proposes.
 pub fn rtse_context(accepted: &[SetItem]) -> u32
     ensures { result ≡ rtse_context accepted.now }
 {
@@ -37,7 +37,7 @@ fn acse_pair(alloc: Global) -> Result<Pair, NoMemory>
 }
 
 /// An APDU of association control with its user information.
-pub fn acse_value(
+pub(crate) fn acse_value(
     alloc: Global,
     accepted: &[SetItem],
     apdu: Acse,

@@ -7,7 +7,7 @@ use osi_base::{
     RestoredList, SessionConnect,
 };
 
-/// A transport unit (X.224 13.3 to 13.6, 13.12).
+/// A transport unit that carries no data: CR, CC, DR or ER (X.224 13.3 to 13.5, 13.12).
 #[derive(Debug, Drop)]
 pub enum TransportUnit {
     /// CR: the reference of the end that asks, the code of the size of a unit, and selectors.

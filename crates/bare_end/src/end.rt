@@ -176,7 +176,8 @@ impl<'t> End<'t> {
         count
     }
 
-    /// The connection broke: what waits in either direction is lost.
+    /// The connection broke: what waits in either direction is lost, the open invocations are cut
+    /// without an indication, and the end is over.
     pub fn broke(&mut self)
         ensures steps { Stepped self.old self.new (broke ∷ []) }
         ensures history { (h : History) → StandsFor self.old h → StandsFor self.new (broke ∷ h) }

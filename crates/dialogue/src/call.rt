@@ -58,7 +58,7 @@ pub enum Call {
     /// Asks for a restart, in direct mode: the marks from this number on are forgotten, and the set
     /// of contexts is again that of the mark before.
     Resync {
-        /// The mark's number.
+        /// The mark's number, 1 up to that of the next mark.
         n: u32,
     },
     /// Interrupts the own activity, in reliable mode.
@@ -120,7 +120,8 @@ pub enum CallRefusal {
     NoTurn,
     /// The end of the own activity of this number was sent, and isn't answered yet.
     Ending(u32),
-    /// The alteration isn't one that may be proposed.
+    /// The alteration asks for nothing, names an identifier twice or one that isn't 1 to 32,767, or
+    /// an addition offers no or too many transfer syntaxes.
     BadProposal,
     /// The identifier of this context is odd or even as only the peer's may be.
     WrongParity(u32),
@@ -140,7 +141,7 @@ pub enum CallRefusal {
     ActivityOpen(u32),
     /// The turn is at this end.
     HasTurn,
-    /// There is no mark of this number.
+    /// The number is 0, or above that of the next mark.
     NoSuchMark(u32),
     /// No own activity is in progress.
     NoActivity,

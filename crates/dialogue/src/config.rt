@@ -24,9 +24,10 @@ pub enum Mode {
 pub enum Phase {
     /// No association was asked for yet.
     Idle,
-    /// An association was asked for, and isn't accepted or refused yet.
+    /// A connection for an association was asked for, and the association isn't accepted or refused
+    /// yet.
     Opening,
-    /// The association is open.
+    /// The association is open; in bare mode the connection stands.
     Up,
     /// This end asked for the release of the association.
     Releasing,
@@ -34,7 +35,8 @@ pub enum Phase {
     Broken,
     /// This end asked for a new connection that recovers the association.
     Recovering,
-    /// The association has ended.
+    /// The association has ended or couldn't begin; in bare mode the connection broke, or what came
+    /// broke the rules.
     Over,
     /// An allocation was refused within a call.
     Dead,
@@ -49,7 +51,8 @@ pub struct Config {
     pub mode: Mode,
     /// The contexts that an initiator proposes.
     pub contexts: Proposals,
-    /// The transfer syntaxes that a responder accepts.
+    /// The transfer syntaxes that the end accepts: a responder as it answers an opening, either end
+    /// as it answers an alteration. Empty in bare mode.
     pub accepts: Oids,
     /// The calling selector of the transport, of the session and of the presentation alike (X.224
     /// 13.3.4, X.225 8.3.1, X.226 8.2.1), 1 to 16 octets.
@@ -88,7 +91,8 @@ impl Copied for Config {
 /// Why an end refuses its configuration.
 #[derive(Clone, Copy, Debug, PartialEq, Eq)]
 pub enum ConfigRefusal {
-    /// The context of this identifier may not be proposed.
+    /// The context of this identifier may not be proposed: the identifier is even, above 32,767, 1
+    /// (in reliable mode also 3) or that of one before it, or it offers no transfer syntax.
     BadContext(u32),
     /// More than 62 contexts are proposed.
     TooManyContexts,
@@ -141,7 +145,8 @@ fn is_bad_selector(octets: &Octets) -> bool
     octets.len() == 0 || octets.len() > 16
 }
 
-/// Whether an end would refuse the configuration, which is one of bare mode.
+/// Whether an end would refuse the configuration, which is one of bare mode: by the first that holds
+/// of `BadSelector`, `BadReference` and `BadWindow`. Takes no memory.
 pub fn check_bare_config(_alloc: Global, config: &Config) -> Result<(), ConfigRefusal>
     ensures { result ≡ refused_if (bare_config_refusal config.now) }
 {

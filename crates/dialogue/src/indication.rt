@@ -64,7 +64,8 @@ pub enum Indication {
     },
     /// A reject came that can't be read.
     BadReject,
-    /// An open invocation, own or the peer's, ends without an outcome.
+    /// An open invocation, own or the peer's, ends without an outcome. A break and the end's own
+    /// `abort` cut without this.
     Cut {
         /// Whether this end made it.
         own: bool,
@@ -138,9 +139,10 @@ pub enum Indication {
         own: bool,
         /// The layer whose unit was at fault; the session where the peer aborted it.
         layer: Layer,
-        /// The octet of the field at fault, counted from 0 in the stream of packets, in the
-        /// transport unit or, in bare mode, in the octets that weren't taken; 0 where no one field
-        /// is at fault.
+        /// The octet of the field at fault, counted from 0: in the stream of packets (transport),
+        /// in the TSDU (session, presentation), in the APDU (association control, reliable
+        /// transfer), in the octets of a transfer for a fault of the value that it holds, and in
+        /// bare mode in the octets that weren't taken; 0 where no one field is at fault.
         place: u64,
         /// The number of the fault: that of the presentation's provider (X.226 8.2), 4 for a fault
         /// of reliable transfer (X.228 9), else 0.

@@ -16,7 +16,7 @@ use Rattle.association_ground.specs.end_rules.Altering.{has_double}
 use Rattle.association_ground.specs.end_rules.Policy.{is_faulty_proposal}
 use Rattle.association_ground.specs.end_rules.Writing.{own_proposals}
 use Rattle.end_config.specs.Refusing.{is_taken, is_bad_context, bad_context, or_refusal, context_refusal, early_refusal, late_refusal, config_refusal}
-use Rattle.end_config.specs.Proposing.{ProposesRightly}
+use Rattle.end_config.specs.Proposing.{InitiatorsProposeRightly}
 
 or-left : (p q : Bool) → (p || q) ≡ false → p ≡ false
 or-left true q h = cc
@@ -131,5 +131,5 @@ with-own Bare ps r = rw (r.not_first, r.once, r.odds) refl
 with-own Direct ps r = rw (r.not_first, r.once, r.odds) refl
 with-own Reliable ps r = rw (r.not_first, r.not_third refl, r.once, r.odds) refl
 
-pub proposes-rightly : ProposesRightly
+pub proposes-rightly : InitiatorsProposeRightly
 proposes-rightly config h = with-own config.mode config.contexts (right config.mode [] config.contexts (no-early config h))

@@ -6,6 +6,6 @@ use Rattle.association_ground.specs.end_rules.Writing.{own_proposals}
 use Rattle.end_config.specs.Refusing.{config_refusal}
 
 -- Its own contexts and those of the configuration come once each and have an initiator's parity (X.226 8.2).
-abbrev pub ProposesRightly : Type 0
-ProposesRightly =
+abbrev pub InitiatorsProposeRightly : Type 0
+InitiatorsProposeRightly =
     (config : Config) → config_refusal config ≡ None → is_faulty_proposal true [] (own_proposals config.mode ++ config.contexts) ≡ false

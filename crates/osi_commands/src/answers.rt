@@ -65,7 +65,7 @@ pub fn module_refused(
     })
 }
 
-/// The schedule breaks its grammar at this line.
+/// A schedule or a recording breaks its grammar at this line.
 pub fn script_refused(alloc: Global, line: u32, kind: ScriptKind) -> Result<Answer, NoMemory>
     ensures { IfOk result (λ answer. answer ≡ script_answer line kind) }
 {

@@ -17,4 +17,3 @@ mod tracing;
 pub use laws::one_answer;
 pub use process::{Arguments, run_process};
 pub use run::osi_run;
-pub use statuses::exit_code;

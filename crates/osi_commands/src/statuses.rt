@@ -6,7 +6,7 @@ ghost use Rattle.osi_commands.specs.Statuses.{exit_code};
 use osi_base::Status;
 
 /// The number with which the program ends.
-pub fn exit_code(status: Status) -> u8
+pub(crate) fn exit_code(status: Status) -> u8
     ensures { result ≡ exit_code status }
 {
     match status {

@@ -31,7 +31,8 @@ pub enum SessionPhase {
     Over,
 }
 
-/// The own request that isn't answered yet and stops all else (X.225 7.24, 7.31, 7.33).
+/// The own request that isn't answered yet: until it is, the machine sends no other request but an
+/// abort (X.225 7.24, 7.31, 7.33).
 #[derive(Clone, Copy, Debug, PartialEq, Eq)]
 pub enum Awaited {
     /// No such request was sent.

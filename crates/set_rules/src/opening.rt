@@ -90,7 +90,8 @@ pub fn proposals(alloc: Global, config: &Config) -> Result<Proposals, NoMemory>
     Ok(all)
 }
 
-/// The contexts of which these results accept the own proposals.
+/// Those of the contexts that the initiator proposes that these results accept, with the accepted
+/// syntax.
 pub fn accepted_for(
     alloc: Global,
     config: &Config,

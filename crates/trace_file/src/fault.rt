@@ -45,8 +45,13 @@ impl fmt::Display for RecordingKind {
 /// Why a file isn't read.
 #[derive(Clone, Copy, Debug, PartialEq, Eq)]
 pub enum RecordingFault {
-    /// The first faulty line, counted from 1.
-    At { line: u32, kind: RecordingKind },
+    /// The first faulty line.
+    At {
+        /// The line, counted from 1; 1 where the file has too many octets.
+        line: u32,
+        /// What is wrong with it.
+        kind: RecordingKind,
+    },
     /// An allocation was refused.
     NoMemory,
 }

@@ -12,8 +12,9 @@ use trace_units::{Viewer, split_first};
 use value_text::Text;
 
 /// What a recorded dialogue says, with the names of a module: a line for each packet that isn't
-/// data and for each transport unit, in the order in which they were whole; a line for the first
-/// fault of each direction, behind which nothing more is said of it. Linear in the octets.
+/// data and for each TSDU (what the DTs up to one that ends it carry), in the order in which they
+/// were whole; a line for the first fault of each direction, behind which nothing more is said of
+/// it. Linear in the octets.
 ///
 /// # Errors
 ///

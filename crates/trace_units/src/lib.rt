@@ -1,5 +1,5 @@
-//! What a trace says of a transport unit: its session units (X.225 8.3), the units of the
-//! presentation protocol that they carry (X.226 8), and their values.
+//! What a trace says of a TSDU: its session units (X.225 8.3), the units of the presentation
+//! protocol that they carry (X.226 8), and their values.
 #![tactic(auto)]
 
 mod names;

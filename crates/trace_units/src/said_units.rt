@@ -169,8 +169,8 @@ impl<'t> Viewer<'t> {
         }
     }
 
-    /// What is said of a transport unit: its session units with what they carry, or the first
-    /// fault. Linear in the octets.
+    /// What is said of a TSDU: its session units with what they carry, or the first fault. Linear
+    /// in the octets.
     ///
     /// # Errors
     ///

@@ -110,8 +110,8 @@ fn put_reject(text: &mut Text, head: &ApduHead) -> Result<bool, NoMemory>
     }
 }
 
-/// Puts what is told of a head behind the text; false, and then nothing, where its code isn't
-/// known.
+/// Puts what is told of a head behind the text; false, and then nothing, where it has a code that
+/// the module doesn't know, or none in an invocation or an error.
 pub(crate) fn put_head(text: &mut Text, tables: &Tables, head: &ApduHead) -> Result<bool, NoMemory>
     ensures { IfOk result (λ told. WasTold told text.old text.new (head_told tables.now head.now)) }
 {

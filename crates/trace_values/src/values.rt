@@ -37,8 +37,9 @@ pub fn split_first<T>(items: &[T]) -> Option<(&T, &[T])>
 }
 
 /// Puts what is said of values behind a text: of each its context's identifier, and which APDU of
-/// the module it is or how many octets it has. Only a value in the form `[0]` that is the head of
-/// an APDU in BER, with a code that the module knows, is told so.
+/// the module it is or how many octets it has. Only a value in the form `[0]` from which the head
+/// of an APDU in BER is read is told so: an invocation or an error with a code that the module
+/// knows, a result with such a code or with none, and a reject.
 ///
 /// # Errors
 ///

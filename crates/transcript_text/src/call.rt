@@ -164,7 +164,7 @@ pub(crate) fn put_told_error(
 
 /// A call. Values print by their types where they fit them, else by their form; that of an answer
 /// by the operation that the other end's invocation of its number named, of which `named` are all.
-pub fn put_call(
+pub(crate) fn put_call(
     text: &mut Text,
     tables: &Tables,
     named: &[u32],

@@ -223,7 +223,7 @@ fn put_counts(text: &mut Text, mode: Mode, counts: &Counts) -> Result<(), NoMemo
 }
 
 /// The summary of a transcript: how many events there were, octets each way, APDUs taken, outcomes
-/// told, rejects sent, invocations cut, transfers handed up and calls refused, each on its line,
+/// told, rejects sent, cuts told, transfers handed up and calls refused, each on its line,
 /// and the phases at the end. A count stands still at 2^64 - 1.
 pub fn summary_text(alloc: Global, transcript: &Transcript) -> Result<Octets, NoMemory>
     ensures { IfOk result (λ text. text ≡ summary_of transcript.now) }

@@ -232,7 +232,7 @@ fn put_resumed(text: &mut Text, number: u32, n: u32) -> Result<(), NoMemory>
 
 /// An indication. Values print by their types where they fit them, else by their form; that of a
 /// result by the operation of this end's own invocation, of which `own` are all that were accepted.
-pub fn put_indication(
+pub(crate) fn put_indication(
     text: &mut Text,
     tables: &Tables,
     own: &[u32],

@@ -8,7 +8,7 @@ mod transcript;
 mod typed;
 mod words;
 
-pub use call::{put_answer, put_call, put_event};
+pub use call::{put_answer, put_event};
 pub use counts::summary_text;
-pub use indication::{put_id, put_indication, put_problem};
+pub use indication::{put_id, put_problem};
 pub use transcript::transcript_text;

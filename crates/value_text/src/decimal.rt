@@ -27,7 +27,7 @@ fn lengthened(value: u64, digit: u8) -> Option<u64>
 
 /// The number that the text writes in decimal digits without a leading zero, below 2^64.
 #[tactic(auto, using(crate::proofs::Numbers::read_none, crate::proofs::Numbers::read_some, crate::proofs::Numbers::read_end))]
-pub fn decimal_natural(text: &[u8]) -> Option<u64>
+pub(crate) fn decimal_natural(text: &[u8]) -> Option<u64>
     ensures { result ≡ below (2 ^ 64) (natural_of text.now) }
 {
     if !leads_well(text) {

@@ -7,7 +7,7 @@ mod print;
 mod text;
 mod value;
 
-pub use decimal::{decimal_integer, decimal_natural, decimal_number, invocation_identifier};
+pub use decimal::{decimal_integer, decimal_number, invocation_identifier};
 pub use print::put_typed;
 pub use text::Text;
 pub use value::{put_oid, put_value};
