@@ -81,8 +81,8 @@ fn has_both(requirements: &Option<BitString>) -> bool
     }
 }
 
-/// Whether context management and restoration are selected: both are proposed, typed data is selected, and marks with restarts or
-/// activities are.
+/// Whether context management and restoration are selected: both are proposed, typed data is
+/// selected, and marks with restarts or activities are.
 pub fn manages_with(requirements: &Option<BitString>, selected: u16) -> bool
     ensures { result ≡ manages_with requirements.now selected }
 {

@@ -47,8 +47,8 @@ impl TransferPieces {
         }
     }
 
-    /// Puts octets behind the pieces. `NoMemory` also where the pieces would have more octets than a
-    /// `usize` counts.
+    /// Puts octets behind the pieces. `NoMemory` also where the pieces would have more octets than
+    /// a `usize` counts.
     pub fn push_octets(&mut self, octets: Octets) -> Result<(), NoMemory>
         ensures { OnOk result (self.new ≡ octets_piece octets ∷ self.old) }
     {

@@ -145,8 +145,8 @@ fn is_bad_selector(octets: &Octets) -> bool
     octets.len() == 0 || octets.len() > 16
 }
 
-/// Whether an end would refuse the configuration, which is one of bare mode: by the first that holds
-/// of `BadSelector`, `BadReference` and `BadWindow`. Takes no memory.
+/// Whether an end would refuse the configuration, which is one of bare mode: by the first that
+/// holds of `BadSelector`, `BadReference` and `BadWindow`. Takes no memory.
 pub fn check_bare_config(_alloc: Global, config: &Config) -> Result<(), ConfigRefusal>
     ensures { result ≡ refused_if (bare_config_refusal config.now) }
 {

@@ -6,8 +6,8 @@ use std::fmt;
 /// here is told.
 #[derive(Clone, Copy, Debug, PartialEq, Eq)]
 pub enum TableKind {
-    /// A name that is used and assigned nowhere, or a Name that is used as a type and isn't assigned
-    /// one.
+    /// A name that is used and assigned nowhere, or a Name that is used as a type and isn't
+    /// assigned one.
     UnknownName,
     /// A name in LINKED that isn't an operation's.
     NotOperation,

@@ -67,7 +67,8 @@ impl Error for SessionRefusal {}
 pub enum SessionFault {
     /// It may not come now.
     OutOfPlace,
-    /// An allocation was refused. To take a unit needs no memory, so no call of this crate gives it.
+    /// An allocation was refused. To take a unit needs no memory, so no call of this crate gives
+    /// it.
     NoMemory,
 }
 

@@ -148,9 +148,9 @@ pub(crate) fn plain_answers(
 
 /// The answers to additions, where so many contexts are there or on their way: each is accepted
 /// with the first of its transfer syntaxes that is taken, or rejected by the provider (result 2),
-/// with reason 1 for an abstract syntax that isn't taken, 2 where no transfer syntax is, and 3 where
-/// 64 contexts are there. At an opening (`connecting`) the abstract syntaxes of the association are
-/// taken too, in BER.
+/// with reason 1 for an abstract syntax that isn't taken, 2 where no transfer syntax is, and 3
+/// where 64 contexts are there. At an opening (`connecting`) the abstract syntaxes of the
+/// association are taken too, in BER.
 pub fn answers_to_additions(
     alloc: Global,
     tables: &Tables,
