@@ -8,7 +8,8 @@ use std::alloc::{AllocError, AllocFailed};
 use std::error::Error;
 use std::fmt;
 
-/// Why a set isn't saved or restored. The first that holds, in this order, decides.
+/// Why a set isn't saved or restored. The first that holds, in this order, decides. It prints by
+/// the name of the variant, with its number.
 #[derive(Clone, Copy, Debug, PartialEq, Eq)]
 pub enum SaveRefusal {
     /// The number isn't one that may be named: for a restart one from 1 to the next number, for a

@@ -75,7 +75,8 @@ pub enum Call {
     Abort,
 }
 
-/// Why an end refuses a call.
+/// Why an end refuses a call. It prints as a transcript tells it: by the name of the variant, with
+/// the number that it carries.
 #[derive(Clone, Copy, Debug, PartialEq, Eq)]
 pub enum CallRefusal {
     /// An allocation was refused within an earlier call.

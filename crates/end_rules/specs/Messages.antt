@@ -43,7 +43,7 @@ pub record DataValue : Type 0 where
 -- ---- messages, in which user data are what they mean: the octets of user data are left empty in the
 -- words of the layers
 
--- transport units (X.224 13.3 to 13.6, 13.12)
+-- transport units that carry no data (X.224 13.3 to 13.5, 13.12)
 pub data TransportUnit : Type 0 where
   ConnectionRequest : (source : ℕ) → (size : Option ℕ) → (calling : List ℕ) → (called : List ℕ) → TransportUnit  -- CR
   ConnectionConfirm : (destination : ℕ) → (size : Option ℕ) → TransportUnit  -- CC

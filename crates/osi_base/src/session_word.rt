@@ -175,5 +175,5 @@ pub enum SessionWord {
 /// A unit of the session protocol.
 pub type Spdu = SessionWord;
 
-/// Units in the order in which they stand in one transport unit.
+/// Units in the order in which they stand in one TSDU.
 pub type Spdus = ListOf<SessionWord>;

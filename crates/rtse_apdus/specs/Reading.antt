@@ -9,7 +9,7 @@ use Rattle.fixed_tables.specs.Whole.{whole_at}
 use Rattle.rtse_apdus.specs.Rows.{rtse_row, rtse_rows}
 use Rattle.rtse_apdus.specs.Words.{apdu_in}
 
--- A part of a transfer, an OCTET STRING, may fill a transport unit; other APDUs have at most 262,144 octets.
+-- A part of a transfer, an OCTET STRING, may fill a TSDU; other APDUs have at most 262,144 octets.
 abbrev pub limit_of : List ℕ → ℕ
 limit_of octets = if slice_index octets 0 == 4 || slice_index octets 0 == 36 then tsdu_limit else most_octets
 

@@ -34,7 +34,7 @@ AnswersOfMode =
     × (awaits_a_restart (state_of role history).awaited ≡ true → role.reliable ≡ false)
     × (owes_a_restart (state_of role history).owed ≡ true → role.reliable ≡ false)
 
--- what is sent for a word whose fields are ones that are read may be written as one transport unit,
+-- what is sent for a word whose fields are ones that are read may be written as one TSDU,
 -- but for an abort for which nothing is sent
 abbrev pub IsNoneOrWritable : List SessionWord → Type 0
 IsNoneOrWritable [] = Unit {0}

@@ -232,7 +232,7 @@ alteration_refusal role state = first_that_holds (alteration_rows role state)
 
 -- ---- what is sent
 
--- it goes alone in a transport unit; others go behind an empty GT (X.225 6.3.7, 8.2)
+-- it goes alone in a TSDU; others go behind an empty GT (X.225 6.3.7, 8.2)
 abbrev pub goes_alone : SessionWord → Bool
 goes_alone (Connect connect) = true
 goes_alone (Accept options version initial requirements user) = true

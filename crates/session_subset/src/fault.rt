@@ -4,7 +4,7 @@ use osi_base::{NoMemory, WordWithNumber};
 use std::error::Error;
 use std::fmt;
 
-/// Why a word may not be sent now.
+/// Why a word may not be sent now. It prints by the name of the variant, with its number.
 #[derive(Clone, Copy, Debug, PartialEq, Eq)]
 pub enum SessionRefusal {
     /// Its functional unit isn't selected, or there is no such token.

@@ -17,8 +17,7 @@ pub fn answers_of_mode()
     ensures { AnswersOfMode }
 {}
 
-/// What is sent for a word may be written as one transport unit, where its fields are ones that are
-/// read.
+/// What is sent for a word may be written as one TSDU, where its fields are ones that are read.
 pub fn sent_is_writable()
     ensures { SentIsWritable }
 {}

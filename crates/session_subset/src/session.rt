@@ -52,7 +52,7 @@ fn units_sent(alloc: Global, state: SessionState, word: SessionWord) -> Result<S
     Ok(units)
 }
 
-/// Whether it goes alone in a transport unit.
+/// Whether it goes alone in a TSDU.
 fn goes_alone(word: &SessionWord) -> bool
     ensures { result ≡ goes_alone word.now }
 {
@@ -154,7 +154,7 @@ impl Session {
         self.state.alteration_refusal(self.role)
     }
 
-    /// Sends a word (X.225 7): answers the units of its transport unit. For an abort before a
+    /// Sends a word (X.225 7): answers the units of its TSDU. For an abort before a
     /// CONNECT was sent or taken on this connection there are none. Needed is that the phase allows
     /// the word, that each number in it is the next or the one that is named, and that a word that
     /// answers has a request that was taken and isn't answered; `may_request` asks so. A refusal is

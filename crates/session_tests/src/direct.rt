@@ -26,7 +26,7 @@ const ONE_MARK: [Step; 3] = [
     PassedOver(A, MarkAck(9)),
 ];
 
-/// 6.3.7: a MINOR SYNC POINT goes behind a GIVE TOKENS, in one transport unit.
+/// 6.3.7: a MINOR SYNC POINT goes behind a GIVE TOKENS, in one TSDU.
 #[test]
 fn a_mark_goes_behind_an_empty_give(rt: HostRuntime) {
     let mut both = direct(&rt, rt.alloc());

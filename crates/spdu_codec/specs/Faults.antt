@@ -1,4 +1,4 @@
--- The first field of a transport unit that breaks the grammar of session units: all before it is right (X.225 8.2, 8.3).
+-- The first field of a TSDU that breaks the grammar of session units: all before it is right (X.225 8.2, 8.3).
 use Rattle.std.specs.Prelude.{◌≡◌, ℕ, ◌+◌, ◌<◌, ◌⊎◌, true, false, List, [], ◌∷◌, ◌++◌, length, Option, Some, None}
 use Rattle.osi_base.specs.declared.layer_words.Kind.TheVariants as why
 use Rattle.osi_base.specs.declared.session_word.SessionWord.{SessionWord}
@@ -13,7 +13,7 @@ use Rattle.spdu_codec.specs.Words.{word_of, has_information, leads}
 use Rattle.spdu_codec.specs.Reading.{UnitFault, at}
 use Rattle.spdu_codec.specs.Wire.{IsLength, AreParameters, IsFree, AllPut, ItemPut, ParameterPut, IsUnit}
 
--- In each relation the octets stand at `place`, counted from the first octet of the transport unit.
+-- In each relation the octets stand at `place`, counted from the first octet of the TSDU.
 
 -- no length stands in front that tells at most the octets behind it
 abbrev pub LacksValue : List ℕ → Type 0
@@ -102,7 +102,7 @@ SecondFault kind found place behind f =
     ((leads kind ≡ true) × (0 < length behind) × LastFault second_units place behind f)
     ⊎ (((leads kind ≡ false) ⊎ (behind ≡ [])) × EndFault kind found place behind f)
 
--- the first fault of a transport unit
+-- the first fault of a TSDU
 abbrev pub FirstFault : List ℕ → UnitFault → Type 0
 FirstFault octets f = HasUnitFault first_units 0 octets f ⊎ BehindFault SecondFault first_units 0 octets f
 

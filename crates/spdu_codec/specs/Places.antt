@@ -1,4 +1,4 @@
--- Where the user data of each unit begin in a transport unit (X.225 8.3): parameters that are passed over and lengths in the long form move them.
+-- Where the user data of each unit begin in a TSDU (X.225 8.3): parameters that are passed over and lengths in the long form move them.
 use Rattle.std.specs.Prelude.{◌≡◌, ℕ, zero, suc, ◌+◌, ◌-◌, ◌<◌, List, [], ◌∷◌, ◌++◌, length, take, drop, Option, Some, None, Result, Ok, Err, if◌then◌else◌}
 use Rattle.osi_base.specs.declared.session_word.SessionWord.{SessionWord}
 use Rattle.osi_base.specs.declared.session_word.SessionWord.TheVariants as words
@@ -58,7 +58,7 @@ pub record UserOfLast (table : List (ℕ × SpduKind)) (here : ℕ) (octets : Li
   pub parts : octets ≡ unit ++ behind
   pub information : (if has_information kind then place (here + length unit) else inner) ≡ at
 
--- the units of a transport unit, one alone or two, with the places of their user data
+-- the units of a TSDU, one alone or two, with the places of their user data
 abbrev pub ArePlaced : List SessionWord → List ℕ → UserPlaces → Type 0
 ArePlaced [] octets at = ⊥
 ArePlaced (word ∷ []) octets at = UserOfLast first_units 0 octets at.first × (at.second ≡ None)

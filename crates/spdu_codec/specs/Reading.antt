@@ -1,4 +1,4 @@
--- Reading the units of a transport unit from left to right, with the first field that breaks the grammar (X.225 8.2).
+-- Reading the units of a TSDU from left to right, with the first field that breaks the grammar (X.225 8.2).
 use Rattle.std.specs.Prelude.{◌≡◌, ℕ, zero, suc, ◌+◌, ◌-◌, ◌*◌, ◌==◌, ◌&&◌, ◌||◌, Bool, true, false, not, List, [], ◌∷◌, length, take, drop, Option, Some, None, Result, Ok, Err, nat_lt, if◌then◌else◌}
 use Rattle.osi_base.specs.declared.layer_words.Kind.{Kind}
 use Rattle.osi_base.specs.declared.layer_words.Kind.TheVariants as why
@@ -140,6 +140,6 @@ behind_first end u =
     (worded (front end u.2) (word_of u.0 false u.1 []) >>= λ first. second_at end u.2 >>= λ second. Ok (first ∷ second ∷ []))
     else (last_word end u.0 u.1 u.2 >>= λ word. Ok (word ∷ []))
 
--- the units of a transport unit
+-- the units of a TSDU
 unfoldable pub units_at : List ℕ → Result (List SessionWord) UnitFault
 units_at octets = unit_at first_units (length octets) octets >>= behind_first (length octets)

@@ -79,7 +79,7 @@ pub record IsFront (word : SessionWord) (octets : List ℕ) : Type 0 where
   pub leading : leads kind ≡ true
   pub means : word_of kind false found [] ≡ Some word
 
--- The units of a transport unit: one alone, or GT or PT and one behind it.
+-- The units of a TSDU: one alone, or GT or PT and one behind it.
 abbrev pub AreUnits : List SessionWord → List ℕ → Type 0
 AreUnits [] octets = ⊥
 AreUnits (word ∷ []) octets = IsLast first_units word octets

@@ -217,7 +217,7 @@ stands_second (ActivityEnd number) = true
 stands_second (ActivityEndAck number) = true
 stands_second _ = false
 
--- units that may be written as one transport unit
+-- units that may be written as one TSDU
 abbrev pub AreWritable : List SessionWord → Type 0
 AreWritable [] = ⊥
 AreWritable (word ∷ []) = (stands_alone word ≡ true) × Fits word

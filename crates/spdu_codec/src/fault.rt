@@ -1,4 +1,4 @@
-//! Why the octets of a transport unit are no session units.
+//! Why the octets of a TSDU are no session units.
 
 ghost use Rattle.std.specs.Prelude.{◌≡◌};
 ghost use Rattle.spdu_codec.specs.declared.fault.SFault.TheVariants.{NoMemory as Memory};
@@ -10,7 +10,7 @@ use std::fmt;
 /// Why session units were not read.
 #[derive(Clone, Copy, Debug, PartialEq, Eq)]
 pub enum SFault {
-    /// The field at this place in the transport unit is the first that breaks the grammar.
+    /// The field at this place in the TSDU is the first that breaks the grammar.
     At { place: usize, kind: Kind },
     /// Memory ran out.
     NoMemory,

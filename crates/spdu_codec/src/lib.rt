@@ -1,4 +1,5 @@
-//! The units of the session protocol (X.225 8), read from octets and written as octets.
+//! The units of the session protocol (X.225 8), read from octets and written as octets: those of a
+//! TSDU, which is what the session hands to the transport at once.
 #![tactic(auto)]
 
 mod fault;

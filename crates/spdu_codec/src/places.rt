@@ -1,4 +1,4 @@
-//! Where the user data of session units begin in their transport unit.
+//! Where the user data of session units begin in their TSDU.
 
 ghost use Rattle.std.specs.Prelude.{◌≡◌, ◌+◌, ◌<◌, ◌≤◌, List, length, IfSome, None};
 ghost use Rattle.std.specs.Option.{option_map, ForSome};
@@ -12,13 +12,13 @@ use crate::parameters::Slot;
 use crate::scan::{split_first, value_at};
 use crate::words::{has_information, leads};
 
-/// Where the user data of the first and of the second unit begin, counted from the transport
-/// unit's first octet; `None` for a unit that isn't there or has none.
+/// Where the user data of the first and of the second unit begin, counted from the first octet of
+/// the TSDU; `None` for a unit that isn't there or has none.
 #[derive(Clone, Copy, Debug, PartialEq, Eq)]
 pub struct UserPlaces {
-    /// Where those of the first unit begin, in octets from the front of the transport unit.
+    /// Where those of the first unit begin, in octets from the front of the TSDU.
     pub first: Option<usize>,
-    /// Where those of the second unit begin, in octets from the front of the transport unit.
+    /// Where those of the second unit begin, in octets from the front of the TSDU.
     pub second: Option<usize>,
 }
 

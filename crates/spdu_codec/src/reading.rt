@@ -1,4 +1,4 @@
-//! Reads the session units of a transport unit.
+//! Reads the session units of a TSDU.
 
 ghost use Rattle.std.specs.Prelude.{◌≡◌, ◌+◌, ◌≤◌, ◌<◌, List, [], ◌∷◌, length, IfOk, IfErr, Ok, Err};
 ghost use Rattle.osi_base.specs.declared.session_word.SessionWord.{SessionWord};
@@ -108,10 +108,10 @@ fn units_at(alloc: Global, tsdu: &[u8]) -> Result<Spdus, SFault>
     behind_first(alloc, tsdu.len(), unit)
 }
 
-/// The session units of a transport unit (X.225 8.2, 8.3): one alone, or GT or PT and one behind
-/// it. Parameters come in any order; those that aren't looked at are passed over. A fault is the
-/// first field from the left that breaks the grammar, and its place counts from the transport
-/// unit's first octet. `NoMemory` where memory runs out.
+/// The session units of a TSDU (X.225 8.2, 8.3): one alone, or GT or PT and one behind it.
+/// Parameters come in any order; those that aren't looked at are passed over. A fault is the first
+/// field from the left that breaks the grammar, and its place counts from the first octet of the
+/// TSDU. `NoMemory` where memory runs out.
 pub fn read_spdus(alloc: Global, tsdu: &[u8]) -> Result<Spdus, SFault>
     // What is read is spelled so.
     ensures found { IfOk result (λ words. AreUnits words tsdu.now) }

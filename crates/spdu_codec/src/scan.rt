@@ -1,5 +1,5 @@
 //! Reads lengths, values and parameters from the front of octets (X.225 8.2). The octets end at a
-//! place of the transport unit, `end`, from which the places of fields are counted back.
+//! place of the TSDU, `end`, from which the places of fields are counted back.
 
 ghost use Rattle.std.specs.Prelude.{◌≡◌, ◌≢◌, ◌+◌, ◌-◌, ◌<◌, ◌≤◌, [], ◌∷◌, length, IfOk, IfErr, MatchOption, Ok};
 ghost use Rattle.spdu_codec.specs.Parameters.{none_yet};

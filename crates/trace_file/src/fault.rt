@@ -7,7 +7,7 @@ use osi_base::NoMemory;
 use std::error::Error;
 use std::fmt;
 
-/// How a line breaks the grammar.
+/// How a line breaks the grammar. It prints by the name of the variant.
 #[derive(Clone, Copy, Debug, PartialEq, Eq)]
 pub enum RecordingKind {
     /// A field behind a direction isn't an even number of hexadecimal digits.

@@ -1,4 +1,4 @@
--- What a trace says of a transport unit: its session units, and the units of the presentation protocol with their values that these carry.
+-- What a trace says of a TSDU: its session units, and the units of the presentation protocol with their values that these carry.
 use Rattle.std.specs.Prelude.{◌≡◌, ℕ, ◌+◌, ◌-◌, ◌^◌, min, List, [], ◌∷◌, ◌++◌, Option, Some, None, Result, Ok, Err, codes}
 use Rattle.osi_base.specs.declared.session_word.SessionWord.{SessionWord}
 use Rattle.osi_base.specs.declared.session_word.SessionWord.TheVariants as words
@@ -51,8 +51,8 @@ IsUnitText tables word text = (values : List ℕ) × ArePdvsText tables (values_
 abbrev pub on : ℕ → ℕ → ℕ
 on place at = min (place + at) (2 ^ 64 - 1)
 
--- What is said of user data that begin at this place of the transport unit: the unit (Ok), or the first fault, whose place
--- counts in the transport unit (Err).
+-- What is said of user data that begin at this place of the TSDU: the unit (Ok), or the first fault, whose place
+-- counts in the TSDU (Err).
 abbrev pub UnitSaid : Tables → ℕ → Result units.PresentationWord faults.PpduFault → Result (List ℕ) (List ℕ) → Type 0
 UnitSaid tables place (Ok word) (Ok text) = IsUnitText tables word text
 UnitSaid tables place (Err (fault.At at kind reason)) (Err text) = text ≡ fault_text (codes "presentation") (on place at) kind
@@ -107,7 +107,7 @@ abbrev pub ReadSaid : Tables → UserPlaces → Result (List SessionWord) UnitFa
 ReadSaid tables places (Ok words) result = WordsSaid tables words places result
 ReadSaid tables places (Err fault) result = result ≡ said.Fault (fault_text (codes "session") fault.place fault.kind)
 
--- what is said of a transport unit: its units in their order, or the first fault
+-- what is said of a TSDU: its units in their order, or the first fault
 abbrev pub TsduSaid : Tables → List ℕ → Said → Type 0
 TsduSaid tables tsdu result = ReadSaid tables (user_places tsdu) (units_at tsdu) result
 
