@@ -18,7 +18,7 @@ arcs_behind (arc ∷ arcs) None = None
 arcs_behind (arc ∷ arcs) (Some ns) = judged ((arc ∷ arcs) ++ ns)
 
 -- the first subidentifier stands for two arcs, the others for one
-first_arc : ℕ → ℕ
+abbrev first_arc : ℕ → ℕ
 first_arc n = cond (nat_lt n 40) 0 (cond (nat_lt n 80) 1 2)
 
 from_is : (n : ℕ) (ns : List ℕ) → arcs_from (n ∷ ns) ≡ first_arc n ∷ (n - 40 * first_arc n) ∷ ns
