@@ -11,17 +11,11 @@ ghost use Rattle.association_end.specs.Changed.{wants_memory, ChangedBy};
 ghost use Rattle.association_end.specs.OneMessage.{AllMayStand, sending};
 
 use crate::end::End;
+use association_ground::is_memory;
 use association_requests::{AcceptedCall, make_call};
 use association_words::Message;
 use dialogue::{Call, CallRefusal, Phase};
 use osi_base::NoMemory;
-
-/// Whether memory was refused.
-fn is_memory(answer: &Result<Option<i64>, CallRefusal>) -> bool
-    ensures { result ≡ is_memory answer.now }
-{
-    matches!(answer, Err(CallRefusal::NoMemory))
-}
 
 /// Whether memory was refused as a call was looked at.
 fn wants_memory(called: &Result<AcceptedCall, CallRefusal>) -> bool

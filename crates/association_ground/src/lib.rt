@@ -10,6 +10,6 @@ mod phases;
 pub use modes::{is_bare, is_direct, is_reliable, proposed_units};
 pub use names::{application_context, is_acse, is_among, is_ber, is_rtse, same_name};
 pub use phases::{
-    is_broken, is_dead, is_idle, is_initiators, is_of_bare_mode, is_opening, is_phase_for,
-    is_recovering, is_up, is_waiting, passes_over,
+    is_broken, is_dead, is_idle, is_initiators, is_memory, is_of_bare_mode, is_opening,
+    is_phase_for, is_recovering, is_up, is_waiting, passes_over,
 };

@@ -1,13 +1,21 @@
-//! Phases, and which calls may be made in them.
+//! Phases, which calls may be made in them, and what a call was answered.
 
 ghost use Rattle.std.specs.Prelude.{◌≡◌};
 ghost use Rattle.end_rules.specs.State.{is_up, is_broken, passes_over};
 ghost use Rattle.end_rules.specs.Calling.{is_dead, is_idle, may_abort_in, is_phase_for, is_initiators, is_of_bare_mode};
 ghost use Rattle.end_rules.specs.InPlace.{is_opening};
+ghost use Rattle.end_rules.specs.Invoking.{is_memory};
 ghost use Rattle.end_rules.specs.TakesTransport.{is_waiting};
 ghost use Rattle.end_rules.specs.Writing.{is_recovering};
 
-use dialogue::{Call, Phase};
+use dialogue::{Call, CallRefusal, Phase};
+
+/// Whether a call was answered that memory was refused.
+pub fn is_memory(answer: &Result<Option<i64>, CallRefusal>) -> bool
+    ensures { result ≡ is_memory answer.now }
+{
+    matches!(answer, Err(CallRefusal::NoMemory))
+}
 
 /// Whether an allocation was refused before.
 pub fn is_dead(phase: Phase) -> bool

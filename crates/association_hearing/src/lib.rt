@@ -19,6 +19,7 @@ pub use association_answers as association_answers_layer;
 pub use association_answers::{
     association_calls_layer, association_sends_layer, association_state_layer,
 };
+pub use problems::is_silent_at;
 pub use transfers::{part_in, set_resumed, suspend};
 pub use unread::hear_unread;
 pub use values::{data_on, queue_apdu, take_value, take_values};

@@ -17,8 +17,8 @@ use stub_tables::{Code, Operation};
 /// How many invocations of one end may be open.
 const MOST_OPEN: usize = 4_096;
 
-/// Whether the operation at this place is silent.
-fn is_silent_at(basis: &Basis<'_>, place: Option<u32>) -> bool
+/// Whether the operation at this place has no outcome; false where there is none.
+pub fn is_silent_at(basis: &Basis<'_>, place: Option<u32>) -> bool
     ensures { result ≡ is_silent_at (base_in basis.now) place }
 {
     let Some(place) = place else { return false };

@@ -22,7 +22,7 @@ use Rattle.association_hearing.specs.rose_roles.declared.invoked_with.InvokedWit
 use Rattle.association_hearing.specs.open_invocations.Invocations.{called_in}
 use Rattle.association_hearing.specs.association_calls.Replies.{IsChecked}
 use Rattle.association_requests.specs.declared.accepted_call.AcceptedCall.{AcceptedCall}
-use Rattle.association_requests.specs.Called.{sent_by, MadeAs, Makes}
+use Rattle.association_requests.specs.Called.{sent_by, MadeAs, MadeOrLeft}
 
 -- ---- data
 
@@ -46,7 +46,7 @@ whatever_is_open Bare calls b (Some id) apdu = refl
 
 -- ---- refusals of checks
 
-pub refused_checked : (can : Reply) (base : Base) (old : Body) (call : Call) (answer : Option ℤ) (apdu : Option Apdu) (refusal : CallRefusal) → IsChecked can answer apdu (Err refusal) → Makes can base old old call (Err refusal)
+pub refused_checked : (can : Reply) (base : Base) (old : Body) (call : Call) (answer : Option ℤ) (apdu : Option Apdu) (refusal : CallRefusal) → IsChecked can answer apdu (Err refusal) → MadeOrLeft can base old old call (Err refusal)
 refused_checked can base old call answer apdu refusals.NoMemory h = tt
 refused_checked can base old call answer apdu refusal h = record { answer = h; body = refl }
 

@@ -13,7 +13,7 @@ use Rattle.end_rules.specs.Requesting.{due_of, after_accepted, due_of_accepted}
 use Rattle.end_rules.specs.History.{called, sent, after_steps, call_steps}
 use Rattle.association_hearing.specs.association_calls.Replies.{Replies}
 use Rattle.association_requests.specs.declared.accepted_call.AcceptedCall.{AcceptedCall}
-use Rattle.association_requests.specs.Called.{sent_by, CalledAs, MadeAs, Makes, IsDue}
+use Rattle.association_requests.specs.Called.{sent_by, CalledAs, MadeAs, MadeOrLeft, IsDue}
 
 -- ---- a call whose first rows were asked
 
@@ -27,7 +27,7 @@ steps_so : (base : Base) (old : Body) (call : Call) (reply : Reply) → can_call
 steps_so base old call reply e = ap (λ (r : Reply). after_steps base old (called call r ∷ map sent (due_of base old call r))) e
 
 pub by_rows : (base : Base) (old new : Body) (call : Call) (r : Result AcceptedCall CallRefusal) → can_call base old call ≡ can_by_rows base old call
-    → Makes (can_by_rows base old call) base old new call r → CalledAs base old new call r
+    → MadeOrLeft (can_by_rows base old call) base old new call r → CalledAs base old new call r
 by_rows base old new call (Ok made) e h =
     record { answer = e ∙ h.answer; due = h.due; body = h.body ∙ sym (steps_so base old call (Ok made.answer) (e ∙ h.answer)) }
 by_rows base old new call (Err NoMemory) e h = tt
@@ -35,7 +35,7 @@ by_rows base old new call (Err refusal) e h = record { answer = e ∙ h.answer; 
 
 -- ---- a call that isn't one of remote operations
 
-pub refused_due : (can : Reply) (base : Base) (old : Body) (call : Call) (due : List Message) (refusal : CallRefusal) → IsDue can due (Err refusal) → Makes can base old old call (Err refusal)
+pub refused_due : (can : Reply) (base : Base) (old : Body) (call : Call) (due : List Message) (refusal : CallRefusal) → IsDue can due (Err refusal) → MadeOrLeft can base old old call (Err refusal)
 refused_due can base old call due NoMemory h = tt
 refused_due can base old call due refusal h = record { answer = h; body = refl }
 

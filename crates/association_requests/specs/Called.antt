@@ -52,10 +52,11 @@ pub record LeftAs (can : Reply) (old new : Body) (refusal : CallRefusal) : Type 
   pub answer : can ≡ Err refusal
   pub body : new ≡ old
 
-abbrev pub Makes : Reply → Base → Body → Body → Call → Result AcceptedCall CallRefusal → Type 0
-Makes can base old new call (Ok called) = MadeAs can base old new call called
-Makes can base old new call (Err NoMemory) = Unit {0}
-Makes can base old new call (Err refusal) = LeftAs can old new refusal
+-- a call made as its rows say, or refused by them, which leaves all as it was; or memory was refused
+abbrev pub MadeOrLeft : Reply → Base → Body → Body → Call → Result AcceptedCall CallRefusal → Type 0
+MadeOrLeft can base old new call (Ok called) = MadeAs can base old new call called
+MadeOrLeft can base old new call (Err NoMemory) = Unit {0}
+MadeOrLeft can base old new call (Err refusal) = LeftAs can old new refusal
 
 -- the answer of these rows with these messages, or their refusal, or memory was refused
 abbrev pub IsDue : Reply → List Message → Result AcceptedCall CallRefusal → Type 0

@@ -8,7 +8,7 @@ ghost use Rattle.end_rules.specs.History.{sent, after_steps};
 ghost use Rattle.association_words.specs.Seen.{seen_message};
 ghost use Rattle.association_hearing.specs.association_sends.Due.{listed};
 ghost use Rattle.association_hearing.specs.association_state.Seen.{base_in, seen};
-ghost use Rattle.association_requests.specs.Called.{CalledAs, Makes};
+ghost use Rattle.association_requests.specs.Called.{CalledAs, MadeOrLeft};
 
 use crate::accepted_call::AcceptedCall;
 use crate::messages_due::due;
@@ -51,8 +51,8 @@ fn begin(body: &mut Body, call: &Call)
 /// Makes a call that isn't one of remote operations.
 fn request(basis: &Basis<'_>, body: &mut Body, call: &Call) -> Result<AcceptedCall, CallRefusal>
     requires { is_of_bare_mode call.now ≡ false }
-    ensures { Makes (can_by_rows (base_in basis.now) (seen body.old) call.now) (base_in basis.now)
-        (seen body.old) (seen body.new) call.now result }
+    ensures { MadeOrLeft (can_by_rows (base_in basis.now) (seen body.old) call.now)
+        (base_in basis.now) (seen body.old) (seen body.new) call.now result }
 {
     let called = due(basis, body, call)?;
     begin(body, call);
@@ -65,8 +65,8 @@ fn request(basis: &Basis<'_>, body: &mut Body, call: &Call) -> Result<AcceptedCa
 
 /// Makes a call that no row of all calls refuses.
 fn make(basis: &Basis<'_>, body: &mut Body, call: &Call) -> Result<AcceptedCall, CallRefusal>
-    ensures { Makes (can_by_rows (base_in basis.now) (seen body.old) call.now) (base_in basis.now)
-        (seen body.old) (seen body.new) call.now result }
+    ensures { MadeOrLeft (can_by_rows (base_in basis.now) (seen body.old) call.now)
+        (base_in basis.now) (seen body.old) (seen body.new) call.now result }
 {
     match call {
         Call::Invoke {

@@ -9,7 +9,7 @@ ghost use Rattle.end_rules.specs.Calling.{is_of_bare_mode, can_by_rows, can_mark
 ghost use Rattle.end_rules.specs.TakesMarks.{restored_set};
 ghost use Rattle.end_rules.specs.Writing.{give_message, please_message, finish_message, user_abort, connection_request};
 ghost use Rattle.end_rules.specs.Requesting.{due_of_accepted};
-ghost use Rattle.association_words.specs.Seen.{seen_message, seen_marks, seen_activities};
+ghost use Rattle.association_words.specs.Seen.{seen_message, seen_marks};
 ghost use Rattle.association_hearing.specs.association_state.Seen.{base_in, seen};
 ghost use Rattle.association_requests.specs.Called.{IsDue};
 
@@ -18,7 +18,7 @@ use association_hearing::association_calls_layer::{
     can_alter, can_give, can_mark, can_please, can_release, can_restart, can_resume, can_stop,
 };
 use association_hearing::association_sends_layer::{
-    connection_request, finish_message, give_message, please_message, user_abort,
+    activity_message, connection_request, finish_message, give_message, please_message, user_abort,
 };
 use association_hearing::association_state_layer::{Basis, Body};
 use association_sets::{Alteration, restored_list};
@@ -31,13 +31,6 @@ fn marks(word: MarkWord) -> Message
     ensures { seen_message result ≡ Session (OfMarks (seen_marks word)) }
 {
     Message::Session(Word::OfMarks(word))
-}
-
-/// A message of activities.
-fn activities(word: ActivityWord) -> Message
-    ensures { seen_message result ≡ Session (OfActivities (seen_activities word)) }
-{
-    Message::Session(Word::OfActivities(word))
 }
 
 /// AC with additions and deletions.
@@ -140,7 +133,7 @@ fn due_interrupt(basis: &Basis<'_>, body: &Body) -> Result<AcceptedCall, CallRef
     let answer = can_stop(basis, body)?;
     Ok(AcceptedCall {
         answer,
-        message: Some(activities(ActivityWord::Interrupt { reason: Some(0) })),
+        message: Some(activity_message(ActivityWord::Interrupt { reason: Some(0) })),
     })
 }
 
@@ -153,7 +146,7 @@ fn due_discard(basis: &Basis<'_>, body: &Body) -> Result<AcceptedCall, CallRefus
     let answer = can_stop(basis, body)?;
     Ok(AcceptedCall {
         answer,
-        message: Some(activities(ActivityWord::Discard { reason: Some(0) })),
+        message: Some(activity_message(ActivityWord::Discard { reason: Some(0) })),
     })
 }
 
@@ -177,7 +170,7 @@ fn due_resume(basis: &Basis<'_>, body: &Body) -> Result<AcceptedCall, CallRefusa
     let answer = can_resume(basis, body)?;
     Ok(AcceptedCall {
         answer,
-        message: Some(activities(ActivityWord::Resume {
+        message: Some(activity_message(ActivityWord::Resume {
             activity: body.sending.started,
             mark: confirmed_of(body),
         })),

@@ -7,7 +7,6 @@ ghost use Rattle.dialogue.specs.declared.call.Call.TheVariants as the_calls;
 ghost use Rattle.stub_tables.specs.Lookup.{operation_at};
 ghost use Rattle.dialogue.specs.declared.config.Mode.TheVariants.{Direct, Bare};
 ghost use Rattle.end_rules.specs.State.{opened_with};
-ghost use Rattle.end_rules.specs.Hearing.{is_silent_at};
 ghost use Rattle.end_rules.specs.Invoking.{next_id, can_invoke, can_answer, can_refuse};
 ghost use Rattle.end_rules.specs.Requesting.{handed_in, sent_at_once, invoking, after_outcome, due_outcome};
 ghost use Rattle.association_words.specs.Seen.{seen_message};
@@ -15,7 +14,7 @@ ghost use Rattle.association_hearing.specs.open_invocations.Invocations.{is_link
 ghost use Rattle.association_hearing.specs.association_sends.Due.{listed};
 ghost use Rattle.association_hearing.specs.association_state.Seen.{base_in, seen};
 ghost use Rattle.association_hearing.specs.association_calls.Rooms.{HasRoom};
-ghost use Rattle.association_requests.specs.Called.{Makes, sent_by};
+ghost use Rattle.association_requests.specs.Called.{MadeOrLeft, sent_by};
 
 use crate::accepted_call::AcceptedCall;
 use asn1_types::Val;
@@ -23,7 +22,7 @@ use association_hearing::association_calls_layer::{
     Making, carrier_in, check_answer, check_invoke, check_refuse,
 };
 use association_hearing::association_state_layer::{Basis, Body};
-use association_hearing::{data_on, queue_apdu};
+use association_hearing::{data_on, is_silent_at, queue_apdu};
 use association_words::Message;
 use dialogue::{CallRefusal, Mode};
 use osi_base::NoMemory;
@@ -73,16 +72,6 @@ fn hand_in(
     }
 }
 
-/// Whether the operation at this place is silent.
-fn is_silent_at(basis: &Basis<'_>, place: u32) -> bool
-    ensures { result ≡ is_silent_at (base_in basis.now) (Some place) }
-{
-    match basis.tables.operation(place) {
-        None => false,
-        Some(operation) => operation.is_silent(),
-    }
-}
-
 /// Counts the next own invocation, which is never open.
 fn count_silent(body: &mut Body) -> Result<i64, NoMemory>
     requires { (seen body.old).calls.made < last_invocation }
@@ -104,7 +93,7 @@ fn open(basis: &Basis<'_>, body: &mut Body, making: Making) -> Result<i64, NoMem
     ensures opened { OnOk result (seen body.new ≡ invoking (base_in basis.now) making.context
         making.place (next_id (seen body.old)) making.linked (seen body.old)) }
 {
-    if is_silent_at(basis, making.place) {
+    if is_silent_at(basis, Some(making.place)) {
         return count_silent(body);
     }
     body.calls.open(making.place, making.context, making.linked)
@@ -117,7 +106,7 @@ pub(crate) fn invoke(
     making: Making,
     argument: &Option<Val>,
 ) -> Result<AcceptedCall, CallRefusal>
-    ensures { Makes (can_invoke (base_in basis.now) (seen body.old) making.context making.place
+    ensures { MadeOrLeft (can_invoke (base_in basis.now) (seen body.old) making.context making.place
         argument.now making.linked) (base_in basis.now) (seen body.old) (seen body.new)
         (the_calls.Invoke making.context making.place argument.now making.linked) result }
 {
@@ -166,7 +155,7 @@ pub(crate) fn answer(
     id: &i64,
     value: &Option<Val>,
 ) -> Result<AcceptedCall, CallRefusal>
-    ensures { Makes (can_answer (base_in basis.now) (seen body.old) id.now value.now)
+    ensures { MadeOrLeft (can_answer (base_in basis.now) (seen body.old) id.now value.now)
         (base_in basis.now) (seen body.old) (seen body.new) (the_calls.Answer id.now value.now)
         result }
 {
@@ -182,7 +171,7 @@ pub(crate) fn refuse(
     place: u32,
     parameter: &Option<Val>,
 ) -> Result<AcceptedCall, CallRefusal>
-    ensures { Makes (can_refuse (base_in basis.now) (seen body.old) id.now place parameter.now)
+    ensures { MadeOrLeft (can_refuse (base_in basis.now) (seen body.old) id.now place parameter.now)
         (base_in basis.now) (seen body.old) (seen body.new) (the_calls.Refuse id.now place
         parameter.now) result }
 {

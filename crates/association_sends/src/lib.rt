@@ -17,5 +17,5 @@ pub use association_words as association_words_layer;
 pub use opening::{connect_message, connection_data, connection_request};
 // Passed on: crates above name these through this one.
 pub use set_rules as set_rules_layer;
-pub use tokens::{give_message, pair_copied, part_message, please_message};
+pub use tokens::{activity_message, give_message, pair_copied, part_message, please_message};
 pub use values::{rtse_context, rtse_information};

@@ -1,15 +1,18 @@
-//! Tokens, and parts of transfers, that an end writes.
+//! Tokens, activities and parts of transfers that an end writes.
 
 ghost use Rattle.std.specs.Prelude.{◌≡◌, IfOk};
 ghost use Rattle.std.specs.Option.{option_copied};
 ghost use Rattle.osi_base.specs.SetPlaces.{pair_of};
 ghost use Rattle.end_rules.specs.Writing.{give_message, rtse_value, please_message, part_message};
-ghost use Rattle.association_words.specs.Seen.{seen_message, seen_value, seen_content};
+ghost use Rattle.end_rules.specs.Messages.{OfActivities, Session};
+ghost use Rattle.association_words.specs.Seen.{seen_message, seen_value, seen_content, seen_activities};
 ghost use Rattle.association_state.specs.Seen.{seen};
 
 use crate::values::rtse_context;
 use association_state::Body;
-use association_words::{DataWord, MarkWord, Message, Value, ValueContent, Values, Word};
+use association_words::{
+    ActivityWord, DataWord, MarkWord, Message, Value, ValueContent, Values, Word,
+};
 use dialogue::Mode;
 use osi_base::{Copied, ListOf, NoMemory, Octets, Pair, SetItem, pair_of};
 use std::alloc::Global;
@@ -23,6 +26,13 @@ pub fn give_message(mode: Mode) -> Message
         Mode::Direct => Message::Session(Word::OfMarks(MarkWord::Give { tokens: Some(4) })),
         Mode::Bare => Message::Session(Word::OfMarks(MarkWord::Give { tokens: Some(4) })),
     }
+}
+
+/// A message of activities.
+pub fn activity_message(word: ActivityWord) -> Message
+    ensures { seen_message result ≡ Session (OfActivities (seen_activities word)) }
+{
+    Message::Session(Word::OfActivities(word))
 }
 
 /// A copy of the pair that a set gives an identifier.

@@ -18,21 +18,15 @@ ghost use Rattle.association_hearing.specs.association_sends.Due.{listed};
 use association_hearing::association_answers_layer::{
     Brought, one_message, push_losses, with_indication, with_nothing,
 };
+use association_hearing::association_sends_layer::activity_message;
 use association_hearing::association_state_layer::{Awaited, Basis, Body, Receiving};
 use association_hearing::{set_resumed, suspend, take_value};
 use association_sets::copy_set;
-use association_words::{ActivityWord, Message, Value, Word};
+use association_words::{ActivityWord, Value};
 use dialogue::{Indication, Indications};
 use osi_base::{ListOf, NoMemory};
 use std::alloc::Global;
 use stub_tables::Apdu;
-
-/// A message of activities.
-fn word(word: ActivityWord) -> Message
-    ensures { seen_message result ≡ Session (OfActivities (seen_activities word)) }
-{
-    Message::Session(Word::OfActivities(word))
-}
 
 /// The record of an activity as it starts.
 fn start_record(receiving: &mut Receiving, activity: u32)
@@ -142,7 +136,10 @@ pub fn end_taken(
     let taken = take_arrived(basis, body, arrived)?;
     between(basis.alloc, body)?;
     let Brought { answers: _, shown } = taken;
-    let answers = one_message(basis.alloc, word(ActivityWord::EndAck { number }))?;
+    let answers = one_message(
+        basis.alloc,
+        activity_message(ActivityWord::EndAck { number }),
+    )?;
     Ok(Brought { answers, shown })
 }
 
@@ -184,7 +181,9 @@ fn take_interrupt(basis: &Basis<'_>, body: &mut Body) -> Result<Brought, NoMemor
             number: body.receiving.last,
         },
     )?;
-    taken.answers.push(word(ActivityWord::InterruptAck))?;
+    taken
+        .answers
+        .push(activity_message(ActivityWord::InterruptAck))?;
     Ok(taken)
 }
 
@@ -206,7 +205,9 @@ fn take_discard(basis: &Basis<'_>, body: &mut Body) -> Result<Brought, NoMemory>
             number: body.receiving.last,
         },
     )?;
-    taken.answers.push(word(ActivityWord::DiscardAck))?;
+    taken
+        .answers
+        .push(activity_message(ActivityWord::DiscardAck))?;
     Ok(taken)
 }
 

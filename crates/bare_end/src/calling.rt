@@ -10,15 +10,8 @@ ghost use Rattle.bare_end.specs.View.{base, body, AnswersCall, Answered, Died, S
 
 use crate::end::End;
 use crate::invoking::Making;
-use association_ground::{is_dead, is_initiators, is_of_bare_mode, is_phase_for};
+use association_ground::{is_dead, is_initiators, is_memory, is_of_bare_mode, is_phase_for};
 use dialogue::{Call, CallRefusal, Phase};
-
-/// Whether memory was refused.
-fn is_memory(answer: &Result<Option<i64>, CallRefusal>) -> bool
-    ensures { result ≡ is_memory answer.now }
-{
-    matches!(answer, Err(CallRefusal::NoMemory))
-}
 
 impl<'t> End<'t> {
     /// Makes a call of remote operations in its phase; there are no others in bare mode.

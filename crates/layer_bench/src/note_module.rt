@@ -57,7 +57,7 @@ pub fn config(alloc: Global) -> Result<Config, NoMemory>
     let calling = Octets::from_slice(alloc, b"a")?;
     let called = Octets::from_slice(alloc, b"b")?;
     let reference = Octets::from_slice(alloc, b"r")?;
-    let common = Octets::from_slice(alloc, b"2601010000Z00")?;
+    let common = Octets::from_slice(alloc, b"260101000000Z")?;
     Ok(Config {
         initiator: false,
         mode: Mode::Bare,

@@ -1,12 +1,12 @@
 -- What a check of a module writes.
-use Rattle.std.specs.Prelude.{◌≡◌, ℕ, Bool, List, [], ◌∷◌, ◌++◌, codes, decimal, if◌then◌else◌}
+use Rattle.std.specs.Prelude.{◌≡◌, ℕ, Bool, List, [], ◌∷◌, ◌++◌, if◌then◌else◌}
 use Rattle.stub_tables.specs.declared.tables.Tables.{Tables}
 use Rattle.table_file.specs.Files.{table_file_of}
 use Rattle.table_listing.specs.Listing.{listing_of}
 use Rattle.module_reading.specs.declared.fault.ModuleKind.{ModuleKind}
 use Rattle.module_reading.specs.declared.fault.ModuleFault.TheVariants as faults
 use Rattle.module_reading.specs.Modules.{HasTables, IsRefused}
-use Rattle.module_reading.specs.Words.{kind_word}
+use Rattle.module_reading.specs.Printed.{module_fault_text}
 use Rattle.module_check.specs.declared.checking.Checked.{Checked}
 use Rattle.module_check.specs.declared.checking.Checked.TheVariants.{Shown, Refused}
 
@@ -16,7 +16,7 @@ shown table tables = if table then table_file_of tables else listing_of tables
 
 -- the line that says where a module is at fault
 abbrev pub refused_text : ℕ → ℕ → ModuleKind → List ℕ
-refused_text line column kind = codes "module refused " ++ decimal line ++ codes " " ++ decimal column ++ codes " " ++ kind_word kind ++ 10 ∷ []
+refused_text line column kind = module_fault_text (faults.At line column kind) ++ 10 ∷ []
 
 -- the tables of a module, as they are shown
 pub record IsShown (table : Bool) (bytes text : List ℕ) : Type 0 where

@@ -3,7 +3,7 @@
 ghost use Rattle.std.specs.Prelude.{◌≡◌, IfOk};
 ghost use Rattle.module_check.specs.Checking.{shown, refused_text, IsChecked};
 
-use module_reading::{ModuleFault, ModuleKind, kind_word, read_module};
+use module_reading::{ModuleFault, ModuleKind, read_module};
 use osi_base::{NoMemory, Octets};
 use std::alloc::Global;
 use stub_tables::Tables;
@@ -40,7 +40,7 @@ pub fn refused_text(
     text.put(" ")?;
     text.put_number(column)?;
     text.put(" ")?;
-    text.put(kind_word(kind))?;
+    text.put(kind.word())?;
     text.end_line()?;
     Ok(text.into_octets())
 }

@@ -21,7 +21,7 @@ use Rattle.module_reading.specs.declared.fault.ModuleKind.TheVariants as kinds
 use Rattle.module_reading.specs.declared.fault.ModuleFault.{ModuleFault}
 use Rattle.module_reading.specs.declared.fault.ModuleFault.TheVariants as faults
 use Rattle.module_reading.proofs.Few.{assignments_few}
-use Rattle.module_reading.specs.Laws.{HasFault as HasFaultAt}
+use Rattle.module_reading.specs.Laws.{AreFaulty}
 use Rattle.module_reading.specs.Modules.{is_table_file, HasTables, IsRefused, IsFaultless}
 
 pub tables_faultless : (octets : List ℕ) (tables : Tables) → HasTables octets tables → IsFaultless octets
@@ -54,10 +54,10 @@ texts_have_tables text is (inr h) =
     let t = has_tables read (reads_well text read reads) (assignments_few text read reads) h.1.2 in
     (t.0, inr (is, record { read = read; reads = h.1.1; has = t.1 }))
 
-pub modules_have_either : (text : List ℕ) (read : ModuleText) → is_table_file text ≡ false → module_of text ≡ Ok read → ((tables : Tables) × HasTables text tables) ⊎ HasFaultAt text
+pub modules_have_either : (text : List ℕ) (read : ModuleText) → is_table_file text ≡ false → module_of text ≡ Ok read → ((tables : Tables) × HasTables text tables) ⊎ AreFaulty text
 modules_have_either text read is e = by_module (fault_or_none read)
   where
-    by_module : HasNoFault read ⊎ HasLeastFault read → ((tables : Tables) × HasTables text tables) ⊎ HasFaultAt text
+    by_module : HasNoFault read ⊎ HasLeastFault read → ((tables : Tables) × HasTables text tables) ⊎ AreFaulty text
     by_module (inl none) = inl (texts_have_tables text is (inr (is, (read, e, none))))
     by_module (inr least) = inr (record { line = least.line; column = least.column; kind = kinds.Table least.kind; is = (is, read, e, least.is) })
 

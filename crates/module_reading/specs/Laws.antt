@@ -35,7 +35,7 @@ abbrev pub FaultlessTextsHaveTables : Type 0
 FaultlessTextsHaveTables = (text : List ℕ) → is_table_file text ≡ false → IsFaultless text → (tables : Tables) × HasTables text tables
 
 -- These octets are refused for some fault.
-pub record HasFault (octets : List ℕ) : Type 0 where
+pub record AreFaulty (octets : List ℕ) : Type 0 where
   pub line : ℕ
   pub column : ℕ
   pub kind : ModuleKind
@@ -43,4 +43,4 @@ pub record HasFault (octets : List ℕ) : Type 0 where
 
 -- A text that reads as a module has tables or a fault: one of the two always.
 abbrev pub ModulesHaveEither : Type 0
-ModulesHaveEither = (text : List ℕ) (read : ModuleText) → is_table_file text ≡ false → module_of text ≡ Ok read → ((tables : Tables) × HasTables text tables) ⊎ HasFault text
+ModulesHaveEither = (text : List ℕ) (read : ModuleText) → is_table_file text ≡ false → module_of text ≡ Ok read → ((tables : Tables) × HasTables text tables) ⊎ AreFaulty text

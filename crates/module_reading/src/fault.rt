@@ -1,8 +1,5 @@
 //! Why octets are no module, or a module has no tables.
 
-ghost use Rattle.std.specs.Prelude.{◌≡◌};
-ghost use Rattle.module_reading.specs.Words.{kind_word};
-
 use module_compiler::TableKind;
 use notation_tokens::{NotationKind, RefusedAt};
 use osi_base::{Kind, NoMemory};
@@ -21,14 +18,30 @@ pub enum ModuleKind {
     File(Kind),
 }
 
+impl ModuleKind {
+    ghost use Rattle.std.specs.Prelude.{◌≡◌};
+    ghost use Rattle.module_reading.specs.Words.{module_kind_word};
+
+    /// The name of the kind, as the program tells it.
+    pub fn word(self) -> &'static str
+        ensures { result.now ≡ module_kind_word self }
+    {
+        match self {
+            ModuleKind::Notation(kind) => kind.word(),
+            ModuleKind::Table(kind) => kind.word(),
+            ModuleKind::File(kind) => kind.word(),
+        }
+    }
+}
+
 impl fmt::Display for ModuleKind {
     ghost use Rattle.std.specs.Prelude.{Some};
-    ghost use Rattle.module_reading.specs.Words.{kind_word};
+    ghost use Rattle.module_reading.specs.Words.{module_kind_word};
 
-    ghost output = { λ kind. Some (kind_word kind) };
+    ghost output = { λ kind. Some (module_kind_word kind) };
 
     fn fmt<W: fmt::Write>(&self, f: &mut fmt::Formatter<W>) -> fmt::Result {
-        f.write_str(kind_word(*self))
+        f.write_str(self.word())
     }
 }
 
@@ -58,7 +71,7 @@ impl fmt::Display for ModuleFault {
     fn fmt<W: fmt::Write>(&self, f: &mut fmt::Formatter<W>) -> fmt::Result {
         match self {
             ModuleFault::At { line, column, kind } => {
-                let (line, column, word) = (*line, *column, kind_word(*kind));
+                let (line, column, word) = (*line, *column, kind.word());
                 fmt::Display::fmt(&RefusedAt { line, column, word }, f)
             }
             ModuleFault::NoMemory => fmt::Display::fmt(&NoMemory, f),
@@ -67,14 +80,3 @@ impl fmt::Display for ModuleFault {
 }
 
 impl Error for ModuleFault {}
-
-/// The name of a kind of fault.
-pub fn kind_word(kind: ModuleKind) -> &'static str
-    ensures { result.now ≡ kind_word kind }
-{
-    match kind {
-        ModuleKind::Notation(kind) => kind.word(),
-        ModuleKind::Table(kind) => kind.word(),
-        ModuleKind::File(kind) => kind.word(),
-    }
-}

@@ -5,6 +5,6 @@ mod fault;
 mod laws;
 mod reading;
 
-pub use fault::{ModuleFault, ModuleKind, kind_word};
+pub use fault::{ModuleFault, ModuleKind};
 pub use laws::{faultless_modules, one_fault, one_tables, tables_or_fault};
 pub use reading::read_module;

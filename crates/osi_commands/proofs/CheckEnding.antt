@@ -14,7 +14,7 @@ use Rattle.module_check.specs.declared.checking.Checked.TheVariants.{Shown, Refu
 use Rattle.osi_commands.specs.declared.answers.Answer.{Answer}
 use Rattle.osi_commands.specs.Answers.{Closes}
 use Rattle.osi_commands.specs.Reading.{WasRead}
-use Rattle.osi_commands.specs.Causes.{IsUnread, IsRefusedModule, HasNoTables, HasNoFault}
+use Rattle.osi_commands.specs.Causes.{IsUnread, IsRefusedModule, HasNoTables, HasNoRefusal}
 use Rattle.osi_commands.specs.Checking.{checked_answer, Checks, unread, read, IsShownDone, IsCheckDue, CheckEnds}
 use Rattle.osi_commands.proofs.Endings.{is_answers, whole_of, unless_of, unless_one_of}
 use Rattle.module_reading.proofs.TablesOrFault.{tables_or_fault}
@@ -114,14 +114,14 @@ module _ (map : FileMap) (old new : ℕ) (check : Check) (calm : IsCalm old new)
       let R : List ℕ → Type 0 = λ o. IsRefused o (faults.At line column kind) in
       status_as answer is.written is.answer_is ∙ refused_if_faulty octets line column kind (subst R (sym (same_read map old new check.«module» octets given w h)) faulty) is.written is.is
 
-  shown_if_none : (octets : List ℕ) → HasNoFault octets → (written : Checked) → IsChecked check.table octets written → (checked_answer written).status ≡ Done
+  shown_if_none : (octets : List ℕ) → HasNoRefusal octets → (written : Checked) → IsChecked check.table octets written → (checked_answer written).status ≡ Done
   shown_if_none octets none (Shown text) is = refl
   shown_if_none octets none (Refused text) is = absurd (none is.line is.column is.kind is.refused)
 
-  no_fault_due : (given : List ℕ) → map check.«module» ≡ Some given → HasNoFault given → (answer : Answer) → Checks (Some map) old new check answer → answer.status ≡ Done
+  no_fault_due : (given : List ℕ) → map check.«module» ≡ Some given → HasNoRefusal given → (answer : Answer) → Checks (Some map) old new check answer → answer.status ≡ Done
   no_fault_due given h none _ (unread w) = never_lacks map old new check.«module» given calm w h
   no_fault_due given h none answer (read octets _ w is) =
-      let P : List ℕ → Type 0 = λ o. HasNoFault o in
+      let P : List ℕ → Type 0 = λ o. HasNoRefusal o in
       status_as answer is.written is.answer_is ∙ shown_if_none octets (subst P (sym (same_read map old new check.«module» octets given w h)) none) is.written is.is
 
   tables_due : (given : List ℕ) (tables : Tables) → map check.«module» ≡ Some given → HasTables given tables → (answer : Answer) → Checks (Some map) old new check answer → answer.status ≡ Done

@@ -1,10 +1,11 @@
 -- What the program answers: a status, and the text that it writes.
-use Rattle.std.specs.Prelude.{ℕ, ◌≡◌, ◌⊎◌, Bool, true, false, List, ◌++◌, Option, codes, decimal}
+use Rattle.std.specs.Prelude.{ℕ, ◌≡◌, ◌⊎◌, Bool, true, false, List, ◌++◌, Option, codes}
 use Rattle.osi_base.specs.Outside.{FaultsRose, grown, GrewPart}
 use Rattle.osi_base.specs.declared.layer_words.Status.{Status}
 use Rattle.osi_base.specs.declared.layer_words.Status.TheVariants.{Done, Usage, ReadFault, WriteFault, ModuleRefused, ScriptRefused, NoMemory}
 use Rattle.script_lines.specs.declared.fault.ScriptKind.{ScriptKind}
-use Rattle.script_lines.specs.Printed.{script_kind_word}
+use Rattle.script_lines.specs.Printed.{script_fault_text}
+use Rattle.script_lines.specs.declared.fault.ScriptFault.TheVariants as faults
 use Rattle.transcript_text.specs.Texts.{line}
 use Rattle.module_reading.specs.declared.fault.ModuleKind.{ModuleKind}
 use Rattle.module_check.specs.Checking.{refused_text}
@@ -25,9 +26,9 @@ unread_answer name = record { status = ReadFault; text = line (codes "cannot rea
 abbrev pub module_answer : ℕ → ℕ → ModuleKind → Answer
 module_answer number column kind = record { status = ModuleRefused; text = refused_text number column kind }
 
--- the schedule breaks its grammar at this line
+-- the schedule or the recording breaks its grammar at this line
 abbrev pub script_answer : ℕ → ScriptKind → Answer
-script_answer number kind = record { status = ScriptRefused; text = line (codes "script refused " ++ decimal number ++ codes " " ++ script_kind_word kind) }
+script_answer number kind = record { status = ScriptRefused; text = line (script_fault_text (faults.At number kind)) }
 
 -- the work is whole
 abbrev pub done_answer : List ℕ → Answer

@@ -27,5 +27,5 @@ pub record IsRefusedModule (told : Option FileMap) (old new : ℕ) (name : List 
 abbrev pub HasNoTables : List ℕ → Type 0
 HasNoTables text = (tables : Tables) → HasTables text tables → ⊥
 
-abbrev pub HasNoFault : List ℕ → Type 0
-HasNoFault text = (line column : ℕ) (kind : ModuleKind) → IsRefused text (faults.At line column kind) → ⊥
+abbrev pub HasNoRefusal : List ℕ → Type 0
+HasNoRefusal text = (line column : ℕ) (kind : ModuleKind) → IsRefused text (faults.At line column kind) → ⊥

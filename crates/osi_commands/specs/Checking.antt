@@ -14,7 +14,7 @@ use Rattle.module_check.specs.declared.checking.Checked.TheVariants.{Shown, Refu
 use Rattle.osi_commands.specs.declared.answers.Answer.{Answer}
 use Rattle.osi_commands.specs.Answers.{unread_answer, done_answer, IsUnless}
 use Rattle.osi_commands.specs.Reading.{WasRead}
-use Rattle.osi_commands.specs.Causes.{IsUnread, IsRefusedModule, HasNoTables, HasNoFault}
+use Rattle.osi_commands.specs.Causes.{IsUnread, IsRefusedModule, HasNoTables, HasNoRefusal}
 
 -- ---- the whole of it
 
@@ -56,7 +56,7 @@ pub record IsCheckDue (map : FileMap) (check : Check) (sink_old sink_new : ℕ) 
   pub fault : (octets : List ℕ) (line column : ℕ) (kind : ModuleKind) → map check.«module» ≡ Some octets → IsRefused octets (faults.At line column kind)
       → IsUnless sink_old sink_new ModuleRefused status
   pub no_tables : (octets : List ℕ) → map check.«module» ≡ Some octets → HasNoTables octets → IsUnless sink_old sink_new ModuleRefused status
-  pub no_fault : (octets : List ℕ) → map check.«module» ≡ Some octets → HasNoFault octets → IsUnless sink_old sink_new Done status
+  pub no_fault : (octets : List ℕ) → map check.«module» ≡ Some octets → HasNoRefusal octets → IsUnless sink_old sink_new Done status
   pub there : (octets : List ℕ) → map check.«module» ≡ Some octets → IsUnless sink_old sink_new Done status ⊎ IsUnless sink_old sink_new ModuleRefused status
 
 -- ---- all of it

@@ -139,22 +139,31 @@ enum Asked {
     Fails(&'static str, FileFault),
 }
 
-/// Each file is read as it should be.
-fn go(rt: &impl Abort, alloc: Global, files: &mut impl Files, rows: &[Asked]) {
-    for (place, row) in rows.iter().enumerate() {
+/// Each file is read as it should be: what a row shows, and the row.
+fn go(rt: &impl Abort, alloc: Global, files: &mut impl Files, rows: &[(&'static str, Asked)]) {
+    for (shows, row) in rows.iter() {
         let is_so = match row {
             Asked::Gives(title, contents) => gives(rt, alloc, files, title, contents.as_bytes()),
             Asked::Fails(title, why) => fault(rt, alloc, files, title) == Some(*why),
         };
-        assert!(rt; is_so, "row {place}");
+        assert!(rt; is_so, "{shows}");
     }
 }
 
-const FAILING: [Asked; 4] = [
-    Asked::Gives("one", "first"),
-    Asked::Fails("one", FileFault::Failed),
-    Asked::Fails("one", FileFault::Failed),
-    Asked::Fails("on", FileFault::Missing),
+const FAILING: [(&'static str, Asked); 4] = [
+    ("a call that doesn't fail", Asked::Gives("one", "first")),
+    (
+        "the first that is to fail",
+        Asked::Fails("one", FileFault::Failed),
+    ),
+    (
+        "the second that is to fail",
+        Asked::Fails("one", FileFault::Failed),
+    ),
+    (
+        "a name with no file",
+        Asked::Fails("on", FileFault::Missing),
+    ),
 ];
 
 #[test]
@@ -169,9 +178,12 @@ fn files_in_memory_are_found_by_name_and_fail_where_they_are_to(rt: HostRuntime)
     assert!(rt; asked == 4);
 }
 
-const SURE: [Asked; 2] = [
-    Asked::Gives("one", "first"),
-    Asked::Fails("on", FileFault::Missing),
+const SURE: [(&'static str, Asked); 2] = [
+    ("a name with a file", Asked::Gives("one", "first")),
+    (
+        "a name with no file",
+        Asked::Fails("on", FileFault::Missing),
+    ),
 ];
 
 #[test]

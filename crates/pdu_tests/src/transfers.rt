@@ -243,24 +243,28 @@ fn zeros(rt: &impl Abort, alloc: Global, count: usize) -> Octets {
     Octets::from_vec(vec![in alloc; 0_u8; count].expect(rt, "memory"))
 }
 
-/// The invocation that stores 2,975 octets (X.882 9), on context 5. A transfer of it is a data
-/// value with its context (X.226 8.4.2).
-fn stored(rt: &impl Abort, alloc: Global) -> Pdv {
+/// The invocation that stores 2,975 octets (X.882 9).
+fn invocation(rt: &impl Abort, alloc: Global) -> Octets {
     let front = "A1 82 0B A9 02 01 01 02 01 02 04 82 0B 9F";
     let mut octets = octets_of(alloc, front).expect(rt, "memory");
     let zeros = zeros(rt, alloc, 2_975);
     octets.extend(zeros.as_slice()).expect(rt, "memory");
+    octets
+}
+
+/// That invocation on context 5. A transfer of it is a data value with its context (X.226 8.4.2).
+fn stored(rt: &impl Abort, alloc: Global) -> Pdv {
     Pdv {
         transfer: None,
         id: 5,
-        content: PdvContent::SingleAsn1Type(octets),
+        content: PdvContent::SingleAsn1Type(invocation(rt, alloc)),
     }
 }
 
-/// Whether this is that invocation, by its context and length.
-fn is_stored(pdv: &Pdv) -> bool {
+/// Whether this is a value of context 5 with these octets.
+fn has_octets(pdv: &Pdv, octets: &[u8]) -> bool {
     match &pdv.content {
-        PdvContent::SingleAsn1Type(value) => pdv.id == 5 && value.len() == 2_989,
+        PdvContent::SingleAsn1Type(value) => pdv.id == 5 && value.as_slice() == octets,
         _ => false,
     }
 }
@@ -283,9 +287,10 @@ fn transfer_begins(rt: &impl Abort, alloc: Global, count: usize, front: &str) ->
 /// Whether that transfer is read back as it was written.
 fn transfer_is_read(rt: &impl Abort, alloc: Global) -> bool {
     let octets = transfer(rt, alloc);
+    let expected = invocation(rt, alloc);
     let read = read_transfer(alloc, octets.as_slice());
     let so = match &read {
-        Ok(pdv) => is_stored(pdv),
+        Ok(pdv) => has_octets(pdv, expected.as_slice()),
         Err(_) => false,
     };
     drop(read);

@@ -38,7 +38,8 @@ pub fn window_is_full()
         × (highest (pieces_of place.two.a.sending.current) ≡ 2)) }
 {}
 
-/// A transfer with two marks: the invocation is told once, and both ends are told nothing else.
+/// A transfer with two marks: A is told the opening and the transfer, B the opening and the
+/// invocation, and neither is told anything else.
 pub fn transfer_is_whole()
     ensures whole { Leads calc_common transferred (λ place.
         (place.told_a ≡ indications.Opened ∷ indications.Transferred 1 ∷ [])

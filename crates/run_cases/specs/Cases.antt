@@ -77,7 +77,7 @@ played_on mode play (event ∷ events) = played_on mode (after_event mode play e
 abbrev pub world_of : Mode → List Event → World
 world_of mode events = (played_on mode (record { world = []; to_a = []; to_b = [] }) events).world
 
--- what B read of what A sent: all of it, each under its pair at the sending
+-- what an end read of what the other sent: all of it, each under its pair at the sending
 abbrev pub all_read : List PairedMessage → List (Option PairedMessage)
 all_read all = map Some all
 

@@ -76,7 +76,7 @@ fn events_fit(events: &[Event])
 }
 
 /// Does nothing. Its contract says that the calls among events are calls as their types have them:
-/// the names of proposed contexts are object identifiers whose arcs have 32 bits (X.660 7.6), and a
+/// the names of proposed contexts are object identifiers (X.660 7.6) whose arcs have 32 bits, and a
 /// priority has 32 bits.
 #[tactic(auto, using(crate::proofs::Fitted::events_of))]
 pub fn events_are_calls(events: &Events)
@@ -87,7 +87,7 @@ pub fn events_are_calls(events: &Events)
 
 /// Does nothing. Its contract says that a configuration which no end refuses is one of an end of
 /// its mode: its selectors and, in reliable mode, its references are octets, and the names of its
-/// contexts are object identifiers whose arcs have 32 bits (X.660 7.6).
+/// contexts are object identifiers (X.660 7.6) whose arcs have 32 bits.
 #[tactic(auto, using(crate::proofs::Fitted::end_of))]
 pub fn config_is_of_end(config: &Config)
     ensures { config_refusal config.now ≡ None → IsEndIn config.now.mode config.now }

@@ -25,7 +25,8 @@ pub enum ScriptKind {
     TooMany,
     /// A line of the setup after an event.
     OutOfOrder,
-    /// A line of the setup that the setup so far doesn't allow.
+    /// A line of the setup that isn't allowed: by those before it, by its mode, or by what an end
+    /// refuses of its configuration.
     BadSetup,
 }
 

@@ -45,7 +45,7 @@ impl<'a> Model for Lines<'a> {
 }
 
 impl<'a> Lines<'a> {
-    /// The lines of this text.
+    /// The lines of this text, which has less than 2^31 octets: so each has a number of 32 bits.
     pub fn new(text: &'a [u8]) -> Lines<'a>
         requires { length text.now < 2 ^ 31 }
         ensures { result ≡ record { number = 1; lines = lines_of text.now } }
@@ -63,7 +63,7 @@ impl<'a> Lines<'a> {
         self.number
     }
 
-    /// The next line.
+    /// The next line; `None` behind the last one.
     pub fn next(&mut self) -> Option<&'a [u8]>
         ensures none { MatchOption result (self.old.lines ≡ [])
             (λ line. self.old.lines ≡ line.now ∷ self.new.lines) }

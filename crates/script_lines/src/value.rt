@@ -94,8 +94,9 @@ fn used_found<'a>(
 }
 
 /// The value of an argument or parameter, if one stands next, and what follows it: by its type, and
-/// none where the use has no type or may lack it; else a `BadValue`, or a `BadField` where the rest
-/// of the line isn't UTF-8. With `links` the word `linked` may follow in its place.
+/// none where the use has no type or may lack it; else a `BadValue`. A `BadField` where no space and
+/// no end of the line follows the value, or where the rest of the line isn't UTF-8. With `links` the
+/// word `linked` may follow in its place.
 #[tactic(auto, unfolding(crate::specs::Values::used_at))]
 pub fn used_value<'a>(
     alloc: Global,
@@ -153,7 +154,8 @@ fn result_found<'a>(
 }
 
 /// The value of a result, if one stands next, and what follows it: by this type, and where there is
-/// none or it isn't of it by its form; else a `BadValue`.
+/// none or it isn't of it by its form; else a `BadValue`. A `BadField` where no space and no end of
+/// the line follows the value, or where the rest of the line isn't UTF-8.
 #[tactic(auto, unfolding(crate::specs::Values::result_at))]
 pub fn value_of_result<'a>(
     alloc: Global,

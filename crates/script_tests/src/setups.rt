@@ -3,6 +3,7 @@
 
 use crate::refusals::{all_modes, calc};
 use dialogue::Mode;
+use osi_base::{Oids, Proposal, Syntax};
 use schedule_text::{Schedule, Setup, read_schedule};
 use std::alloc::Global;
 use std::process::Abort;
@@ -15,6 +16,30 @@ fn read(rt: &impl Abort, alloc: Global, text: &str) -> Schedule {
     read.expect(rt, "the schedule is read")
 }
 
+/// Whether these are the names of these transfer syntaxes, in this order.
+fn are(names: &Oids, syntaxes: &[Syntax]) -> bool {
+    if names.len() != syntaxes.len() {
+        return false;
+    }
+    for (place, name) in names.as_slice().iter().enumerate() {
+        if Syntax::from_name(name.arcs()) != syntaxes.get(place).copied() {
+            return false;
+        }
+    }
+    true
+}
+
+/// Whether a context with this identifier and these transfer syntaxes is proposed.
+fn proposes(proposal: Option<&Proposal>, id: u32, syntaxes: &[Syntax]) -> bool {
+    match proposal {
+        Some(proposal) => proposal.id == id && are(&proposal.transfers, syntaxes),
+        None => false,
+    }
+}
+
+/// All three syntaxes, in the order in which an end accepts them where no line says any.
+const ALL_SYNTAXES: [Syntax; 3] = [Syntax::Ber, Syntax::Der, Syntax::Packed];
+
 /// Direct mode, and what an end says of itself where no line does.
 fn check_direct(rt: &impl Abort, setup: &Setup) {
     assert!(rt; setup.a.mode == Mode::Direct);
@@ -26,10 +51,14 @@ fn check_direct(rt: &impl Abort, setup: &Setup) {
 
 /// The contexts and syntaxes of direct mode where no line says any.
 fn check_contexts(rt: &impl Abort, setup: &Setup) {
-    assert!(rt; setup.a.contexts.len() == 1, "context 5 in BER");
+    assert!(rt; setup.a.contexts.len() == 1, "one context");
+    assert!(rt;
+        proposes(setup.a.contexts.get(0), 5, &[Syntax::Ber]),
+        "context 5 in BER"
+    );
     assert!(rt; setup.b.contexts.len() == 0, "a responder proposes none");
-    assert!(rt; setup.a.accepts.len() == 3, "all three syntaxes");
-    assert!(rt; setup.b.accepts.len() == 3, "all three syntaxes");
+    assert!(rt; are(&setup.a.accepts, &ALL_SYNTAXES), "all three syntaxes");
+    assert!(rt; are(&setup.b.accepts, &ALL_SYNTAXES), "all three syntaxes");
 }
 
 #[test]
@@ -66,8 +95,10 @@ fn check_reliable(rt: &impl Abort, setup: &Setup) {
     assert!(rt; setup.b.checkpoint == 1);
     assert!(rt; setup.a.window == 2);
     assert!(rt; setup.a.contexts.len() == 2);
-    assert!(rt; setup.a.accepts.len() == 3);
-    assert!(rt; setup.b.accepts.len() == 1);
+    assert!(rt; proposes(setup.a.contexts.get(0), 5, &[Syntax::Ber, Syntax::Der]));
+    assert!(rt; proposes(setup.a.contexts.get(1), 7, &[Syntax::Packed]));
+    assert!(rt; are(&setup.a.accepts, &ALL_SYNTAXES));
+    assert!(rt; are(&setup.b.accepts, &[Syntax::Ber]));
 }
 
 #[test]

@@ -1,3 +1,2 @@
-pub mod Fitting
 pub mod Carried
 pub mod Typed

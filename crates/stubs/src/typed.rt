@@ -1,7 +1,7 @@
 //! Values that fit what carries them.
 
 ghost use Rattle.std.specs.Prelude.{◌≡◌, IsTrue};
-ghost use Rattle.stubs.specs.Fitting.{fits_use};
+ghost use Rattle.stub_tables.specs.Uses.{is_carried};
 
 use asn1_types::{TypeTable, Val};
 use std::error::Error;
@@ -14,7 +14,7 @@ pub struct TypedVal<'t> {
     pub(crate) types: &'t TypeTable,
     pub(crate) carried: Use,
     pub(crate) value: Option<Val>,
-    ghost fit: { IsTrue (fits_use types.now carried value) },
+    ghost fit: { IsTrue (is_carried types.now carried value) },
 }
 
 /// A value, or its lack, that doesn't fit, given back.
@@ -40,7 +40,7 @@ impl<'t> TypedVal<'t> {
     /// The value, or its lack.
     pub fn value(&self) -> &Option<Val>
         ensures value { result.now ≡ self.now.value }
-        ensures fits { IsTrue (fits_use self.now.types.now self.now.carried self.now.value) }
+        ensures fits { IsTrue (is_carried self.now.types.now self.now.carried self.now.value) }
     {
         &self.value
     }

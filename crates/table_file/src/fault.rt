@@ -15,7 +15,12 @@ pub enum LoadFault {
     /// What stands at this place, counted in octets from 0: `Content` where a field or a row breaks
     /// its rule, `Missing` where the octets end too early, `Extra` where they go on after the value
     /// or past the limit.
-    At { place: usize, kind: Kind },
+    At {
+        /// The place in octets, counted from 0.
+        place: usize,
+        /// What is wrong there.
+        kind: Kind,
+    },
     /// An allocation was refused.
     NoMemory,
 }

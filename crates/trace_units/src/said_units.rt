@@ -18,7 +18,8 @@ use stub_tables::Tables;
 use trace_values::{put_pdvs, split_first};
 use value_text::Text;
 
-/// With what messages are read: the tables of a module, and those of the upper layers' units.
+/// What a trace knows as it reads messages: the tables of a module, whose names it tells, and those
+/// of the upper layers' units.
 #[derive(Drop)]
 pub struct Viewer<'t> {
     /// The allocator with which texts are made.
@@ -30,7 +31,11 @@ pub struct Viewer<'t> {
 }
 
 impl<'t> Viewer<'t> {
-    /// With the names of this module.
+    /// A viewer that tells the names of this module.
+    ///
+    /// # Errors
+    ///
+    /// Where memory is refused.
     pub fn new(alloc: Global, tables: &'t Tables) -> Result<Viewer<'t>, NoMemory>
         ensures { IfOk result (λ viewer. viewer.tables.now ≡ tables.entry.now) }
     {

@@ -14,7 +14,7 @@ use Rattle.stub_tables.specs.Lookup.{operation_at, error_at}
 use Rattle.dialogue.specs.declared.call.Call.{Call}
 use Rattle.dialogue.specs.declared.call.Call.TheVariants as calls
 use Rattle.dialogue.specs.declared.call.CallRefusal.{CallRefusal}
-use Rattle.dialogue.specs.declared.call.CallRefusal.TheVariants as refusals
+use Rattle.dialogue.specs.Printed.{call_refusal_text}
 use Rattle.dialogue.specs.declared.event.Event.{Event}
 use Rattle.dialogue.specs.declared.event.Event.TheVariants as events
 use Rattle.value_text.specs.Values.{oid_text}
@@ -109,47 +109,7 @@ event_text tables o events.Break = codes "break"
 
 -- ---- answers
 
--- a refusal by its name, with the number that it carries
-abbrev pub refusal_text : CallRefusal → List ℕ
-refusal_text refusals.Dead = codes "Dead"
-refusal_text refusals.NotInitiator = codes "NotInitiator"
-refusal_text (refusals.WrongPhase phase) = codes "WrongPhase"
-refusal_text refusals.NotNegotiated = codes "NotNegotiated"
-refusal_text refusals.Waiting = codes "Waiting"
-refusal_text refusals.UnknownOperation = codes "UnknownOperation"
-refusal_text (refusals.Absent id) = codes "Absent " ++ decimal id
-refusal_text refusals.AlterPending = codes "AlterPending"
-refusal_text (refusals.ParentClosed id) = codes "ParentClosed " ++ signed_decimal id
-refusal_text (refusals.LinkNotAllowed id) = codes "LinkNotAllowed " ++ signed_decimal id
-refusal_text refusals.NotTyped = codes "NotTyped"
-refusal_text refusals.TooLong = codes "TooLong"
-refusal_text refusals.TooManyOpen = codes "TooManyOpen"
-refusal_text refusals.NumbersSpent = codes "NumbersSpent"
-refusal_text refusals.QueueFull = codes "QueueFull"
-refusal_text (refusals.NoInvocation id) = codes "NoInvocation " ++ signed_decimal id
-refusal_text refusals.NotAllowed = codes "NotAllowed"
-refusal_text refusals.NoContext = codes "NoContext"
-refusal_text refusals.UnknownError = codes "UnknownError"
-refusal_text refusals.NoTurn = codes "NoTurn"
-refusal_text (refusals.Ending n) = codes "Ending " ++ decimal n
-refusal_text refusals.BadProposal = codes "BadProposal"
-refusal_text (refusals.WrongParity id) = codes "WrongParity " ++ decimal id
-refusal_text (refusals.Named id) = codes "Named " ++ decimal id
-refusal_text (refusals.Present id) = codes "Present " ++ decimal id
-refusal_text (refusals.Fixed id) = codes "Fixed " ++ decimal id
-refusal_text (refusals.InUse id) = codes "InUse " ++ decimal id
-refusal_text refusals.SetFull = codes "SetFull"
-refusal_text refusals.MarksFull = codes "MarksFull"
-refusal_text (refusals.ActivityOpen n) = codes "ActivityOpen " ++ decimal n
-refusal_text refusals.HasTurn = codes "HasTurn"
-refusal_text (refusals.NoSuchMark n) = codes "NoSuchMark " ++ decimal n
-refusal_text refusals.NoActivity = codes "NoActivity"
-refusal_text refusals.NotSuspended = codes "NotSuspended"
-refusal_text (refusals.QueueWaiting n) = codes "QueueWaiting " ++ decimal n
-refusal_text (refusals.OpenInvocations n) = codes "OpenInvocations " ++ decimal n
-refusal_text refusals.NoMemory = codes "NoMemory"
-
 abbrev pub answer_text : Result (Option ℤ) CallRefusal → List ℕ
 answer_text (Ok None) = codes "ok"
 answer_text (Ok (Some id)) = codes "ok " ++ signed_decimal id
-answer_text (Err refusal) = codes "refused " ++ refusal_text refusal
+answer_text (Err refusal) = codes "refused " ++ call_refusal_text refusal

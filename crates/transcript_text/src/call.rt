@@ -2,7 +2,8 @@
 
 ghost use Rattle.std.specs.Prelude.{◌≡◌, ◌++◌, ◌∷◌, ◌<◌, ℕ, [], List, OnOk, decimal, flat_map, slice_get, codes};
 ghost use Rattle.std.specs.Fmt.{signed_decimal};
-ghost use Rattle.transcript_text.specs.Calls.{operation_name, error_name, linked_field, syntax_text, syntax_field, as_field, addition_text, number_field, deletions_text, call_text, amount_text, carry_text, event_text, refusal_text, answer_text};
+ghost use Rattle.transcript_text.specs.Calls.{operation_name, error_name, linked_field, syntax_text, syntax_field, as_field, addition_text, number_field, deletions_text, call_text, amount_text, carry_text, event_text, answer_text};
+ghost use Rattle.dialogue.specs.Printed.{call_refusal_text};
 ghost use Rattle.script_lines.specs.Invoked.{result_type};
 ghost use Rattle.transcript_text.specs.Typed.{field_by, argument_type, parameter_type};
 ghost use Rattle.transcript_text.specs.Words.{side_word};
@@ -272,46 +273,12 @@ fn put_identified(text: &mut Text, name: &str, id: i64) -> Result<(), NoMemory>
 
 /// A refusal by its name, with the number that it carries.
 fn put_refusal(text: &mut Text, refusal: CallRefusal) -> Result<(), NoMemory>
-    ensures { OnOk result (text.new ≡ text.old ++ refusal_text refusal) }
+    ensures { OnOk result (text.new ≡ text.old ++ call_refusal_text refusal) }
 {
-    match refusal {
-        CallRefusal::Dead => text.put("Dead"),
-        CallRefusal::NotInitiator => text.put("NotInitiator"),
-        CallRefusal::WrongPhase(_) => text.put("WrongPhase"),
-        CallRefusal::NotNegotiated => text.put("NotNegotiated"),
-        CallRefusal::Waiting => text.put("Waiting"),
-        CallRefusal::UnknownOperation => text.put("UnknownOperation"),
-        CallRefusal::Absent(id) => put_named(text, "Absent ", id),
-        CallRefusal::AlterPending => text.put("AlterPending"),
-        CallRefusal::ParentClosed(id) => put_identified(text, "ParentClosed ", id),
-        CallRefusal::LinkNotAllowed(id) => put_identified(text, "LinkNotAllowed ", id),
-        CallRefusal::NotTyped => text.put("NotTyped"),
-        CallRefusal::TooLong => text.put("TooLong"),
-        CallRefusal::TooManyOpen => text.put("TooManyOpen"),
-        CallRefusal::NumbersSpent => text.put("NumbersSpent"),
-        CallRefusal::QueueFull => text.put("QueueFull"),
-        CallRefusal::NoInvocation(id) => put_identified(text, "NoInvocation ", id),
-        CallRefusal::NotAllowed => text.put("NotAllowed"),
-        CallRefusal::NoContext => text.put("NoContext"),
-        CallRefusal::UnknownError => text.put("UnknownError"),
-        CallRefusal::NoTurn => text.put("NoTurn"),
-        CallRefusal::Ending(n) => put_named(text, "Ending ", n),
-        CallRefusal::BadProposal => text.put("BadProposal"),
-        CallRefusal::WrongParity(id) => put_named(text, "WrongParity ", id),
-        CallRefusal::Named(id) => put_named(text, "Named ", id),
-        CallRefusal::Present(id) => put_named(text, "Present ", id),
-        CallRefusal::Fixed(id) => put_named(text, "Fixed ", id),
-        CallRefusal::InUse(id) => put_named(text, "InUse ", id),
-        CallRefusal::SetFull => text.put("SetFull"),
-        CallRefusal::MarksFull => text.put("MarksFull"),
-        CallRefusal::ActivityOpen(n) => put_named(text, "ActivityOpen ", n),
-        CallRefusal::HasTurn => text.put("HasTurn"),
-        CallRefusal::NoSuchMark(n) => put_named(text, "NoSuchMark ", n),
-        CallRefusal::NoActivity => text.put("NoActivity"),
-        CallRefusal::NotSuspended => text.put("NotSuspended"),
-        CallRefusal::QueueWaiting(n) => put_named(text, "QueueWaiting ", n),
-        CallRefusal::OpenInvocations(n) => put_named(text, "OpenInvocations ", n),
-        CallRefusal::NoMemory => text.put("NoMemory"),
+    text.put(refusal.word())?;
+    match refusal.number() {
+        None => Ok(()),
+        Some(number) => put_identified(text, " ", number),
     }
 }
 
